@@ -77,7 +77,7 @@ enum {
     DADO_EMPTY_PATTERN = 20,      /* a stream or a replacer, by an automaton that has an empty pattern */
     DADO_NO_STREAM = 21,          /* the stream is NULL: never made, or freed */
     DADO_FINISHED = 22,           /* a push to a stream or a replacer that was finished */
-    DADO_TOO_MANY_BYTES = 23,     /* more bytes were pushed to a stream or a replacer than there are places */
+    DADO_TOO_MANY_BYTES = 23,     /* more bytes than there are places: pushed to a stream or a replacer, or in a replaced text */
     DADO_NO_REPLACER = 24         /* the replacer is NULL: never made, or freed */
 };
 
@@ -491,12 +491,13 @@ DADO_INLINE dado_status dado_overlapping_some(const dado_automaton *ac, const ui
  * The haystack with each match of its walk replaced by the replacement of its pattern, to the caller's buffer. `replacements` has one
  * for each pattern. The length of the text is written to `*needed`.
  *
- * DADO_OK: the text is the first `*needed` bytes of `out`. DADO_TOO_SHORT: `room` is less than `*needed`. DADO_NO_AUTOMATON;
- * DADO_BAD_ARGUMENT: `needed`, or an array that isn't empty, is NULL; DADO_WRONG_COUNT: `count` isn't the number of patterns;
- * DADO_NOT_UNANCHORED: the automaton was built for anchored searches alone; DADO_NO_MEMORY. At all but the first two `*needed` is 0.
- * `out` changes at DADO_OK alone, and there not after the text.
+ * DADO_OK: the text is the first `*needed` bytes of `out`. DADO_TOO_SHORT: `room` is less than `*needed`. DADO_TOO_MANY_BYTES: the text
+ * has more bytes than a size_t can say, so no buffer holds it. DADO_NO_AUTOMATON; DADO_BAD_ARGUMENT: `needed`, or an array that isn't
+ * empty, is NULL; DADO_WRONG_COUNT: `count` isn't the number of patterns; DADO_NOT_UNANCHORED: the automaton was built for anchored
+ * searches alone. At all but the first two `*needed` is 0. `out` changes at DADO_OK alone, and there not after the text.
  *
- * Takes memory for the text during the call, which is freed when it returns. Any number of threads at the same time.
+ * Searches the haystack for the length, and again to write the text if there is room for it. Takes no memory. To ask for the length
+ * alone, pass NULL and 0. dado_replace searches once, and takes memory. Any number of threads at the same time.
  */
 DADO_INLINE dado_status dado_replace_into(const dado_automaton *ac, const uint8_t *haystack, size_t len, const dado_bytes *replacements,
                                      size_t count, uint8_t *out, size_t room, size_t *needed) {
@@ -520,8 +521,8 @@ DADO_INLINE void dado_text_free(dado_text *text) {
 
 /*
  * The same text, in memory of the library, to `*text`: DADO_NO_TEXT, or a text of an earlier call, which is freed first. It belongs
- * to the caller until dado_text_free. The statuses are those of dado_replace_into without DADO_TOO_SHORT; on any but DADO_OK `*text` is
- * DADO_NO_TEXT. Takes memory. Any number of threads at the same time.
+ * to the caller until dado_text_free. The statuses are those of dado_replace_into, but DADO_NO_MEMORY in place of DADO_TOO_SHORT and
+ * DADO_TOO_MANY_BYTES; on any but DADO_OK `*text` is DADO_NO_TEXT. Takes memory. Any number of threads at the same time.
  */
 DADO_INLINE dado_status dado_replace(const dado_automaton *ac, const uint8_t *haystack, size_t len, const dado_bytes *replacements,
                                 size_t count, dado_text *text) {

@@ -1,5 +1,7 @@
 /* Every call, with each of its statuses. Expected values are those of the definitions, written by hand. */
+#define _DEFAULT_SOURCE /* for MAP_ANONYMOUS */
 #include "check.h"
+#include <sys/mman.h>
 
 static const dado_bytes FOX[] = {WORD("fox"), WORD("brown"), WORD("quick")};
 static const dado_bytes SLOTH[] = {WORD("sloth"), WORD("grey"), WORD("slow")};
@@ -8,7 +10,7 @@ static const char TEXT[] = "The quick brown fox.";
 
 static void statuses_have_texts(void) {
     dado_status status;
-    for (status = DADO_OK; status <= DADO_TOO_MANY_BYTES; status++) {
+    for (status = DADO_OK; status <= DADO_NO_REPLACER; status++) {
         CHECK(dado_error_text(status) != NULL);
         CHECK(strcmp(dado_error_text(status), "unknown status") != 0);
     }
@@ -342,6 +344,32 @@ static void replacements(void) {
     dado_free(&ac);
 }
 
+/* A text of the greatest length that a size_t says, and one of a byte more. Their replacements are 64 TiB of addresses, and never read. */
+static void longest_texts(void) {
+    static const dado_bytes letters[] = {WORD("a"), WORD("b")};
+    static uint8_t text[1 << 18];
+    const size_t huge = (size_t)1 << 46;
+    void *pages = mmap(NULL, huge, PROT_READ, MAP_PRIVATE | MAP_ANONYMOUS | MAP_NORESERVE, -1, 0);
+    dado_bytes replacements[2];
+    dado_automaton *ac = NULL;
+    uint8_t out[1] = {'#'};
+    size_t needed = 7;
+    if (pages == MAP_FAILED) {
+        printf("calls: the longest texts are left out: there are no 64 TiB of addresses\n");
+        return;
+    }
+    replacements[0].at = (const uint8_t *)pages, replacements[0].len = huge;
+    replacements[1].at = (const uint8_t *)pages, replacements[1].len = huge - 1;
+    CHECK(dado_build(letters, 2, NULL, &ac, NULL) == DADO_OK);
+    memset(text, 'a', sizeof text);
+    CHECK(dado_replace_into(ac, text, sizeof text, replacements, 2, out, 1, &needed) == DADO_TOO_MANY_BYTES && needed == 0);
+    text[sizeof text - 1] = 'b';
+    CHECK(dado_replace_into(ac, text, sizeof text, replacements, 2, out, 1, &needed) == DADO_TOO_SHORT && needed == SIZE_MAX);
+    CHECK(out[0] == '#');
+    dado_free(&ac);
+    munmap(pages, huge);
+}
+
 static void lengths(void) {
     static const size_t expected[] = {6, 9, 3};
     dado_automaton *ac = NULL;
@@ -370,6 +398,7 @@ int main(void) {
     rubbish();
     listings();
     replacements();
+    longest_texts();
     lengths();
     return done("calls");
 }

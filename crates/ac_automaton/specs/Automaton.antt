@@ -9,7 +9,7 @@ use Rattle.ac_input.specs.Best.{IsBest, asked_kind}
 use Rattle.ac_input.specs.Candidate.{Filter}
 use Rattle.ac_input.specs.Computed.{walk_of, listing_of}
 use Rattle.ac_input.specs.Dictionary.{Dictionary, IsLive, live_len}
-use Rattle.ac_input.specs.Input.{Asked, is_anchored, search_in}
+use Rattle.ac_input.specs.Input.{Asked, is_anchored, search_of}
 use Rattle.ac_input.specs.Occurrence.{Search, Occurrence}
 use Rattle.ac_input.specs.Work.{HasCounted, IsFindWork, IsLookups, come_at_least}
 use Rattle.ac_automaton.specs.declared.automaton.Advance.{Advance}
@@ -22,7 +22,7 @@ pub record Built : Type 0 where
   pub deterministic : Bool
   pub prefilter : Option Filter
 
--- its prefilter was made for its own dictionary
+-- an automaton's prefilter, if it has one, was made for its own dictionary
 abbrev pub OwnsPrefilter : Built → Type 0
 OwnsPrefilter b = (f : Filter) → b.prefilter ≡ Some f → f.dictionary ≡ b.dictionary
 
@@ -36,15 +36,15 @@ IsReached Reaches sid = ∥ ((text : List ℕ) × Reaches text sid) ∥₁
 abbrev pub IsState : (Anchored → List ℕ → StateID → Type 0) → StateID → Type 0
 IsState Reaches sid = ∥ ((anchored : Anchored) × (text : List ℕ) × Reaches anchored text sid) ∥₁
 
--- this holds of each text by which the state is reached, from each start
+-- a property holds of every start and text by which the state is reached
 abbrev pub AtEach : (Anchored → List ℕ → StateID → Type 0) → StateID → (Anchored → List ℕ → Type 0) → Type 0
 AtEach Reaches sid P = (anchored : Anchored) (text : List ℕ) → Reaches anchored text sid → P anchored text
 
--- whatever was read before, these bytes lead from the one state to the other
+-- these bytes lead from one state to another, whatever text led to the first
 abbrev pub Leads : (List ℕ → StateID → Type 0) → StateID → List ℕ → StateID → Type 0
 Leads Reaches from bytes to = (text : List ℕ) → Reaches text from → Reaches (text ++ bytes) to
 
--- what it may cost to read these bytes on from a state
+-- what it may cost to read these bytes from a state
 abbrev pub IsReadCost : Built → (Anchored → List ℕ → StateID → Type 0) → Anchored → StateID → List ℕ → Steps → Steps → Type 0
 IsReadCost b Reaches anchored sid bytes old new =
     (text : List ℕ) (before after : Option ℕ) → Reaches anchored text sid
@@ -60,18 +60,18 @@ IsDead b anchored text = IsLive b.dictionary (is_anchored anchored) text None
 abbrev pub TellsDead : Built → Bool → Anchored → List ℕ → Type 0
 TellsDead b dead anchored text = IsTrue dead ↔ IsDead b anchored text
 
--- at a start that matches nothing none of the bytes read is live any more
+-- at a start where no pattern matches, none of the bytes read is live
 abbrev pub StartIsEmpty : Built → List ℕ → Bool → Anchored → List ℕ → Type 0
 StartIsEmpty b matches start anchored text = IsTrue start → matches ≡ [] → IsLive b.dictionary (is_anchored anchored) text (Some (length text))
 
--- What `is_start` says about a text: a start is not dead, and one that matches nothing has nothing live; and where nothing is live
--- of what was read, the state is a start.
+-- What the result of `is_start` means for a text. A start isn't dead, and has no live byte if no pattern matches there. A state
+-- whose text has no live byte is a start.
 pub record StartTells (b : Built) (matches : List ℕ) (start : Bool) (anchored : Anchored) (text : List ℕ) : Type 0 where
   pub alive : IsTrue start → ¬ IsDead b anchored text
   pub empty : StartIsEmpty b matches start anchored text
   pub back : IsLive b.dictionary (is_anchored anchored) text (Some (length text)) → IsTrue start
 
--- the same for each text by which the state is reached
+-- the result of `is_start` is right for every start and text by which the state is reached
 abbrev pub TellsStart : Built → (Anchored → List ℕ → StateID → Type 0) → (StateID → List ℕ) → StateID → Bool → Type 0
 TellsStart b Reaches matches sid start = AtEach Reaches sid (StartTells b (matches sid) start)
 
@@ -84,7 +84,7 @@ IsSpecial b matches start anchored text = IsDead b anchored text ⊎ (matches �
 abbrev pub PassesPlain : (List ℕ → StateID → Type 0) → (StateID → Bool) → StateID → List ℕ → ℕ → Type 0
 PassesPlain Reaches special sid bytes taken = (at : ℕ) → 0 < at → at < taken → (mid : StateID) × Leads Reaches sid (take at bytes) mid × ¬ IsTrue (special mid)
 
--- The result of reading on over bytes: it stops at the first state that is special, or after the last byte.
+-- Reading on over bytes stops at the first special state, or after the last byte.
 pub record Advances (Reaches : List ℕ → StateID → Type 0) (special : StateID → Bool) (sid : StateID) (bytes : List ℕ) (stop : Advance) : Type 0 where
   pub taken : (stop.taken ≤ length bytes) × (0 < length bytes → 0 < stop.taken)
   pub reads : Leads Reaches sid (take stop.taken bytes) stop.sid
@@ -100,25 +100,21 @@ has_some (n ∷ ns) = true
 abbrev pub is_matching : (StateID → List ℕ) → StateID → Bool
 is_matching matches sid = has_some (matches sid)
 
--- the same, where it stops at the first state that matches
+-- reading on over bytes stops at the first state where a pattern matches, or after the last byte
 abbrev pub AdvancesToMatch : (List ℕ → StateID → Type 0) → (StateID → List ℕ) → StateID → List ℕ → Advance → Type 0
 AdvancesToMatch Reaches matches sid bytes stop = Advances Reaches (is_matching matches) sid bytes stop
 
 -- ---- searches
 
--- why a search of this anchoring is an error if there is no start for it
+-- the error of a search whose anchoring has no start
 abbrev pub refusal_of : Anchored → MatchErrorKind
 refusal_of No = InvalidInputUnanchored
 refusal_of Yes = InvalidInputAnchored
 
--- a search returns an error: there is no start for its anchoring
-abbrev pub IsStartRefusal : (Anchored → Type 0) → Anchored → MatchErrorKind → Type 0
-IsStartRefusal supports anchored error = ¬ supports anchored × (error ≡ refusal_of anchored)
-
--- the result is the start of this anchoring, if there is one
+-- the result is the start for this anchoring, or an error if there is none
 abbrev pub AnswersStart : (Anchored → Type 0) → (Anchored → List ℕ → StateID → Type 0) → Anchored → Result StateID MatchErrorKind → Type 0
 AnswersStart supports Reaches anchored (Ok sid) = supports anchored × Reaches anchored [] sid
-AnswersStart supports Reaches anchored (Err error) = IsStartRefusal supports anchored error
+AnswersStart supports Reaches anchored (Err error) = (¬ supports anchored × (error ≡ refusal_of anchored))
 
 -- the kind of match that a search uses
 abbrev pub kind_asked : Built → Asked → MatchKind
@@ -126,7 +122,7 @@ kind_asked b asked = asked_kind b.dictionary.kind asked.earliest
 
 -- the search that an input describes
 abbrev pub searched : Built → Asked → Search
-searched b asked = search_in b.dictionary asked
+searched b asked = search_of b.dictionary asked.anchored asked.haystack asked.span
 
 -- the match that a find returns
 abbrev pub IsFound : Built → Asked → Option Occurrence → Type 0
@@ -137,17 +133,17 @@ abbrev pub prefilter_for : Built → Anchored → Option Filter
 prefilter_for b No = b.prefilter
 prefilter_for b Yes = None
 
--- what it may cost, and what it counts at least: each byte that it passes
+-- what a find may cost, and the least that it counts: each byte that it passes
 pub record IsFindCost (b : Built) (asked : Asked) (before after : Steps) (r : Option Occurrence) : Type 0 where
   pub work : IsFindWork (kind_asked b asked) b.deterministic (searched b asked) r before after
   pub counted : HasCounted (prefilter_for b asked.anchored) (come_at_least (searched b asked) r - asked.span.start) before after
 
--- the result is the match of the search, if it has one, provided that there is a start for it
-abbrev pub AnswersFind : Built → (Anchored → Type 0) → Asked → Result (Option Occurrence) MatchErrorKind → Type 0
-AnswersFind b supports asked (Ok r) = supports asked.anchored × IsFound b asked r
-AnswersFind b supports asked (Err error) = IsStartRefusal supports asked.anchored error
+-- the result is the match that the search finds, if any, or an error if its anchoring has no start
+abbrev pub AnswersFind : Dictionary → (Anchored → Type 0) → Asked → Result (Option Occurrence) MatchErrorKind → Type 0
+AnswersFind m supports asked (Ok r) = supports asked.anchored × IsBest (asked_kind m.kind asked.earliest) (search_of m asked.anchored asked.haystack asked.span) r
+AnswersFind m supports asked (Err error) = (¬ supports asked.anchored × (error ≡ refusal_of asked.anchored))
 
--- what that may cost; nothing if the search is an error
+-- what a find may cost; an error costs nothing
 abbrev pub CostsFind : Built → Asked → Steps → Steps → Result (Option Occurrence) MatchErrorKind → Type 0
 CostsFind b asked before after (Ok r) = IsFindCost b asked before after r
 CostsFind b asked before after (Err error) = after ≡ before

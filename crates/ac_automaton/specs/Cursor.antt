@@ -14,11 +14,11 @@ use Rattle.ac_input.specs.Work.{IsLookups}
 use Rattle.ac_automaton.specs.Automaton.{Built, searched}
 use Rattle.ac_automaton.specs.declared.cursor.Cursor.{Cursor}
 
--- the text that a search has read where it stands at a place
+-- the bytes that a search has read when it stands at a place
 abbrev pub read_to : Search → ℕ → List ℕ
 read_to s at = slice_range s.haystack s.start at
 
--- the search from the place on where the walk began that reached a state
+-- the search, starting where the walk of a cursor began
 abbrev pub walked : Search → Cursor → Search
 walked s cursor = starting_at s cursor.from
 
@@ -35,7 +35,7 @@ pub record IsQuiet (m : Dictionary) (anchored : Anchored) (text : List ℕ) : Ty
   pub nothing : Tells m anchored text []
   pub alive : (from : ℕ) × IsLive m (is_anchored anchored) text (Some from)
 
--- A cursor went further on: no match was met on the way, and this is what was looked at.
+-- A cursor read on: no state on the way matched or was dead, and this is what the looks cost.
 pub record HasReadOn (b : Built) (anchored : Anchored) (s : Search) (from to : Cursor) (before after : Steps) : Type 0 where
   pub further : from.at < to.at
   pub quiet : (at : ℕ) → from.at < at → at < to.at → IsQuiet b.dictionary anchored (read_to (walked s from) at)
@@ -44,11 +44,11 @@ pub record HasReadOn (b : Built) (anchored : Anchored) (s : Search) (from to : C
       → IsLive b.dictionary (is_anchored anchored) (read_to (walked s from) to.at) live_after
       → IsLookups b.deterministic (to.at - from.at) (live_len (read_to (walked s from) from.at) live) (live_len (read_to (walked s from) to.at) live_after) before after
 
--- Whether an entry counts, for a state that was reached by this many bytes: from the anchored start only entries that are as long.
+-- Whether an entry counts at a state that was reached by this many bytes. From the anchored start only patterns of that length do.
 abbrev pub counts : Dictionary → Bool → ℕ → ℕ → Bool
 counts m anchored read n = not anchored || (length (get_or m.patterns n []) == read)
 
--- those entries of a list
+-- the entries of a list that count
 abbrev pub counted : Dictionary → Bool → ℕ → List ℕ → List ℕ
 counted m anchored read ns = filter (counts m anchored read) ns
 
@@ -60,13 +60,13 @@ IsFirstAt m at ns o = Some o ≡ option_map (ending_at m at) (slice_get ns 0)
 abbrev pub taken : Dictionary → Anchored → ℕ → ℕ → List ℕ → Option Occurrence
 taken m anchored at bytes ns = option_map (ending_at m at) (slice_get (counted m (is_anchored anchored) bytes ns) 0)
 
--- ---- the same, for the search of an input
+-- ---- for the search of an input
 
 -- the state was reached by bytes of the input
 abbrev pub StandsIn : Built → (Anchored → List ℕ → StateID → Type 0) → Asked → Cursor → Type 0
 StandsIn b Reaches asked cursor = IsCursor (Reaches asked.anchored) (searched b asked) cursor
 
--- the cursor went further on
+-- the cursor read on: no state on the way matched or was dead
 abbrev pub ReadsFurther : Built → Asked → Cursor → Cursor → Steps → Steps → Type 0
 ReadsFurther b asked from to before after = HasReadOn b asked.anchored (searched b asked) from to before after
 
@@ -74,10 +74,10 @@ ReadsFurther b asked from to before after = HasReadOn b asked.anchored (searched
 abbrev pub IsTaken : Built → (StateID → List ℕ) → Asked → Cursor → Option Occurrence → Type 0
 IsTaken b matches asked cursor r = r ≡ taken b.dictionary asked.anchored cursor.at (cursor.at - cursor.from) (matches cursor.sid)
 
--- the state is reached by a text that is no longer than this
+-- the state is reached by a text of at most `at` bytes
 abbrev pub IsReachedWithin : (List ℕ → StateID → Type 0) → StateID → ℕ → Type 0
 IsReachedWithin Reaches sid at = (text : List ℕ) × Reaches text sid × (length text ≤ at)
 
--- the result is the match of a state at the end of a span, by patterns that are as long as the span
+-- the result is the match of a state at the end of a span: the first pattern of its list that is as long as the span
 abbrev pub IsWholeTaken : Built → (StateID → List ℕ) → StateID → Span → Option Occurrence → Type 0
 IsWholeTaken b matches sid span r = r ≡ taken b.dictionary Yes span.end (span.end - span.start) (matches sid)

@@ -1,4 +1,4 @@
--- What the errors of a search say.
+-- The texts of the errors of searches, replacements and streams.
 use Rattle.std.specs.Prelude.{ℕ, List, Option, Some, None, codes}
 use Rattle.ac_automaton.specs.declared.error.MatchErrorKind.{MatchErrorKind}
 use Rattle.ac_automaton.specs.declared.error.MatchErrorKind.TheVariants.{InvalidInputAnchored, InvalidInputUnanchored, UnsupportedStream, UnsupportedOverlapping, UnsupportedEmpty}
@@ -20,7 +20,7 @@ abbrev pub replace_error_text : ReplaceError → List ℕ
 replace_error_text (Match error) = match_error_text error
 replace_error_text NoMemory = codes "out of memory"
 
--- the text of an error of a stream, but for those that pass on the text of a device
+-- the text of a stream error; none for an error that passes on a device's own text
 abbrev pub stream_error_text : StreamError → Option (List ℕ)
 stream_error_text (Config error) = Some (match_error_text error)
 stream_error_text (Read error) = None

@@ -8,10 +8,10 @@ use Rattle.ac_input.specs.declared.steps.Steps.{Steps}
 use Rattle.ac_input.specs.Computed.{walk_after}
 use Rattle.ac_input.specs.Input.{Asked}
 use Rattle.ac_input.specs.Occurrence.{Search, Occurrence, starting_at}
-use Rattle.ac_input.specs.Steps.{looked_of, scanned_of, moved_of, Done}
+use Rattle.ac_input.specs.Steps.{Done}
 use Rattle.ac_input.specs.Walk.{IsPick}
 use Rattle.ac_input.specs.Work.{CountsBytes, HasCounted, bytes_counted, come_at_least, lookups_per_byte, longest, shortest, over_at}
-use Rattle.ac_automaton.specs.Automaton.{Built, IsStartRefusal, kind_asked, prefilter_for, searched, walk_in}
+use Rattle.ac_automaton.specs.Automaton.{Built, kind_asked, prefilter_for, searched, walk_in, refusal_of}
 use Rattle.ac_automaton.specs.declared.error.MatchErrorKind.{MatchErrorKind}
 use Rattle.ac_automaton.specs.declared.iter.WalkPlace.{WalkPlace}
 
@@ -38,20 +38,16 @@ walk_at b first left last sums =
       asked = record left { span = record left.span { start = first } };
       at = left.span.start;
       last = last;
-      looked = looked_of sums;
-      scanned = scanned_of sums;
-      moved = moved_of sums;
+      looked = sums.looked.value;
+      scanned = sums.scanned.value;
+      moved = sums.moved.value;
     }
-
--- where a walk stands, as a plain value
-abbrev pub place_of : Walk → WalkPlace
-place_of w = record { start = w.at; last = w.last }
 
 -- a place at which a walk over the input may stand
 abbrev pub IsPlaceIn : Asked → WalkPlace → Type 0
 IsPlaceIn asked place = (place.start ≤ asked.span.end + 1) × IfSome place.last (λ end. end ≤ place.start)
 
--- a walk that goes on from a place, of which nothing is counted yet
+-- a walk that goes on from a place, with nothing counted yet
 abbrev pub walk_from_place : Built → Asked → WalkPlace → Walk
 walk_from_place b asked place = record (fresh_walk b (record asked { span = record asked.span { start = place.start } })) { last = place.last }
 
@@ -63,72 +59,72 @@ walk_kind w = kind_asked w.built w.asked
 abbrev pub left_of : Walk → List Occurrence
 left_of w = walk_after (walk_kind w) (searched w.built w.asked) w.at w.last
 
--- the result is a walk over all matches that has not begun, if there is a start for it
+-- the result is a walk over all matches that has not begun, or an error if its anchoring has no start
 abbrev pub AnswersFindIter : Built → (Anchored → Type 0) → Asked → Result Walk MatchErrorKind → Type 0
 AnswersFindIter b supports asked (Ok walk) = supports asked.anchored × (walk ≡ fresh_walk b asked) × (left_of walk ≡ walk_in b asked)
-AnswersFindIter b supports asked (Err error) = IsStartRefusal supports asked.anchored error
+AnswersFindIter b supports asked (Err error) = (¬ supports asked.anchored × (error ≡ refusal_of asked.anchored))
 
--- the result is a walk that goes on from the place, if there is a start for it
+-- the result is a walk that goes on from the place, or an error if its anchoring has no start
 abbrev pub AnswersFindIterFrom : Built → (Anchored → Type 0) → Asked → WalkPlace → Result Walk MatchErrorKind → Type 0
 AnswersFindIterFrom b supports asked place (Ok walk) = supports asked.anchored × (walk ≡ walk_from_place b asked place)
-AnswersFindIterFrom b supports asked place (Err error) = IsStartRefusal supports asked.anchored error
+AnswersFindIterFrom b supports asked place (Err error) = (¬ supports asked.anchored × (error ≡ refusal_of asked.anchored))
 
 -- a walk after its next pick: it stands at the pick's end, or past the span where there was none
 abbrev pub walk_after_pick : Walk → Option Occurrence → Walk
 walk_after_pick w None = record w { at = w.asked.span.end + 1 }
 walk_after_pick w (Some o) = record w { at = o.end; last = Some o.end }
 
--- the result is the next pick of the first walk, and the second one is the first after it
+-- the result is the first walk's next pick, and the second walk is the first one after that pick
 abbrev pub GivesPick : Walk → Option Occurrence → Walk → Type 0
 GivesPick w r v = IsPick (walk_kind w) (searched w.built w.asked) w.at w.last r × (v ≡ record (walk_after_pick w r) { looked = v.looked; scanned = v.scanned; moved = v.moved })
 
--- the second walk counts just as much more than the first as was done in between
+-- the second walk counts what the first one counts, and exactly what was done in between
 abbrev pub WalkCounts : Walk → Walk → Steps → Steps → Type 0
 WalkCounts w v before after = (states places bytes : ℕ) × Done states places bytes before after × (v.looked ≡ w.looked + states) × (v.scanned ≡ w.scanned + places) × (v.moved ≡ w.moved + bytes)
 
--- What the next pick of a walk that stands at a place may cost, where this is the pick. The looks are linear in the rest of the
--- span. Under standard they end with the pick; without an empty pattern those under a leftmost kind end at most the longest
--- pattern and one byte after its start. Scans for bytes never pass the pick.
+-- What the next pick of a walk that stands at a place may cost. The looks are linear in the rest of the span. Under standard they
+-- end with the pick. Under a leftmost kind without an empty pattern they end at most the longest pattern and one byte after its
+-- start. Scans for bytes never pass the pick.
 pub record IsPickWork (kind : MatchKind) (deterministic : Bool) (s : Search) (at : ℕ) (r : Option Occurrence) (before after : Steps) : Type 0 where
-  pub looked : looked_of after ≤ looked_of before + 2 * (lookups_per_byte deterministic * (s.end - at))
-  pub standard : kind ≡ Standard → looked_of after ≤ looked_of before + lookups_per_byte deterministic * (over_at s r - at)
-  pub leftmost : 1 ≤ shortest s.patterns → (o : Occurrence) → r ≡ Some o → looked_of after ≤ looked_of before + lookups_per_byte deterministic * (o.start + longest s.patterns + 1 - at)
-  pub scanned : scanned_of after ≤ scanned_of before + 256 * (over_at s r - at)
-  pub moved : moved_of after ≡ moved_of before
+  pub looked : after.looked.value ≤ before.looked.value + 2 * (lookups_per_byte deterministic * (s.end - at))
+  pub standard : kind ≡ Standard → after.looked.value ≤ before.looked.value + lookups_per_byte deterministic * (over_at s r - at)
+  pub leftmost : 1 ≤ shortest s.patterns → (o : Occurrence) → r ≡ Some o → after.looked.value ≤ before.looked.value + lookups_per_byte deterministic * (o.start + longest s.patterns + 1 - at)
+  pub scanned : after.scanned.value ≤ before.scanned.value + 256 * (over_at s r - at)
+  pub moved : after.moved.value ≡ before.moved.value
 
 -- what the next pick of a walk may cost; past the span nothing
 pub record IsNextWork (w : Walk) (r : Option Occurrence) (before after : Steps) : Type 0 where
   pub pick : IsPickWork (walk_kind w) w.built.deterministic (searched w.built w.asked) w.at r before after
   pub idle : w.asked.span.end < w.at → after ≡ before
 
--- what the next pick costs: it is within the work of one, and the walk counts it
+-- the next pick costs no more than one pick may, and the walk counts what it costs
 abbrev pub CostsPick : Walk → Walk → Steps → Steps → Option Occurrence → Type 0
 CostsPick w v before after r = WalkCounts w v before after × IsNextWork w r before after
 
--- how many bytes of the span lie before a walk
+-- how many bytes of the span a walk has passed
 abbrev pub passed : Walk → ℕ
 passed w = min w.at w.asked.span.end - w.asked.span.start
 
--- What a walk has cost so far. Under standard at most one look for each byte of the span that lies before it, or two if the
--- automaton is not deterministic; in scans for bytes at most 256 places for each. It never moves a byte.
+-- What a walk has cost so far. Under standard it made at most one look for each byte of the span that it has passed, or two if the
+-- automaton isn't deterministic. Under any kind it scanned at most 256 places for each of these, and moved no byte.
 pub record IsWithinBudget (w : Walk) : Type 0 where
   pub looked : walk_kind w ≡ Standard → w.looked ≤ lookups_per_byte w.built.deterministic * passed w
   pub scanned : w.scanned ≤ 256 * passed w
   pub moved : w.moved ≡ 0
 
--- Where no pattern is empty, the next pick of a walk that stands at a place counts each byte that it passes.
+-- If no pattern is empty, the next pick of a walk that stands at a place counts each byte that it passes.
 abbrev pub PickCounts : Built → Asked → ℕ → Option Occurrence → Steps → Steps → Type 0
 PickCounts b asked at r before after =
     1 ≤ shortest b.dictionary.patterns
     → HasCounted (prefilter_for b asked.anchored) (come_at_least (starting_at (searched b asked) at) r - at) before after
 
--- Where it isn't anchored either, a walk has counted each byte of the span that lies before it.
+-- If a walk isn't anchored and no pattern is empty, it has counted each byte of the span that it has passed.
 abbrev pub CountsWalk : Walk → Type 0
 CountsWalk w =
     w.asked.anchored ≡ No → 1 ≤ shortest w.built.dictionary.patterns → CountsBytes w.built.prefilter
     → passed w ≤ bytes_counted w.built.prefilter w.looked w.scanned
 
--- the next pick counts each byte that it passes, and so has the walk after it
+-- the next pick counts each byte that it passes, and the walk after it has counted each byte that it has passed
 pub record CountsPick (w v : Walk) (before after : Steps) (r : Option Occurrence) : Type 0 where
   pub pick : PickCounts w.built w.asked w.at r before after
   pub walk : CountsWalk v
@@ -144,10 +140,10 @@ pub record IsOnItsWay (w : Walk) : Type 0 where
 abbrev pub IsPickOf : Built → Asked → Option ℕ → Option Occurrence → Type 0
 IsPickOf b asked last r = IsPick (kind_asked b asked) (searched b asked) asked.span.start last r
 
--- the same input with another part left
+-- the same input, with its span starting at another place
 abbrev pub IsRestOf : Asked → Asked → Type 0
 IsRestOf asked rest = rest ≡ record asked { span = record asked.span { start = rest.span.start } }
 
--- what it may cost
+-- what the next pick of a search that stands at the start of its span may cost
 abbrev pub IsPickCost : Built → Asked → Steps → Steps → Option Occurrence → Type 0
 IsPickCost b asked before after r = IsPickWork (kind_asked b asked) b.deterministic (searched b asked) asked.span.start r before after

@@ -4,18 +4,18 @@
 -- made differs between automata; what follows from it doesn't. So an automaton proves three things of its own: for which states
 -- its numbers stand, that the list and the tests of a number are those of its state, and that one look-up is one step. The lemmas
 -- are in NamedLemmas, and those of automata that follow failures in LinkedLemmas.
-use Rattle.std.specs.Prelude.{◌≡◌, ◌≢◌, ◌↔◌, ◌⊎◌, ℕ, ◌+◌, ◌<◌, ◌≤◌, Bool, true, false, IsTrue, map, List, [], ◌∷◌, ◌++◌, length, Option, Some, None}
+use Rattle.std.specs.Prelude.{◌≡◌, ◌≢◌, ◌↔◌, ℕ, ◌+◌, ◌<◌, ◌≤◌, Bool, true, false, IsTrue, map, List, [], ◌∷◌, ◌++◌, length, Option, Some, None}
 use Rattle.ac_input.specs.declared.search.Anchored.{Anchored}
 use Rattle.ac_input.specs.declared.steps.Steps.{Steps}
 use Rattle.ac_input.specs.Dictionary.{Dictionary, BeginsEntered, IsLive}
 use Rattle.ac_input.specs.Input.{is_anchored}
-use Rattle.ac_input.specs.LiveLaws.{IsOwnInverse, canonical}
+use Rattle.ac_input.specs.Laws.LiveLaws.{IsOwnInverse, canonical}
 use Rattle.ac_input.specs.States.{LeadsTo, FailsTo}
 use Rattle.ac_input.specs.Steps.{Done}
 use Rattle.ac_input.specs.Tells.{Tells}
 use Rattle.ac_automaton.specs.Automaton.{Built, IsSpecial}
 
--- For which state each number stands, none for the dead one; and which numbers a search of either anchoring may reach.
+-- The text for which each number stands, none for the dead state; and which numbers a search of either anchoring may reach.
 pub record Naming : Type 0 where
   pub text : ℕ → Option (List ℕ)
   pub met : Bool → ℕ → Bool
@@ -25,7 +25,7 @@ pub record IsNamed (m : Dictionary) (names : Naming) (anchored : Bool) (text : L
   pub met : IsTrue (names.met anchored sid)
   pub leads : LeadsTo m anchored text (names.text sid)
 
--- by whichever naming the automaton is laid out, if a search of this anchoring may reach the number, this holds
+-- a property holds of every naming by which the automaton is laid out, if a search of this anchoring may reach the number
 abbrev pub OfNames : (Naming → Type 0) → Bool → ℕ → (Naming → Type 0) → Type 0
 OfNames Fits anchored sid P = (names : Naming) → Fits names → IsTrue (names.met anchored sid) → P names
 
@@ -42,7 +42,7 @@ abbrev pub text_len : Option (List ℕ) → ℕ
 text_len None = 0
 text_len (Some text) = length text
 
--- Some states were looked at, after this many for the same byte: in total at most two more than the bytes that were given up.
+-- At least one state was looked at, after `done` for the same byte. In total these are at most two more than the bytes given up.
 abbrev pub IsLooked : ℕ → ℕ → ℕ → Steps → Steps → Type 0
 IsLooked done bytes next before after = (looks : ℕ) × Done looks 0 0 before after × (1 ≤ looks) × (done + looks + next ≤ bytes + 2)
 
@@ -59,14 +59,10 @@ pub record IsFirst (names : Naming) (anchored : Bool) (sid : ℕ) : Type 0 where
 
 -- ---- what a search reads
 
--- a text leads to the state for which the number stands, by some naming by which the automaton is laid out
-abbrev pub IsReachedBy : Dictionary → (Naming → Type 0) → Bool → List ℕ → ℕ → Type 0
-IsReachedBy m Fits anchored text sid = ∥ ((names : Naming) × Fits names × IsNamed m names anchored text sid) ∥₁
-
--- A search reaches a number by a text: the text leads to the state for which it stands, if the automaton is laid out by some
--- naming, and its list and tests say what the definitions require.
+-- A search reaches a number by a text: the text leads to the state for which the number stands, under some naming of the automaton.
+-- The number's list and tests are those of that state.
 pub record IsReadBy (b : Built) (Fits : Naming → Type 0) (matches : ℕ → List ℕ) (starts special : ℕ → Bool) (anchored : Anchored) (text : List ℕ) (sid : ℕ) : Type 0 where
-  pub reached : IsReachedBy b.dictionary Fits (is_anchored anchored) text sid
+  pub reached : (∥ ((names : Naming) × Fits names × IsNamed b.dictionary names (is_anchored anchored) text sid) ∥₁)
   pub tells : Tells b.dictionary anchored text (matches sid)
   pub lives : (from : Option ℕ) × IsLive b.dictionary (is_anchored anchored) text from
   pub inverse : IsOwnInverse b.dictionary.pairing
@@ -78,8 +74,8 @@ pub record IsReadBy (b : Built) (Fits : Naming → Type 0) (matches : ℕ → Li
 abbrev pub nowhere : ℕ
 nowhere = 1
 
--- Where a byte leads from a number without a look at its failure: to the state that is one byte longer, or else nowhere; but from
--- the unanchored start to where the byte alone leads, and from the dead state to itself.
+-- Where a byte leads from a number without a look at its failure: to the state that is one byte longer, or else nowhere. From the
+-- unanchored start it leads where the byte alone leads, and from the dead state to itself.
 pub record IsEdgeBy (m : Dictionary) (names : Naming) (start sid byte next : ℕ) : Type 0 where
   pub dead : names.text sid ≡ None → IsTrue (names.met true next) × IsTrue (names.met false next) × (next ≢ nowhere) × (names.text next ≡ None)
   pub child : (text : List ℕ) → names.text sid ≡ Some text → BeginsEntered m (text ++ byte ∷ []) → IsTrue (names.met true next) × IsTrue (names.met false next) × (next ≢ nowhere) × (names.text next ≡ Some (text ++ canonical m.pairing byte ∷ []))
@@ -91,9 +87,8 @@ pub record IsFailureBy (m : Dictionary) (names : Naming) (sid fail : ℕ) : Type
   pub met : IsTrue (names.met false fail)
   pub fails : (text : List ℕ) → names.text sid ≡ Some text → FailsTo m text (names.text fail)
 
--- The numbers of an automaton stand for texts of canonical bytes that begin entered patterns. Among those that unanchored searches
--- reach, only the unanchored start stands for the empty text; anchored ones don't reach it. No search reaches the number of
--- nowhere.
+-- The numbers of an automaton stand for texts of canonical bytes that begin entered patterns. Of those that unanchored searches
+-- reach, only the unanchored start stands for the empty text. Anchored searches don't reach it, and no search reaches `nowhere`.
 pub record AreNumbers (m : Dictionary) (names : Naming) (start : ℕ) : Type 0 where
   pub inverse : IsOwnInverse m.pairing
   pub apart : (anchored : Bool) (sid : ℕ) → IsTrue (names.met anchored sid) → sid ≢ nowhere
@@ -101,7 +96,7 @@ pub record AreNumbers (m : Dictionary) (names : Naming) (start : ℕ) : Type 0 w
   pub only : (sid : ℕ) → IsTrue (names.met false sid) → names.text sid ≡ Some [] → sid ≡ start
   pub begin : (anchored : Bool) (sid : ℕ) (text : List ℕ) → IsTrue (names.met anchored sid) → names.text sid ≡ Some text → BeginsEntered m text × (map (canonical m.pairing) text ≡ text)
 
--- The edges and failures of an automaton are right: which number each byte leads to, and to which number each one fails.
+-- The edges and failures of an automaton are right: to which number each byte leads from a number, and to which a number fails.
 pub record AreLinked (m : Dictionary) (names : Naming) (start : ℕ) (edge : ℕ → ℕ → ℕ) (fail : ℕ → ℕ) : Type 0 where
   pub numbers : AreNumbers m names start
   pub edges : (anchored : Bool) (sid byte : ℕ) → IsTrue (names.met anchored sid) → byte < 256 → IsEdgeBy m names start sid byte (edge sid byte)

@@ -7,7 +7,7 @@ use Rattle.ac_input.specs.Steps.{Done}
 use Rattle.ac_automaton.specs.declared.starters.Starters.{Starters}
 use Rattle.ac_automaton.specs.declared.starters.Starters.TheVariants.{None, One, Two, Three, Many}
 
--- whether a byte is one of the starters; of many each may be
+-- whether a byte is a starter; if there are many, every byte counts as one
 abbrev pub is_starter : Starters → ℕ → Bool
 is_starter None byte = false
 is_starter (One a) byte = is_byte a byte
@@ -15,26 +15,22 @@ is_starter (Two a b) byte = is_byte2 a b byte
 is_starter (Three a b c) byte = is_byte3 a b c byte
 is_starter Many byte = true
 
--- what is none of them was none of them before, and isn't the byte that was added
+-- a byte that is no starter after the addition was none before, and isn't the byte that was added
 abbrev pub AddsStarter : Starters → ℕ → Starters → Type 0
 AddsStarter before added after = (byte : ℕ) → is_starter after byte ≡ false → (is_starter before byte ≡ false) × (byte ≢ added)
 
--- each byte below this one that is none of the starters is idle
+-- each byte below `limit` that is no starter is idle
 abbrev pub SkipsBelow : (ℕ → Type 0) → ℕ → Starters → Type 0
 SkipsBelow Idle limit starters = (byte : ℕ) → byte < limit → is_starter starters byte ≡ false → Idle byte
 
--- each byte that is none of the starters is idle
-abbrev pub SkipsIdle : (ℕ → Type 0) → Starters → Type 0
-SkipsIdle Idle starters = SkipsBelow Idle 256 starters
-
--- so many bytes at the front are none of the starters, and the next one, if there is one, is
+-- none of the first `len` bytes is a starter, and the next byte, if there is one, is a starter
 pub record IsIdleFront (starters : Starters) (bytes : List ℕ) (len : ℕ) : Type 0 where
   pub within : len ≤ length bytes
   pub idle : (k : ℕ) → k < len → is_starter starters (slice_index bytes k) ≡ false
   pub ends : len < length bytes → is_starter starters (slice_index bytes len) ≡ true
 
--- So many bytes at the front are passed over, each with one look: none elsewhere than in the start, and there bytes that are none
--- of the starters.
+-- The first `passed` bytes are passed over, each with one look, and none of them is a starter. In a state other than the start,
+-- none is passed.
 pub record PassesIdle (starters : Starters) (start sid : StateID) (bytes : List ℕ) (passed : ℕ) (before after : Steps) : Type 0 where
   pub within : passed ≤ length bytes
   pub at : 0 < passed → sid ≡ start

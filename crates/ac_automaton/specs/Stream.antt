@@ -1,4 +1,18 @@
 -- A search of a stream: how far it has come, what its calls do, and what it costs.
+pub mod StreamAnswer
+pub mod StreamIter
+pub mod StreamLaws
+pub mod StreamListing
+pub mod StreamListingSearch
+pub mod StreamListingWalk
+pub mod StreamOverlappingIter
+pub mod StreamPush
+pub mod StreamReplace
+pub mod StreamReplaceWith
+pub mod StreamReplacer
+pub mod StreamReplacerNext
+pub mod StreamSearch
+pub mod StreamWalk
 use Rattle.std.specs.Prelude.{◌≡◌, ◌≢◌, ◌⊎◌, ℕ, ◌+◌, ◌-◌, ◌*◌, ◌<◌, ◌≤◌, max, Bool, List, [], ◌∷◌, ◌++◌, length, drop, take, false, true, Option, None, Some, Result, Ok, Err}
 use Rattle.std.specs.List.{All, concat}
 use Rattle.ac_input.specs.declared.search.Anchored.{Anchored}
@@ -6,7 +20,7 @@ use Rattle.ac_input.specs.declared.search.Anchored.TheVariants.{No}
 use Rattle.ac_input.specs.declared.search.MatchKind.{MatchKind}
 use Rattle.ac_input.specs.declared.search.MatchKind.TheVariants.{Standard, LeftmostFirst, LeftmostLongest}
 use Rattle.ac_input.specs.declared.steps.Steps.{Steps}
-use Rattle.ac_input.specs.BeginningLaws.{IsBeginning}
+use Rattle.ac_input.specs.Laws.BeginningLaws.{IsBeginning}
 use Rattle.ac_input.specs.Computed.{walk_of}
 use Rattle.ac_input.specs.Cut.{IsCut}
 use Rattle.ac_input.specs.Dictionary.{Dictionary, IsLive, whole}
@@ -14,20 +28,19 @@ use Rattle.ac_input.specs.Occurrence.{Occurrence}
 use Rattle.ac_input.specs.Steps.{Done}
 use Rattle.ac_input.specs.Work.{longest, shortest, lookups_per_byte}
 use Rattle.ac_automaton.specs.Automaton.{Built, refusal_of}
-use Rattle.ac_automaton.specs.Buffer.{kept_for, room_for}
-use Rattle.ac_automaton.specs.Moved.{AllFit, HasGiven}
+use Rattle.ac_automaton.specs.Devices.Buffer.{room_for}
+use Rattle.ac_automaton.specs.Devices.Moved.{AllFit, HasGiven}
 use Rattle.ac_automaton.specs.Replace.{matches_in}
 use Rattle.ac_automaton.specs.declared.error.MatchErrorKind.{MatchErrorKind}
 use Rattle.ac_automaton.specs.declared.error.MatchErrorKind.TheVariants.{UnsupportedStream, UnsupportedEmpty}
 use Rattle.ac_automaton.specs.declared.error.StreamError.{StreamError}
-use Rattle.ac_automaton.specs.declared.error.StreamError.TheVariants.{Config, Read, Write, WriteZero, Memory, Position}
+use Rattle.ac_automaton.specs.declared.error.StreamError.TheVariants.{Config, Read, Memory, Position}
 use Rattle.ac_automaton.specs.declared.watched.Watched.{Watched}
 
 -- How far a search of a stream has come: its automaton; the pieces that its reads returned; whether it was told that no more
--- comes; the matches that it returned; the place of the first byte that is held, where the held bytes reach from there to the end
--- of what was read; up to which place the automaton has read; where it last began anew: at first, after a match, or where nothing
--- of what was read was live; and how many states it looked at, how many places it scanned and how many bytes it moved. Places are
--- counted from the first byte that the search read.
+-- comes; the matches that it returned; where the held bytes begin, which reach to the end of what was read; up to which place the
+-- automaton has read; where it last began anew; and how many states it looked at, places it scanned and bytes it moved. It begins
+-- anew at first, after a match, and where nothing of what was read is live. Places are counted from the first byte that was read.
 pub record StreamProgress : Type 0 where
   pub built : Built
   pub pieces : List (List ℕ)
@@ -48,21 +61,13 @@ fresh_progress b = record { built = b; pieces = []; closed = false; given = []; 
 abbrev pub read_by : StreamProgress → List ℕ
 read_by s = concat s.pieces
 
--- those of them that are held
-abbrev pub held_by : StreamProgress → List ℕ
-held_by s = drop s.from (read_by s)
-
--- all matches of what was read
-abbrev pub matches_read : StreamProgress → List Occurrence
-matches_read s = matches_in s.built (read_by s)
-
 -- how many bytes the buffer has room for
 abbrev pub room_of : Built → ℕ
-room_of b = room_for (kept_for (longest b.dictionary.patterns))
+room_of b = room_for (max (longest b.dictionary.patterns) 1)
 
 -- The place up to which everything is decided: each match not returned yet begins there or later, whatever is still read.
 abbrev pub cut_of : StreamProgress → ℕ
-cut_of s = max s.last (s.at - kept_for (longest s.built.dictionary.patterns))
+cut_of s = max s.last (s.at - max (longest s.built.dictionary.patterns) 1)
 
 -- few enough bytes that each place is a `usize`
 abbrev pub CanBeCounted : List ℕ → Type 0
@@ -71,10 +76,6 @@ CanBeCounted x = length x ≤ 18446744073709551615
 -- the automaton has read all that was read
 abbrev pub IsSearched : StreamProgress → Type 0
 IsSearched s = s.at ≡ length (read_by s)
-
--- what may follow what was read: any bytes; and none, once the search was told so
-abbrev pub MayFollow : StreamProgress → List ℕ → Type 0
-MayFollow s more = s.closed ≡ true → more ≡ []
 
 -- ---- when everything is decided
 
@@ -88,25 +89,17 @@ end_of (o ∷ (next ∷ os)) = end_of (next ∷ os)
 abbrev pub NothingIsLive : Dictionary → List ℕ → Type 0
 NothingIsLive m text = IsLive m false text (Some (length text))
 
--- however a text goes on, these are its first matches
-abbrev pub AreDecided : Dictionary → List ℕ → List Occurrence → Type 0
-AreDecided m x os = (more : List ℕ) → IsBeginning os (walk_of m.kind (whole m (x ++ more) false))
-
--- The matches that a text decides: however it goes on, they are the first ones. Under standard they are all of its own. Under a
--- leftmost kind the rest of the text after the last of them isn't dead, so what follows may still change the next one.
+-- The matches that a text decides: however it goes on, they are the first ones. Under standard they are all matches of the text.
+-- The rest of the text after the last of them isn't dead, so what follows may still change the next one.
 pub record Decides (m : Dictionary) (x : List ℕ) (os : List Occurrence) : Type 0 where
-  pub first : AreDecided m x os
+  pub first : ((more : List ℕ) → IsBeginning os (walk_of m.kind (whole m (x ++ more) false)))
   pub all : m.kind ≡ Standard → os ≡ walk_of m.kind (whole m x false)
   pub open_ : ¬ IsLive m false (drop (end_of os) x) None
 
--- all of a text is decided: nothing is live of what comes after the last match that it decides
-abbrev pub AllIsDecided : Dictionary → List ℕ → Type 0
-AllIsDecided m x = (os : List Occurrence) → Decides m x os → NothingIsLive m (drop (end_of os) x)
-
 -- After a place, a text has at most as many bytes left as the longest pattern has, or one byte; and none, if all of it is decided.
 pub record IsNear (m : Dictionary) (x : List ℕ) (place : ℕ) : Type 0 where
-  pub kept : length x ≤ place + kept_for (longest m.patterns)
-  pub all : AllIsDecided m x → length x ≤ place
+  pub kept : length x ≤ place + max (longest m.patterns) 1
+  pub all : ((os : List Occurrence) → Decides m x os → NothingIsLive m (drop (end_of os) x)) → length x ≤ place
 
 -- the front of a text up to a cut, as far as it can be written
 pub record IsFront (m : Dictionary) (output : List ℕ → List ℕ) (x text : List ℕ) : Type 0 where
@@ -121,11 +114,11 @@ pub record IsFront (m : Dictionary) (output : List ℕ → List ℕ) (x text : L
 abbrev pub CanStream : Built → (Anchored → Type 0) → Type 0
 CanStream b supports = supports No × (b.dictionary.kind ≡ Standard) × (1 ≤ shortest b.dictionary.patterns)
 
--- the same under any kind
+-- a stream can be searched under any kind: there is a start for a search that isn't anchored, and no pattern is empty
 abbrev pub CanStreamAnyKind : Built → (Anchored → Type 0) → Type 0
 CanStreamAnyKind b supports = supports No × (1 ≤ shortest b.dictionary.patterns)
 
--- why it is an error: first because there is no start, then because of the kind, then because of an empty pattern
+-- the error of a search that isn't supported: there is no start, or else the kind isn't standard, or else a pattern is empty
 abbrev pub IsConfigRefusal : Built → (Anchored → Type 0) → MatchErrorKind → Type 0
 IsConfigRefusal b supports error =
     (¬ supports No × (error ≡ refusal_of No))
@@ -142,7 +135,7 @@ IsStreamRefusal b supports other = ⊥
 
 -- Whatever is still read, the matches that were returned are the first ones, and all others begin at the cut or later.
 abbrev pub IsDecided : StreamProgress → Type 0
-IsDecided s = (more : List ℕ) → MayFollow s more → (rest : List Occurrence) × (matches_in s.built (read_by s ++ more) ≡ s.given ++ rest) × All (λ o. cut_of s ≤ o.start) rest
+IsDecided s = (more : List ℕ) → (s.closed ≡ true → more ≡ []) → (rest : List Occurrence) × (matches_in s.built (read_by s ++ more) ≡ s.given ++ rest) × All (λ o. cut_of s ≤ o.start) rest
 
 -- How many bytes may be read again after so many matches: none under standard; under a leftmost kind, after each of them, as many as
 -- the longest pattern has, and one.
@@ -151,16 +144,17 @@ again_for Standard longest matches = 0
 again_for LeftmostFirst longest matches = (longest + 1) * matches
 again_for LeftmostLongest longest matches = (longest + 1) * matches
 
--- the same of the dictionary's kind and patterns
+-- how many bytes may be read again after so many matches, by the dictionary's kind and patterns
 abbrev pub read_again : Dictionary → ℕ → ℕ
 read_again m matches = again_for m.kind (longest m.patterns) matches
 
--- for how many bytes a search has read
+-- how many bytes a search may have read, those that it read again included
 abbrev pub read_in_all : StreamProgress → ℕ
 read_in_all s = s.at + read_again s.built.dictionary (length s.given)
 
--- What a search has cost: at least one look for each byte that the automaton has read, and at most as many for a byte, amortised,
--- as its engine takes, also for those that it read again; no scan; and at most a seventh of the bytes that were read was moved.
+-- What a search has cost. It made at least one look for each byte that the automaton has read. In total it made at most one, or two
+-- if the automaton isn't deterministic, for each byte, those read again included. It scanned nothing, and moved at most a seventh
+-- of the bytes that were read.
 pub record IsWithinStreamBudget (s : StreamProgress) : Type 0 where
   pub some : s.at ≤ s.looked
   pub looked : s.looked ≤ lookups_per_byte s.built.deterministic * read_in_all s
@@ -175,7 +169,7 @@ pub record IsOnCourse (s : StreamProgress) : Type 0 where
   pub ordered : (s.last ≤ s.at) × (s.at ≤ length (read_by s))
   pub kept : (s.from ≤ cut_of s) × (s.from ≤ s.at) × (length (read_by s) ≤ s.from + room_of s.built)
   pub short : AllFit (room_of s.built) s.pieces
-  pub begun : IsBeginning s.given (matches_read s)
+  pub begun : IsBeginning s.given (matches_in s.built (read_by s))
   pub ended : end_of s.given ≤ s.last
   pub decided : IsDecided s
   pub paid : IsWithinStreamBudget s
@@ -185,9 +179,9 @@ abbrev pub AnswersNew : Built → (Anchored → Type 0) → Result StreamProgres
 AnswersNew b supports (Ok s) = CanStream b supports × (s ≡ fresh_progress b) × IsOnCourse s
 AnswersNew b supports (Err error) = IsStreamRefusal b supports error
 
--- ---- the same under any kind
+-- ---- a search under any kind
 
--- why it is an error: first because there is no start, then because of an empty pattern
+-- the error of a search under any kind that isn't supported: there is no start, or else a pattern is empty
 abbrev pub IsAnyKindConfigRefusal : Built → (Anchored → Type 0) → MatchErrorKind → Type 0
 IsAnyKindConfigRefusal b supports error = (¬ supports No × (error ≡ refusal_of No)) ⊎ (supports No × (shortest b.dictionary.patterns ≡ 0) × (error ≡ UnsupportedEmpty))
 
@@ -197,12 +191,12 @@ IsAnyKindRefusal b supports (Config error) = IsAnyKindConfigRefusal b supports e
 IsAnyKindRefusal b supports Memory = CanStreamAnyKind b supports
 IsAnyKindRefusal b supports other = ⊥
 
--- there is no memory
-abbrev pub IsMemory : StreamError → Type 0
-IsMemory Memory = Unit {0}
-IsMemory other = ⊥
+-- the error is that there is no memory
+abbrev pub IsOutOfMemory : StreamError → Type 0
+IsOutOfMemory Memory = Unit {0}
+IsOutOfMemory other = ⊥
 
--- a search of a stream was made, which has read nothing yet; or the error says why not
+-- a search of a stream under any kind was made, which has read nothing yet; or the error says why not
 abbrev pub AnswersNewAnyKind : Built → (Anchored → Type 0) → Result StreamProgress StreamError → Type 0
 AnswersNewAnyKind b supports (Ok s) = CanStreamAnyKind b supports × (s ≡ fresh_progress b) × IsOnCourse s
 AnswersNewAnyKind b supports (Err error) = IsAnyKindRefusal b supports error
@@ -215,11 +209,11 @@ may_wait Standard = false
 may_wait LeftmostFirst = true
 may_wait LeftmostLongest = true
 
--- how far a search has come that was told that no more comes; under standard that changes nothing
+-- a search after it was told that no more comes; under standard that changes nothing
 abbrev pub closed_by : StreamProgress → StreamProgress
 closed_by s = record s { closed = may_wait s.built.dictionary.kind }
 
--- as much more is counted as was done in between
+-- the search counted exactly what was done in between
 abbrev pub StreamCounts : StreamProgress → StreamProgress → Steps → Steps → Type 0
 StreamCounts s t before after = (states places bytes : ℕ) × Done states places bytes before after × (t.looked ≡ s.looked + states) × (t.scanned ≡ s.scanned + places) × (t.moved ≡ s.moved + bytes)
 
@@ -227,13 +221,13 @@ StreamCounts s t before after = (states places bytes : ℕ) × Done states place
 abbrev pub GoesOn : StreamProgress → StreamProgress → Steps → Steps → Type 0
 GoesOn s t before after = StreamCounts s t before after × IsOnCourse t
 
--- the same is counted
+-- nothing was counted in between
 pub record CountsNothing (s t : StreamProgress) : Type 0 where
   pub looked : t.looked ≡ s.looked
   pub scanned : t.scanned ≡ s.scanned
   pub moved : t.moved ≡ s.moved
 
--- everything is unchanged, except that bytes before the cut may be held no longer
+-- everything is unchanged, except that bytes before the cut may have been dropped
 pub record IsRolled (s t : StreamProgress) : Type 0 where
   pub from : (s.from ≤ t.from) × (t.from ≤ cut_of s)
   pub same : t ≡ record s { from = t.from; moved = t.moved }
@@ -256,28 +250,24 @@ pub record IsHeldMatch (s : StreamProgress) (o : Occurrence) : Type 0 where
   pub new : s.built.dictionary.kind ≡ Standard → s.at < o.end
   pub within : o.end ≤ length (read_by s)
 
--- All matches of what was read are decided: under standard each is at once, and under any kind where no more comes.
+-- All matches of what was read are decided: under standard always, under a leftmost kind once no more comes.
 abbrev pub EachIsDecided : StreamProgress → Type 0
 EachIsDecided s = (s.built.dictionary.kind ≡ Standard) ⊎ (s.closed ≡ true)
 
--- the bytes that were read, from the end of the last match that was returned
-abbrev pub after_given : StreamProgress → List ℕ
-after_given s = drop (end_of s.given) (read_by s)
-
--- All that was read was searched, and all matches that it decides were returned: all of its own, or what comes after the last one
--- isn't dead. If nothing is live of that, the search begins anew.
+-- All that was read was searched, and all matches that it decides were returned. What comes after the last of them isn't dead. If
+-- nothing of that is live, the search began anew at its end.
 pub record AreAllGiven (s : StreamProgress) : Type 0 where
   pub searched : IsSearched s
-  pub all : EachIsDecided s → s.given ≡ matches_read s
-  pub open_ : ¬ IsLive s.built.dictionary false (after_given s) None
-  pub anew : NothingIsLive s.built.dictionary (after_given s) → s.last ≡ s.at
+  pub all : EachIsDecided s → s.given ≡ matches_in s.built (read_by s)
+  pub open_ : ¬ IsLive s.built.dictionary false (drop (end_of s.given) (read_by s)) None
+  pub anew : NothingIsLive s.built.dictionary (drop (end_of s.given) (read_by s)) → s.last ≡ s.at
 
--- The next match of what was read is this one; or there is none: then, if places can be counted, all were returned.
+-- This is the next match of what was read; or there is none, and all decided ones were returned if places can be counted.
 abbrev pub FindsHeld : StreamProgress → Option Occurrence → StreamProgress → Type 0
 FindsHeld s None t = ReadsNothing s t × (t.given ≡ s.given) × (CanBeCounted (read_by s) → AreAllGiven t)
 FindsHeld s (Some o) t = ReadsNothing s t × (t.given ≡ s.given ++ o ∷ []) × (t.last ≡ o.end) × (t.at ≡ o.end) × IsHeldMatch s o × CanBeCounted (read_by s) × ¬ AreAllGiven s
 
--- One read returned a piece, which the search has after what it had; bytes before the cut may be held no longer.
+-- One read returned a piece, which the search appended to what it had read. Bytes before the cut may have been dropped.
 pub record HasRead {R : Type 0} (remaining : R → Option (List ℕ)) (s t : StreamProgress) (before after : Watched R) (piece : List ℕ) (failed : ℕ) : Type 0 where
   pub built : t.built ≡ s.built
   pub pieces : t.pieces ≡ s.pieces ++ piece ∷ []
@@ -289,8 +279,8 @@ pub record HasRead {R : Type 0} (remaining : R → Option (List ℕ)) (s t : Str
   pub short : length piece ≤ room_of s.built
   pub read : HasGiven remaining before after (piece ∷ []) failed
 
--- The result of a read: this many bytes more, none at the end; or an error, of a read that failed, or of one after which there are
--- more bytes than places.
+-- The result of a read: how many bytes it returned, none at the end; or the error of a failed read; or that there are more bytes
+-- than places.
 abbrev pub ReadsMore : {R : Type 0} → (R → Option (List ℕ)) → StreamProgress → StreamProgress → Watched R → Watched R → Result ℕ StreamError → Type 0
 ReadsMore remaining s t before after (Ok n) = (piece : List ℕ) × HasRead remaining s t before after piece 0 × (length piece ≡ n) × CanBeCounted (read_by t)
 ReadsMore remaining s t before after (Err (Read error)) = HasRead remaining s t before after [] 1

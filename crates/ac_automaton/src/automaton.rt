@@ -42,27 +42,26 @@ pub struct Advance {
 
 /// An automaton that finds patterns in a text.
 pub trait Automaton {
-    ghost use Rattle.std.specs.Prelude.{◌≡◌, ◌≢◌, ℕ, ◌<◌, ◌≤◌, ◌↔◌, Bool, false, List, [], ◌∷◌, length, map, take, IsTrue, IfOk, IfErr, OnOk, get_or, Option, slice_get, option_map};
+    ghost use Rattle.std.specs.Prelude.{◌≡◌, ◌≢◌, ℕ, ◌<◌, ◌≤◌, ◌↔◌, Bool, false, List, [], ◌∷◌, length, map, take, IsTrue, IfOk, OnOk, get_or, Option, slice_get, option_map, ◌+◌};
     ghost use Rattle.ac_input.specs.declared.search.Anchored.{Anchored};
     ghost use Rattle.ac_input.specs.Number.{StateID};
     ghost use Rattle.ac_input.specs.Input.{is_anchored};
-    ghost use Rattle.ac_input.specs.LiveLaws.{IsOwnInverse};
+    ghost use Rattle.ac_input.specs.Laws.LiveLaws.{IsOwnInverse};
     ghost use Rattle.ac_input.specs.Dictionary.{IsLive};
     ghost use Rattle.ac_input.specs.Tells.{Tells};
     ghost use Rattle.ac_input.specs.Work.{longest, shortest};
     ghost use Rattle.ac_automaton.specs.Automaton.{Built, IsReached, IsState, AtEach, Leads, IsReadCost, TellsDead, TellsStart, IsSpecial, Advances, AdvancesToMatch, OwnsPrefilter, AnswersStart, AnswersFind, CostsFind};
     ghost use Rattle.ac_automaton.specs.Ahead.{AreNotes};
-    ghost use Rattle.ac_automaton.specs.Iter.{AnswersFindIter, AnswersFindIterFrom, IsPlaceIn};
-    ghost use Rattle.ac_automaton.specs.Overlapping.{CameFrom, CountsShown, IsOverlappingCost, AnswersOverlapping, sums_of};
-    ghost use Rattle.ac_automaton.specs.OverlappingIter.{AnswersOverlappingIter, rest_of};
-    ghost use Rattle.ac_automaton.specs.Items.{AreFewMatches, AreFewForEach, MatchesAreInOrder, EachLiesWithin, FindsWithin};
+    ghost use Rattle.ac_automaton.specs.Iter.{AnswersFindIter, AnswersFindIterFrom, IsPlaceIn, left_of};
+    ghost use Rattle.ac_automaton.specs.Overlapping.{CameFrom, CountsShown, IsOverlappingCost, AnswersOverlapping};
+    ghost use Rattle.ac_automaton.specs.Overlapping.OverlappingIter.{AnswersOverlappingIter, rest_of};
+    ghost use Rattle.ac_automaton.specs.Items.{AreFewForEach, MatchesAreInOrder, EachLiesWithin, FindsWithin};
     ghost use Rattle.ac_automaton.specs.Stream.{AnswersNewAnyKind};
-    ghost use Rattle.ac_automaton.specs.StreamIter.{AnswersAnyKindIter, AnswersStreamIter};
-    ghost use Rattle.ac_automaton.specs.StreamOverlappingIter.{AnswersStreamListing};
-    ghost use Rattle.ac_automaton.specs.StreamReplace.{AcceptsReplacing, AcceptsReplacingAnyKind, CostsAnyKind, CostsStream, ReplacesStream};
-    ghost use Rattle.ac_automaton.specs.StreamReplaceWith.{ReplacesAnyKindWith, ReplacesStreamWith};
-    ghost use Rattle.ac_automaton.specs.StreamReplacer.{AnswersReplacer};
-    ghost use Rattle.ac_automaton.specs.Watched.{has_ended};
+    ghost use Rattle.ac_automaton.specs.Stream.StreamIter.{AnswersAnyKindIter, AnswersStreamIter};
+    ghost use Rattle.ac_automaton.specs.Stream.StreamOverlappingIter.{AnswersStreamListing};
+    ghost use Rattle.ac_automaton.specs.Stream.StreamReplace.{AcceptsReplacing, AcceptsReplacingAnyKind, CostsStream, ReplacesStream};
+    ghost use Rattle.ac_automaton.specs.Stream.StreamReplaceWith.{ReplacesAnyKindWith, ReplacesStreamWith};
+    ghost use Rattle.ac_automaton.specs.Stream.StreamReplacer.{AnswersReplacer};
     ghost use Rattle.ac_automaton.specs.Replace.{IsForMatches, ReplacesText, ReplacesBytes, ReplacesTextWith, ReplacesBytesWith};
 
     /// What it was built as: its patterns, pairing and kind, whether it looks at exactly one state for a byte, its prefilter.
@@ -84,12 +83,10 @@ pub trait Automaton {
     ghost special: { Self → StateID → Bool };
 
     /// The state in which a search begins. Returns an error if the automaton has no start for the anchoring.
-    /// A caller: `uses::callers::states::ends_with_any`.
     fn start_state(&self, anchored: Anchored) -> Result<StateID, MatchError>
         ensures { AnswersStart (supports self.now) (Reaches self.now) anchored result };
 
     /// The state after one more byte, where the search began with this anchoring. Counts the states that it looks at.
-    /// A caller: `uses::callers::states::next_by_one_look`.
     fn next_state_counted(
         &self,
         anchored: Anchored,
@@ -110,7 +107,6 @@ pub trait Automaton {
     /// counts exactly one for each.
     ///
     /// The provided method calls `next_state_counted` and `is_special` for each byte. An automaton with a faster way overrides it.
-    /// A caller: `uses::callers::states::next_special`.
     fn advance(&self, anchored: Anchored, sid: StateID, bytes: &[u8], steps: &mut Steps) -> Advance
         requires { IsReached (Reaches self.now anchored) sid }
         ensures goes { Advances (Reaches self.now anchored) (special self.now) sid bytes.now result }
@@ -137,7 +133,6 @@ pub trait Automaton {
     /// states. It reads at least one byte, if there is one. Its looks at states are within the bounds of `advance`.
     ///
     /// A search without a prefilter reads this way: there a start is a state like any other.
-    /// A caller: `uses::callers::states::first_end`.
     fn advance_to_match(
         &self,
         anchored: Anchored,
@@ -191,44 +186,37 @@ pub trait Automaton {
 
     /// Whether a search has more to do here than to read on: the state is dead, or matches, or is a start and there is a prefilter
     /// to run.
-    /// A caller: `uses::callers::states::next_special`.
     fn is_special(&self, sid: StateID) -> bool
         requires { IsState (Reaches self.now) sid }
         ensures { result ≡ special self.now sid };
 
     /// Whether the state is dead: no later byte can lead to a match.
-    /// A caller: `uses::callers::states::is_over`.
     fn is_dead(&self, sid: StateID) -> bool
         requires { IsState (Reaches self.now) sid }
         ensures { AtEach (Reaches self.now) sid (TellsDead (built self.now) result) };
 
     /// Whether a pattern matches at this state.
-    /// A caller: `uses::callers::states::patterns_at`.
     fn is_match(&self, sid: StateID) -> bool
         requires { IsState (Reaches self.now) sid }
         ensures { IsTrue result ↔ (matches self.now sid ≢ []) };
 
     /// Whether it is a start. Then none of the bytes read is live any more, unless the state matches.
-    /// A caller: `uses::callers::states::may_forget`.
     fn is_start(&self, sid: StateID) -> bool
         requires { IsState (Reaches self.now) sid }
         ensures value { result ≡ starts self.now sid }
         ensures tells { TellsStart (built self.now) (Reaches self.now) (matches self.now) sid result };
 
     /// The kind that it was made for.
-    /// A caller: `uses::callers::overlap::can_list`.
     fn match_kind(&self) -> MatchKind
         ensures { result ≡ (built self.now).dictionary.kind };
 
     /// How many patterns match at a state that matches.
-    /// A caller: `uses::callers::states::patterns_at`.
     fn match_len(&self, sid: StateID) -> usize
         requires valid { IsState (Reaches self.now) sid }
         requires matches { matches self.now sid ≢ [] }
         ensures { result ≡ length (matches self.now sid) };
 
     /// The pattern of this index of those that match at a state.
-    /// A caller: `uses::callers::states::patterns_at`.
     fn match_pattern(&self, sid: StateID, index: usize) -> PatternID
         requires valid { IsState (Reaches self.now) sid }
         requires within { index < length (matches self.now sid) }
@@ -236,23 +224,19 @@ pub trait Automaton {
         ensures known { result < length (built self.now).dictionary.patterns };
 
     /// How many patterns it was made from.
-    /// A caller: `uses::callers::find::numbered`.
     fn patterns_len(&self) -> usize
         ensures { result ≡ length (built self.now).dictionary.patterns };
 
     /// How many bytes the pattern has.
-    /// A caller: `uses::callers::find::match_len`.
     fn pattern_len(&self, pattern: PatternID) -> usize
         requires { pattern < length (built self.now).dictionary.patterns }
         ensures { result ≡ length (get_or (built self.now).dictionary.patterns pattern []) };
 
     /// How many bytes the shortest pattern has; `usize::MAX` where there is none.
-    /// A caller: `uses::callers::find::may_match`.
     fn min_pattern_len(&self) -> usize
         ensures { result ≡ shortest (built self.now).dictionary.patterns };
 
     /// How many bytes the longest pattern has; 0 where there is none.
-    /// A caller: `uses::callers::find::most_bytes`.
     fn max_pattern_len(&self) -> usize
         ensures { result ≡ longest (built self.now).dictionary.patterns };
 
@@ -260,7 +244,6 @@ pub trait Automaton {
     fn memory_usage(&self) -> usize;
 
     /// Its prefilter, if it has one.
-    /// A caller: `uses::callers::packed::own_skip`.
     fn prefilter(&self) -> Option<&Prefilter>
         ensures value { option_map (λ p. p.now) result ≡ (built self.now).prefilter }
         ensures made { OwnsPrefilter (built self.now) };
@@ -286,7 +269,6 @@ pub trait Automaton {
         ↔ IsSpecial (built self) (matches self sid) (starts self sid) anchored text) };
 
     /// The state after one more byte, where the search began with this anchoring.
-    /// A caller: `uses::callers::states::ends_with_any`.
     final fn next_state(&self, anchored: Anchored, sid: StateID, byte: u8) -> StateID
         requires { IsReached (Reaches self.now anchored) sid }
         ensures { Leads (Reaches self.now anchored) sid (byte ∷ []) result }
@@ -298,19 +280,17 @@ pub trait Automaton {
     /// The match of the input, if it has one: the best of the automaton's kind, or of the standard one in an earliest search.
     ///
     /// Returns an error if the automaton has no start for the input's anchoring, and for no other reason.
-    /// A caller: `uses::callers::find::first_match`.
     final fn try_find(&self, input: &Input<'_>) -> Result<Option<Match>, MatchError>
     where
         Self: Search,
-        ensures answer { AnswersFind (built self.now) (supports self.now) input.now result }
-        ensures within { FindsWithin (built self.now) input.now result }
+        ensures answer { AnswersFind (built self.now).dictionary (supports self.now) input.now result }
+        ensures within { FindsWithin (built self.now).dictionary input.now result }
     {
         let mut steps = Steps::new();
         self.try_find_counted(input, &mut steps)
     }
 
     /// The same; counts what it does.
-    /// A caller: `uses::callers::find::first_match_counted`.
     final fn try_find_counted(
         &self,
         input: &Input<'_>,
@@ -318,15 +298,14 @@ pub trait Automaton {
     ) -> Result<Option<Match>, MatchError>
     where
         Self: Search,
-        ensures answer { AnswersFind (built self.now) (supports self.now) input.now result }
-        ensures within { FindsWithin (built self.now) input.now result }
+        ensures answer { AnswersFind (built self.now).dictionary (supports self.now) input.now result }
+        ensures within { FindsWithin (built self.now).dictionary input.now result }
         ensures cost { CostsFind (built self.now) input.now steps.old steps.new result }
     {
         self.search(input, steps)
     }
 
     /// All matches of the input, one after another: see [`FindIter`]. Returns an error where `try_find` does.
-    /// Callers: `uses::callers::iterate::all_matches`; `uses::callers::plain::texts`, which needs no proof file.
     final fn try_find_iter<'a, 'h>(
         &'a self,
         input: Input<'h>,
@@ -334,7 +313,7 @@ pub trait Automaton {
     where
         Self: Sized + Search,
         ensures answer { AnswersFindIter (built self.now) (supports self.now) input.entry result }
-        ensures few { IfOk result (AreFewMatches input.entry) }
+        ensures few { IfOk result (λ w. length (left_of w) ≤ length input.entry.haystack + 1) }
         ensures lie { IfOk result (MatchesAreInOrder (built self.now) input.entry) }
     {
         iter::find_iter(self, input)
@@ -342,7 +321,6 @@ pub trait Automaton {
 
     /// The matches of the input from a place on at which a walk over it stands, as [`FindIter::place`] returned it. Returns an error
     /// where `try_find` does.
-    /// A caller: `aho_corasick::AhoCorasick::try_find_iter_from`.
     final fn try_find_iter_from<'a, 'h>(
         &'a self,
         input: Input<'h>,
@@ -357,7 +335,6 @@ pub trait Automaton {
     }
 
     /// The same matches from a place on, for many of them in a long text: see [`FindIterAhead`].
-    /// A caller: `aho_corasick::AhoCorasick::try_find_iter_ahead_from`.
     final fn try_find_iter_ahead_from<'a, 'h>(
         &'a self,
         input: Input<'h>,
@@ -372,7 +349,6 @@ pub trait Automaton {
     }
 
     /// The same matches, for many of them in a long text with hundreds of patterns and more: see [`FindIterAhead`].
-    /// A caller: `uses::callers::iterate::all_matches_ahead`.
     final fn try_find_iter_ahead<'a, 'h>(
         &'a self,
         input: Input<'h>,
@@ -380,7 +356,7 @@ pub trait Automaton {
     where
         Self: Sized + Search,
         ensures answer { AnswersFindIter (built self.now) (supports self.now) input.entry result }
-        ensures few { IfOk result (AreFewMatches input.entry) }
+        ensures few { IfOk result (λ w. length (left_of w) ≤ length input.entry.haystack + 1) }
         ensures lie { IfOk result (MatchesAreInOrder (built self.now) input.entry) }
     {
         ahead::find_iter_ahead(self, input)
@@ -392,7 +368,6 @@ pub trait Automaton {
     ///
     /// Returns an error if the automaton has no start for the input's anchoring, or isn't of the standard kind, the only one that
     /// stores every occurrence. The state is then unchanged.
-    /// A caller: `uses::callers::overlap::occurrence`.
     final fn try_find_overlapping(
         &self,
         input: &Input<'_>,
@@ -406,7 +381,7 @@ pub trait Automaton {
             input.now state.new }
         ensures answer { AnswersOverlapping (built self.now) (supports self.now) input.now
             state.old state.new result }
-        ensures cost { IsOverlappingCost (built self.now) input.now (sums_of state.new) }
+        ensures cost { IsOverlappingCost (built self.now) input.now state.new.sums }
         ensures counted { OnOk result (CountsShown (built self.now) input.now state.new) }
     {
         let mut steps = Steps::new();
@@ -416,7 +391,6 @@ pub trait Automaton {
     /// All occurrences in the input, one after another; see [`FindOverlappingIter`].
     ///
     /// Returns an error where `try_find_overlapping` does, and also if the input is anchored.
-    /// Callers: `uses::callers::overlap::all_occurrences`; `uses::callers::plain::overlapping_texts`, which needs no proof file.
     final fn try_find_overlapping_iter<'a, 'h>(
         &'a self,
         input: Input<'h>,
@@ -437,7 +411,6 @@ pub trait Automaton {
     /// Returns an error if the automaton has no start for a search that isn't anchored, isn't of the standard kind, or has an
     /// empty pattern, checked in that order, and then if there is no memory for the buffer. Nothing was read then: this call does
     /// not require [`Read`], so it can't read.
-    /// Callers: `uses::callers::stream::all_matches`; `uses::callers::plain::places_in_stream`, which needs no proof file.
     final fn try_stream_find_iter<'a, R>(
         &'a self,
         alloc: Global,
@@ -445,7 +418,7 @@ pub trait Automaton {
     ) -> Result<StreamFindIter<'a, Self, R>, StreamError>
     where
         Self: Sized + Search,
-        requires { has_ended reader.old ≡ false }
+        requires { reader.old.ended ≡ false }
         ensures { AnswersStreamIter (built self.now) (supports self.now) reader.entry result }
     {
         stream::stream_find_iter(reader, self, alloc)
@@ -460,7 +433,6 @@ pub trait Automaton {
     ///
     /// Returns an error if the automaton has no start for a search that isn't anchored, or has an empty pattern, checked in that
     /// order, and then if there is no memory for the buffer.
-    /// A caller: `uses::callers::any_kind::all_matches`.
     final fn try_stream_find_iter_any_kind<'a, R>(
         &'a self,
         alloc: Global,
@@ -468,7 +440,7 @@ pub trait Automaton {
     ) -> Result<StreamFindIter<'a, Self, R>, StreamError>
     where
         Self: Sized + Search,
-        requires { has_ended reader.old ≡ false }
+        requires { reader.old.ended ≡ false }
         ensures { AnswersAnyKindIter (built self.now) (supports self.now) reader.entry result }
     {
         stream::stream_find_iter_any_kind(reader, self, alloc)
@@ -512,7 +484,6 @@ pub trait Automaton {
     ///
     /// Returns an error if the automaton has no start for a search that isn't anchored, isn't of the standard kind, or has an empty
     /// pattern, checked in that order, and then if there is no memory for the buffer. Nothing was read then.
-    /// A caller: `uses::callers::stream_overlap::all_occurrences`.
     final fn try_stream_find_overlapping_iter<'a, R>(
         &'a self,
         alloc: Global,
@@ -520,7 +491,7 @@ pub trait Automaton {
     ) -> Result<StreamFindOverlappingIter<'a, Self, R>, StreamError>
     where
         Self: Sized + Search,
-        requires { has_ended reader.old ≡ false }
+        requires { reader.old.ended ≡ false }
         ensures { AnswersStreamListing (built self.now) (supports self.now) reader.entry result }
     {
         stream_overlapping::stream_find_overlapping_iter(reader, self, alloc)
@@ -530,7 +501,6 @@ pub trait Automaton {
     /// that begins or ends within a character is skipped: its bytes stay.
     ///
     /// Returns an error if the automaton has no start for a search that isn't anchored, and if memory runs out.
-    /// A caller: `uses::callers::replace::replaced_text`.
     final fn try_replace_all(
         &self,
         alloc: Global,
@@ -547,7 +517,6 @@ pub trait Automaton {
     }
 
     /// The same for bytes: here every match is replaced.
-    /// A caller: `uses::callers::replace::replaced_by_itself`.
     final fn try_replace_all_bytes(
         &self,
         alloc: Global,
@@ -569,7 +538,6 @@ pub trait Automaton {
     ///
     /// Returns an error where `try_replace_all` does. If memory runs out, what was appended stays. The destination grows with the
     /// allocator that it was made with.
-    /// A caller: `uses::callers::replace::append_first_replaced`.
     final fn try_replace_all_with<F>(
         &self,
         _alloc: Global,
@@ -588,7 +556,6 @@ pub trait Automaton {
     }
 
     /// The same for bytes: here the closure is called for every match.
-    /// A caller: `uses::callers::replace::append_matched`.
     final fn try_replace_all_with_bytes<F>(
         &self,
         _alloc: Global,
@@ -612,7 +579,6 @@ pub trait Automaton {
     ///
     /// Returns an error if a stream can't be searched, and if there is no memory for its two buffers; the reader and the writer
     /// are then unchanged. It allocates nothing after that. Where a read or a write fails, nothing is tried again.
-    /// A caller: `uses::callers::stream::replaced`.
     final fn try_stream_replace_all<R: Read, W: Write>(
         &self,
         alloc: Global,
@@ -622,7 +588,7 @@ pub trait Automaton {
     ) -> Result<(), StreamError>
     where
         Self: Search,
-        requires open { has_ended reader.old ≡ false }
+        requires open { reader.old.ended ≡ false }
         requires one_each { length replacements.now
             ≡ length (built self.now).dictionary.patterns }
         ensures replaced { ReplacesStream R.remaining W.contents (built self.now)
@@ -636,7 +602,6 @@ pub trait Automaton {
 
     /// The same; counts what it does. In total it looks at two states at most for each byte that it reads, and moves a seventh of
     /// the bytes at most within its buffer; if it reaches the end, it has looked at one state at least for each.
-    /// A caller: `uses::callers::stream::replaced_counted`.
     final fn try_stream_replace_all_counted<R: Read, W: Write>(
         &self,
         alloc: Global,
@@ -647,7 +612,7 @@ pub trait Automaton {
     ) -> Result<(), StreamError>
     where
         Self: Search,
-        requires open { has_ended reader.old ≡ false }
+        requires open { reader.old.ended ≡ false }
         requires one_each { length replacements.now
             ≡ length (built self.now).dictionary.patterns }
         ensures replaced { ReplacesStream R.remaining W.contents (built self.now)
@@ -666,7 +631,6 @@ pub trait Automaton {
     ///
     /// It reads, writes and fails as `try_stream_replace_all` does, but gathers nothing, so that it takes only one buffer. The
     /// closure's first error ends the call and is returned unchanged, so an error may be the closure's.
-    /// A caller: `uses::callers::stream::copied`.
     final fn try_stream_replace_all_with<R: Read, W: Write, F>(
         &self,
         alloc: Global,
@@ -677,7 +641,7 @@ pub trait Automaton {
     where
         Self: Search,
         F: FnMut(&Match, &[u8], &mut Watched<W>) -> Result<(), StreamError>,
-        requires open { has_ended reader.old ≡ false }
+        requires open { reader.old.ended ≡ false }
         requires ready { IsForMatches F.FnMut (length (built self.now).dictionary.patterns)
             replace_with }
         ensures { ReplacesStreamWith W.contents F.FnMut R.remaining (built self.now)
@@ -692,7 +656,6 @@ pub trait Automaton {
     ///
     /// Returns an error where [`try_stream_find_iter_any_kind`](Automaton::try_stream_find_iter_any_kind) does, and if there is no
     /// memory for its two buffers; the reader and the writer are then unchanged. It allocates nothing after that.
-    /// A caller: `uses::callers::any_kind::replaced`.
     final fn try_stream_replace_all_any_kind<R: Read, W: Write>(
         &self,
         alloc: Global,
@@ -702,7 +665,7 @@ pub trait Automaton {
     ) -> Result<(), StreamError>
     where
         Self: Search,
-        requires open { has_ended reader.old ≡ false }
+        requires open { reader.old.ended ≡ false }
         requires one_each { length replacements.now
             ≡ length (built self.now).dictionary.patterns }
         ensures replaced { ReplacesStream R.remaining W.contents (built self.now)
@@ -722,7 +685,6 @@ pub trait Automaton {
 
     /// The same; counts what it does. Beside what `try_stream_replace_all_counted` counts it looks again, after each match under a
     /// leftmost kind, at what it reads again.
-    /// A caller: `uses::callers::any_kind::replaced`.
     final fn try_stream_replace_all_any_kind_counted<R: Read, W: Write>(
         &self,
         alloc: Global,
@@ -733,14 +695,14 @@ pub trait Automaton {
     ) -> Result<(), StreamError>
     where
         Self: Search,
-        requires open { has_ended reader.old ≡ false }
+        requires open { reader.old.ended ≡ false }
         requires one_each { length replacements.now
             ≡ length (built self.now).dictionary.patterns }
         ensures replaced { ReplacesStream R.remaining W.contents (built self.now)
             (map (λ r. r.now) replacements.now) reader.old reader.new writer.old writer.new result }
         ensures accepted { AcceptsReplacingAnyKind (built self.now) (supports self.now)
             reader.old reader.new writer.old writer.new result }
-        ensures cost { CostsAnyKind (built self.now) reader.old reader.new
+        ensures cost { CostsStream (built self.now) reader.old reader.new
             steps.old steps.new result }
     {
         stream::replace::replace_all_any_kind_counted(
@@ -754,7 +716,6 @@ pub trait Automaton {
     }
 
     /// The same as `try_stream_replace_all_with` under any kind.
-    /// A caller: `uses::callers::any_kind::copied`.
     final fn try_stream_replace_all_any_kind_with<R: Read, W: Write, F>(
         &self,
         alloc: Global,
@@ -765,7 +726,7 @@ pub trait Automaton {
     where
         Self: Search,
         F: FnMut(&Match, &[u8], &mut Watched<W>) -> Result<(), StreamError>,
-        requires open { has_ended reader.old ≡ false }
+        requires open { reader.old.ended ≡ false }
         requires ready { IsForMatches F.FnMut (length (built self.now).dictionary.patterns)
             replace_with }
         ensures { ReplacesAnyKindWith W.contents F.FnMut R.remaining (built self.now)

@@ -5,11 +5,10 @@
 //! begin in one piece and end in another, so of the held bytes as many are kept as the longest pattern has. They are moved to the
 //! front only when no room is left after them. They are an eighth of the buffer at most, and the rest of it is read before they
 //! are moved again: so seven bytes are read for each byte that is moved. One function moves bytes, and counts them.
-ghost use Rattle.std.specs.Prelude.{◌≡◌, ◌+◌, ◌-◌, ◌≤◌, ◌<◌, ◌↔◌, false, length, min, take, IfOk, IsTrue, vec_len};
+ghost use Rattle.std.specs.Prelude.{◌≡◌, ◌+◌, ◌-◌, ◌≤◌, ◌<◌, ◌↔◌, false, length, min, take, IfOk, IsTrue, vec_len, max};
 ghost use Rattle.std.specs.List.{copy_within};
 ghost use Rattle.ac_input.specs.Steps.{Done};
-ghost use Rattle.ac_automaton.specs.Buffer.{Fills, IsRollPaid, kept_for, nothing_held, rolled, taken_into};
-ghost use Rattle.ac_automaton.specs.Watched.{has_ended};
+ghost use Rattle.ac_automaton.specs.Devices.Buffer.{Fills, IsRollPaid, nothing_held, rolled, taken_into};
 
 use crate::stream::LEAST_ROOM;
 use crate::watched::Watched;
@@ -35,7 +34,7 @@ pub(crate) struct Buffer {
 
 impl Model for Buffer {
     ghost use Rattle.std.specs.Prelude.{◌≤◌, take, vec_len};
-    ghost use Rattle.ac_automaton.specs.Buffer.{Held, IsRollPaid};
+    ghost use Rattle.ac_automaton.specs.Devices.Buffer.{Held, IsRollPaid};
 
     ghost Value = { Held };
 
@@ -60,7 +59,7 @@ impl Model for Buffer {
 impl Buffer {
     /// Allocates the memory. Nothing is held yet.
     pub fn new(alloc: Global, longest: usize) -> Result<Buffer, AllocError>
-        ensures fresh { IfOk result (λ buffer. buffer ≡ nothing_held (kept_for longest)) }
+        ensures fresh { IfOk result (λ buffer. buffer ≡ nothing_held (max longest 1)) }
         ensures paid { IfOk result IsRollPaid }
     {
         let keep = longest.max(1);
@@ -102,7 +101,7 @@ impl Buffer {
     /// Reads once, into all the free room.
     pub fn fill<R: Read>(&mut self, reader: &mut Watched<R>) -> io::Result<usize>
         requires room { length self.old.bytes < self.old.room }
-        requires open { has_ended reader.old ≡ false }
+        requires open { reader.old.ended ≡ false }
         ensures gave { Fills R.remaining self.old self.new reader.old reader.new result }
         ensures paid { IsRollPaid self.new }
     {

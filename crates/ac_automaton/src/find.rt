@@ -290,8 +290,8 @@ pub fn find<A: Automaton>(
     input: &Input<'_>,
     steps: &mut Steps,
 ) -> Result<Option<Match>, MatchError>
-    ensures answer { AnswersFind (A.built automaton.now) (A.supports automaton.now) input.now result }
-    ensures within { FindsWithin (A.built automaton.now) input.now result }
+    ensures answer { AnswersFind (A.built automaton.now).dictionary (A.supports automaton.now) input.now result }
+    ensures within { FindsWithin (A.built automaton.now).dictionary input.now result }
     ensures cost { CostsFind (A.built automaton.now) input.now steps.old steps.new result }
 {
     let anchored = input.get_anchored();

@@ -10,12 +10,12 @@
 //!
 //! Where a walk stands is two numbers, a [`WalkPlace`]. A caller who can't keep an iterator keeps the place, and goes on from there
 //! by [`find_iter_from`].
-ghost use Rattle.std.specs.Prelude.{◌≡◌, ◌↔◌, ◌≤◌, IfOk, IfSome, IsTrue};
+ghost use Rattle.std.specs.Prelude.{◌≡◌, ◌↔◌, ◌≤◌, IfOk, IfSome, IsTrue, length, ◌+◌};
 ghost use Rattle.std.specs.Iterator.{YieldsFirst, item_count};
 ghost use Rattle.ac_input.specs.Walk.{Repeats};
 ghost use Rattle.ac_automaton.specs.Automaton.{IsFound, IsFindCost};
-ghost use Rattle.ac_automaton.specs.Iter.{AnswersFindIter, AnswersFindIterFrom, GivesPick, CostsPick, left_of, place_of, IsPickOf, IsPickCost, IsPlaceIn, IsRestOf, IsOnItsWay, CountsPick, PickCounts};
-ghost use Rattle.ac_automaton.specs.Items.{AreFewMatches, MatchesAreInOrder};
+ghost use Rattle.ac_automaton.specs.Iter.{AnswersFindIter, AnswersFindIterFrom, GivesPick, CostsPick, left_of, IsPickOf, IsPickCost, IsPlaceIn, IsRestOf, IsOnItsWay, CountsPick, PickCounts};
+ghost use Rattle.ac_automaton.specs.Items.{MatchesAreInOrder};
 
 pub mod ahead;
 
@@ -30,7 +30,6 @@ use std::marker::Model;
 /// The remaining matches of an input. From [`Automaton::try_find_iter`].
 ///
 /// After its first `None` it always returns `None`, and does nothing.
-/// A caller: `uses::callers::iterate::count_matches`.
 #[derive(Drop)]
 pub struct FindIter<'a, 'h, A: Search> {
     automaton: &'a A,
@@ -94,7 +93,7 @@ pub fn find_iter<'a, 'h, A: Search>(
 ) -> Result<FindIter<'a, 'h, A>, MatchError>
     ensures answer { AnswersFindIter (A.built automaton.now) (A.supports automaton.now) input.entry
         result }
-    ensures few { IfOk result (AreFewMatches input.entry) }
+    ensures few { IfOk result (λ w. length (left_of w) ≤ length input.entry.haystack + 1) }
     ensures lie { IfOk result (MatchesAreInOrder (A.built automaton.now) input.entry) }
 {
     let start = input.start();
@@ -150,7 +149,7 @@ pub(crate) fn next_pick<A: Search>(
 impl<'a, 'h, A: Search> FindIter<'a, 'h, A> {
     /// Where the walk stands. [`find_iter_from`] goes on from there.
     pub fn place(&self) -> WalkPlace
-        ensures value { result ≡ place_of self.now }
+        ensures value { result ≡ (record { start = self.now.at; last = self.now.last }) }
         ensures within { IsPlaceIn self.now.asked result }
     {
         WalkPlace {
@@ -160,7 +159,6 @@ impl<'a, 'h, A: Search> FindIter<'a, 'h, A> {
     }
 
     /// The next match, as `next` returns it; counts what it does.
-    /// A caller: `uses::callers::iterate::pass_matches`.
     pub fn next_counted(&mut self, steps: &mut Steps) -> Option<Match>
         ensures gives { GivesPick self.old result self.new }
         ensures cost { CostsPick self.old self.new steps.old steps.new result }

@@ -1,9 +1,9 @@
 //! The laws of streams: what of a text is decided, and that it doesn't matter how it is cut into pieces.
 //!
 //! These functions do nothing. Each states one law as its contract; a caller who needs the law calls the function, at no cost.
-ghost use Rattle.ac_automaton.specs.StreamLaws.{DeathDecides};
-ghost use Rattle.ac_automaton.specs.StreamPush.{PiecesChangeNothing};
-ghost use Rattle.ac_automaton.specs.StreamReplacer.{PiecesChangeNoText};
+ghost use Rattle.ac_automaton.specs.Stream.StreamLaws.{DeathDecides};
+ghost use Rattle.ac_automaton.specs.Stream.StreamPush.{PiecesChangeNothing};
+ghost use Rattle.ac_automaton.specs.Stream.StreamReplacer.{PiecesChangeNoText};
 
 /// Death decides: where the first matches of a text are decided, and what follows the last of them is dead, the best match of that
 /// is decided too. So a search of a stream may return a match as soon as its automaton is dead.

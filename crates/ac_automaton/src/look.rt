@@ -63,7 +63,7 @@ pub trait LookUp {
     ghost use Rattle.ac_input.specs.declared.search.Anchored.{Anchored};
     ghost use Rattle.ac_input.specs.Number.{StateID};
     ghost use Rattle.ac_input.specs.Input.{is_anchored};
-    ghost use Rattle.ac_input.specs.LiveLaws.{IsOwnInverse};
+    ghost use Rattle.ac_input.specs.Laws.LiveLaws.{IsOwnInverse};
     ghost use Rattle.ac_input.specs.Dictionary.{IsLive};
     ghost use Rattle.ac_input.specs.Tells.{Tells};
     ghost use Rattle.ac_automaton.specs.Automaton.{Built, IsReached, Leads, IsReadCost};

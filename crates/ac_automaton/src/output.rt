@@ -16,8 +16,8 @@
 //! and no other error. Nothing is tried again. Of the bytes held back and sent, a front part was written then; the rest is
 //! dropped, and nothing is held back any more.
 ghost use Rattle.std.specs.Prelude.{◌≡◌, ◌+◌, ◌≤◌, [], ◌++◌, length, IfOk};
-ghost use Rattle.ac_automaton.specs.Buffer.{least_room};
-ghost use Rattle.ac_automaton.specs.Output.{Sends};
+ghost use Rattle.ac_automaton.specs.Devices.Buffer.{least_room};
+ghost use Rattle.ac_automaton.specs.Devices.Output.{Sends};
 
 use crate::error::StreamError;
 use crate::stream::LEAST_ROOM;
@@ -37,7 +37,7 @@ pub struct Output {
 
 impl Model for Output {
     ghost use Rattle.std.specs.Prelude.{◌≡◌, ℕ, ◌≤◌, List, take, vec_len};
-    ghost use Rattle.ac_automaton.specs.Buffer.{least_room};
+    ghost use Rattle.ac_automaton.specs.Devices.Buffer.{least_room};
 
     ghost Value = { List ℕ };
 
@@ -49,7 +49,6 @@ impl Model for Output {
 
 impl Output {
     /// Allocates the buffer, and holds nothing back yet.
-    /// A caller: `uses::callers::stream::joined`.
     pub fn new(alloc: Global) -> Result<Output, AllocError>
         ensures { IfOk result (λ output. output ≡ []) }
     {
@@ -59,7 +58,6 @@ impl Output {
     }
 
     /// Sends the bytes. Some of them may be held back.
-    /// A caller: `uses::callers::stream::joined`.
     #[inline(always)]
     pub fn send<W: Write>(
         &mut self,
@@ -105,7 +103,6 @@ impl Output {
     }
 
     /// Writes what is held back. If that is nothing, the writer isn't called.
-    /// A caller: `uses::callers::stream::joined`.
     pub fn send_held<W: Write>(&mut self, writer: &mut Watched<W>) -> Result<(), StreamError>
         ensures sent { Sends W.contents [] writer.old writer.new self.old self.new result }
         ensures none { self.new ≡ [] }
@@ -116,7 +113,6 @@ impl Output {
     }
 
     /// Sends the text before a match, and what is put in its place.
-    /// A caller: `uses::callers::stream::exchanged`.
     #[inline(always)]
     pub fn send_exchanged<W: Write>(
         &mut self,
@@ -152,7 +148,6 @@ impl Output {
     }
 
     /// Sends the bytes, and holds nothing back.
-    /// A caller: `uses::callers::stream::exchanged`.
     pub fn send_all<W: Write>(
         &mut self,
         writer: &mut Watched<W>,

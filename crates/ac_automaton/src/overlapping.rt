@@ -13,8 +13,8 @@
 //! from its first search on. [`FindOverlappingIter`] keeps all three together, and what it read ahead.
 ghost use Rattle.std.specs.Prelude.{◌≡◌, ⊤, None, OnOk, Some};
 ghost use Rattle.ac_input.specs.Steps.{Added};
-ghost use Rattle.ac_automaton.specs.Overlapping.{IsFreshState, CostsOverlapping, CountsShown, and_one, found_of, shown_of, sums_of};
-ghost use Rattle.ac_automaton.specs.OverlappingSearch.{AnswersCall, CameFromCalls};
+ghost use Rattle.ac_automaton.specs.Overlapping.{IsFreshState, CostsOverlapping, CountsShown, and_one};
+ghost use Rattle.ac_automaton.specs.Overlapping.OverlappingSearch.{AnswersCall, CameFromCalls};
 
 mod ahead;
 pub mod iter;
@@ -81,10 +81,9 @@ pub struct OverlappingState {
 
 impl OverlappingState {
     /// The state of a search that has not begun.
-    /// A caller: `uses::callers::overlap::occurrence`.
     pub fn start() -> OverlappingState
         ensures fresh { IsFreshState result }
-        ensures found { found_of result ≡ None }
+        ensures found { result.found ≡ None }
     {
         OverlappingState {
             place: None,
@@ -95,9 +94,8 @@ impl OverlappingState {
     }
 
     /// The match that the last search showed; none before the first, and after the last occurrence.
-    /// A caller: `uses::callers::overlap::occurrence`.
     pub fn get_match(&self) -> Option<Match>
-        ensures { result ≡ found_of self.now }
+        ensures { result ≡ self.now.found }
     {
         self.found
     }
@@ -105,9 +103,9 @@ impl OverlappingState {
     /// A call showed this, and did this much.
     fn keep(&mut self, shown: Shown, done: &Steps)
         ensures place { self.new.place ≡ Some shown.place }
-        ensures found { found_of self.new ≡ shown.found }
-        ensures shown { shown_of self.new ≡ and_one shown.found (shown_of self.old) }
-        ensures sums { Added done.now (sums_of self.old) (sums_of self.new) }
+        ensures found { self.new.found ≡ shown.found }
+        ensures shown { self.new.shown.value ≡ and_one shown.found self.old.shown.value }
+        ensures sums { Added done.now self.old.sums self.new.sums }
     {
         self.place = Some(shown.place);
         self.found = shown.found;

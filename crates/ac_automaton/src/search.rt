@@ -26,15 +26,14 @@ pub trait Search: Automaton {
     ghost use Rattle.ac_automaton.specs.Automaton.{AnswersFind, CostsFind, IsFindCost, IsFound};
     ghost use Rattle.ac_automaton.specs.FindAhead.{AreNotesOf, MayReadAhead};
     ghost use Rattle.ac_automaton.specs.Items.{FindsWithin};
-    ghost use Rattle.ac_automaton.specs.OverlappingSearch.{CountsOn, HasLeft, KeepsPaying, ShowsNextAt};
-    ghost use Rattle.ac_automaton.specs.StreamListingWalk.{ListsNext, MayList};
-    ghost use Rattle.ac_automaton.specs.StreamWalk.{MayWalk, WalksOn};
+    ghost use Rattle.ac_automaton.specs.Overlapping.OverlappingSearch.{CountsOn, HasLeft, KeepsPaying, ShowsNextAt};
+    ghost use Rattle.ac_automaton.specs.Stream.StreamListingWalk.{ListsNext, MayList};
+    ghost use Rattle.ac_automaton.specs.Stream.StreamWalk.{MayWalk, WalksOn};
 
     /// The match of the input, if it has one, as [`Automaton::try_find_counted`] returns it; counts what it does.
-    /// A caller: `uses::callers::find::found_by_search`.
     fn search(&self, input: &Input<'_>, steps: &mut Steps) -> Result<Option<Match>, MatchError>
-        ensures answer { AnswersFind (Self.built self.now) (Self.supports self.now) input.now result }
-        ensures within { FindsWithin (Self.built self.now) input.now result }
+        ensures answer { AnswersFind (Self.built self.now).dictionary (Self.supports self.now) input.now result }
+        ensures within { FindsWithin (Self.built self.now).dictionary input.now result }
         ensures cost { CostsFind (Self.built self.now) input.now steps.old steps.new result }
     {
         find::find(self, input, steps)

@@ -18,8 +18,7 @@
 ghost use Rattle.std.specs.Prelude.{◌≡◌, false};
 ghost use Rattle.std.specs.Borrow.{sem};
 ghost use Rattle.ac_automaton.specs.Stream.{FindsHeld, GoesOn};
-ghost use Rattle.ac_automaton.specs.StreamIter.{AnswersAnyKindIter, AnswersStreamIter, GivesItem, KeepsReader, RestsIfRefused, TurnGives, progress_of, reader_name, reader_of};
-ghost use Rattle.ac_automaton.specs.Watched.{has_ended};
+ghost use Rattle.ac_automaton.specs.Stream.StreamIter.{AnswersAnyKindIter, AnswersStreamIter, GivesItem, KeepsReader, RestsIfRefused, TurnGives, progress_of, reader_name, reader_of};
 
 pub mod overlapping;
 pub(crate) mod replace;
@@ -48,7 +47,6 @@ pub const LEAST_ROOM: usize = 65536;
 ///
 /// It ends, so a `for` may go over it. Its items can be one more than a `usize` counts: a match at each place, and an error. So
 /// count them in a loop, and not by `count`.
-/// A caller: `uses::callers::plain::places_in_stream`.
 #[derive(Drop)]
 pub struct StreamFindIter<'a, A: Search, R> {
     stream: StreamSearch<&'a A>,
@@ -72,13 +70,12 @@ enum Turn {
 /// The matches of a stream, one after another: as [`try_stream_find_iter`](crate::automaton::Automaton::try_stream_find_iter), but
 /// the reader is the first parameter. Call this one where your own contract speaks of the reader: it says that the reader is
 /// unchanged if the search returns an error. A contract can say what becomes of a borrowed value only for the first parameter.
-/// A caller: `uses::callers::stream::first_match`.
 pub fn stream_find_iter<'a, A: Search, R>(
     reader: &'a mut Watched<R>,
     automaton: &'a A,
     alloc: Global,
 ) -> Result<StreamFindIter<'a, A, R>, StreamError>
-    requires { has_ended reader.old ≡ false }
+    requires { reader.old.ended ≡ false }
     ensures* rests { sem 𝓛 (RestsIfRefused R.row reader.entry result) }
     ensures answer { AnswersStreamIter (A.built automaton.now) (A.supports automaton.now)
         reader.entry result }
@@ -95,7 +92,7 @@ pub fn stream_find_iter_any_kind<'a, A: Search, R>(
     automaton: &'a A,
     alloc: Global,
 ) -> Result<StreamFindIter<'a, A, R>, StreamError>
-    requires { has_ended reader.old ≡ false }
+    requires { reader.old.ended ≡ false }
     ensures* rests { sem 𝓛 (RestsIfRefused R.row reader.entry result) }
     ensures answer { AnswersAnyKindIter (A.built automaton.now) (A.supports automaton.now)
         reader.entry result }
@@ -134,7 +131,6 @@ impl<'a, A: Search, R: Read> StreamFindIter<'a, A, R> {
     ///
     /// A caller whose own contract speaks of the reader ends the search this way. If the search is dropped, the reader is the
     /// same, but no contract says so.
-    /// A caller: `uses::callers::stream::first_match`.
     pub fn into_reader(self) -> &'a mut Watched<R>
         ensures reader { result.now ≡ reader_of self.entry }
         ensures same_reference { result.ghost_name ≡ reader_name self.entry }
@@ -144,7 +140,6 @@ impl<'a, A: Search, R: Read> StreamFindIter<'a, A, R> {
 
     /// The next match among the bytes that were read, without a read; counts what it does. None means that all of them were
     /// returned.
-    /// A caller: `uses::callers::stream::pass_held`.
     pub fn next_held_counted(&mut self, steps: &mut Steps) -> Option<Match>
         ensures finds { FindsHeld (progress_of self.old) result (progress_of self.new) }
         ensures reader { KeepsReader self.old self.new }
@@ -154,7 +149,6 @@ impl<'a, A: Search, R: Read> StreamFindIter<'a, A, R> {
     }
 
     /// The next item, as `next` returns it; counts what it does.
-    /// A caller: `uses::callers::stream::all_matches`.
     pub fn next_counted(&mut self, steps: &mut Steps) -> Option<Result<Match, StreamError>>
         ensures gives { GivesItem R.remaining self.old self.new result }
         ensures goes { GoesOn (progress_of self.old) (progress_of self.new) steps.old steps.new }
@@ -174,7 +168,7 @@ impl<'a, A: Search, R: Read> StreamFindIter<'a, A, R> {
 impl<'a, A: Search, R: Read> Iterator for StreamFindIter<'a, A, R> {
     ghost use Rattle.std.specs.Iterator.{at_most};
     ghost use Rattle.ac_automaton.specs.Stream.{IsOnCourse};
-    ghost use Rattle.ac_automaton.specs.StreamIter.{GivesItem, most_left, progress_of};
+    ghost use Rattle.ac_automaton.specs.Stream.StreamIter.{GivesItem, most_left, progress_of};
 
     type Item = Result<Match, StreamError>;
 

@@ -14,7 +14,7 @@
 //! of its own.
 ghost use Rattle.std.specs.Prelude.{◌≡◌, ◌<◌, false, length};
 ghost use Rattle.std.specs.Io.KnownBytes.{Keeps};
-ghost use Rattle.ac_automaton.specs.Watched.{has_ended, inner_of, AnswersFlush, AnswersRead, AnswersWrite, DeviceGives, DeviceTakes, IsFresh, NoneRead, NoneTaken, WritesWhole};
+ghost use Rattle.ac_automaton.specs.Devices.Watched.{AnswersFlush, AnswersRead, AnswersWrite, DeviceGives, DeviceTakes, IsFresh, NoneRead, NoneTaken, WritesWhole};
 
 use crate::error::StreamError;
 use ac_input::history::{Count, Pieces, Taken};
@@ -37,9 +37,8 @@ pub struct Watched<T> {
 
 impl<T> Watched<T> {
     /// The device, watched from now on. What it returned or took before is no part of the history.
-    /// A caller: `uses::callers::stream::replaced`.
     pub fn new(inner: T) -> Watched<T>
-        ensures device { inner_of result ≡ inner }
+        ensures device { result.inner ≡ inner }
         ensures fresh { IsFresh result }
     {
         Watched {
@@ -54,16 +53,15 @@ impl<T> Watched<T> {
     }
 
     /// The device, no longer watched.
-    /// A caller: `uses::callers::stream::joined`.
     pub fn into_inner(self) -> T
-        ensures { result ≡ inner_of self }
+        ensures { result ≡ self.inner }
     {
         self.inner
     }
 
     /// Whether a read was empty or failed, so that none may follow.
     pub fn ended(&self) -> bool
-        ensures { result ≡ has_ended self.now }
+        ensures { result ≡ self.now.ended }
     {
         self.ended
     }
@@ -73,10 +71,9 @@ impl<T: Read> Watched<T> {
     /// One read into the buffer, which has room, of an input that has not ended.
     ///
     /// Any error ends the input: a caller that would try again after an interruption can't.
-    /// A caller: `uses::callers::stream::read_front`.
     pub fn read(&mut self, buf: &mut [u8]) -> io::Result<usize>
         requires room { 0 < length buf.old }
-        requires open { has_ended self.old ≡ false }
+        requires open { self.old.ended ≡ false }
         ensures gave { AnswersRead self.old self.new buf.new result }
         ensures writes { NoneTaken self.old self.new }
         ensures device { DeviceGives T.remaining self.old self.new result buf.new }
@@ -125,7 +122,7 @@ impl<T: Write> Watched<T> {
     pub fn flush(&mut self) -> io::Result<()>
         ensures passed { AnswersFlush self.old self.new result }
         ensures reads { NoneRead self.old self.new }
-        ensures device { Keeps (T.contents (inner_of self.old)) (T.contents (inner_of self.new)) }
+        ensures device { Keeps (T.contents self.old.inner) (T.contents self.new.inner) }
     {
         match self.inner.flush() {
             Ok(()) => {
@@ -143,7 +140,6 @@ impl<T: Write> Watched<T> {
 /// Writes all the bytes, by as many writes as that takes, and stops at the first that fails or takes none.
 ///
 /// Nothing is tried again, not even after an interruption.
-/// A caller: `uses::callers::stream::is_written`.
 pub fn write_whole<W: Write>(writer: &mut Watched<W>, bytes: &[u8]) -> Result<(), StreamError>
     ensures took { WritesWhole W.contents writer.old writer.new bytes.now result }
     ensures reads { NoneRead writer.old writer.new }

@@ -1,4 +1,4 @@
--- What the proofs of the exports that are lent an automaton cite, and what is left of a `&mut` that such an export passes on.
+-- What the proofs of the exports that borrow an automaton cite, and what becomes of a `&mut` that an export passes on.
 use seplogic.Ra.Ura.{Ura}
 pub use Rattle.std.proofs.Common.{◌≡◌, ℕ, List, [], ◌∷◌, ◌++◌, refl, Bor, MutBor}
 pub use Rattle.std.proofs.raw_atomic.Walks.{proved, proved_at}
@@ -34,7 +34,7 @@ pub use denote.Triple.Table.{framed}
 pub use denote.Triple.Walked.{says, Stay, Stays, stay_dropped, walk_of, ends_at, Goes, Goes-dropped}
 pub use Rattle.aho_corasick.specs.contracts.ahocorasick.AhoCorasick.{the_row as R}
 
--- of a `&mut` that the body has passed on to a callee, what the callee says of its last value
+-- a `&mut` that was passed to a callee ends with the value that the callee's contract gives it
 abbrev pub passed : {n : ℕ} (s : Slot n) (k : Kept) → Stay s k
 passed s k = record { fit = λ κs x f. Unit {0}; has = λ κs x f vs. left ((s.row κs).exit k) x f }
 

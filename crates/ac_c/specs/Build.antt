@@ -1,4 +1,4 @@
--- How C's settings are read, and what a build answers.
+-- How C's settings are read, and what a build returns.
 use Rattle.std.specs.Prelude.{◌≡◌, ◌≢◌, ◌⊎◌, ℕ, ◌==◌, if◌then◌else◌, Bool, true, false, List, [], map, Option, Some, None, Result, Ok, Err}
 use Rattle.ac_input.specs.declared.search.MatchKind.{MatchKind}
 use Rattle.ac_input.specs.declared.search.MatchKind.TheVariants.{Standard, LeftmostFirst, LeftmostLongest}
@@ -23,7 +23,7 @@ use Rattle.ac_c.specs.Handle.{HeldAutomaton}
 use Rattle.ac_c.specs.Status.{ok, no_memory, bad_kind, bad_start_kind, bad_engine, bad_pairs, build_status}
 use Rattle.ac_c.specs.Walk.{no_place}
 
--- ---- what a fault says
+-- ---- what a fault reports
 
 abbrev pub no_fault : Fault
 no_fault = record { count = 0; pattern = 0 }
@@ -31,7 +31,7 @@ no_fault = record { count = 0; pattern = 0 }
 abbrev pub plain : ℕ → Refusal
 plain status = record { status = status; fault = no_fault }
 
--- a number past the greatest, or the pattern that is too long and its length
+-- the number that exceeds its limit, or the pattern that is too long and its length
 abbrev pub build_fault : BuildErrorKind → Fault
 build_fault (StateIDOverflow max requested) = record { count = requested; pattern = 0 }
 build_fault (PatternIDOverflow max requested) = record { count = requested; pattern = 0 }
@@ -49,11 +49,11 @@ kind_by n = if n == 0 then Some Standard else (if n == 1 then Some LeftmostFirst
 abbrev pub start_kind_by : ℕ → Option StartKind
 start_kind_by n = if n == 0 then Some Unanchored else (if n == 1 then Some Anchored else (if n == 2 then Some Both else None))
 
--- one that is named, or none
+-- 0 leaves the choice to the library, and each further number names an automaton
 abbrev pub engine_by : ℕ → Option (Option AhoCorasickKind)
 engine_by n = if n == 0 then Some None else (if n == 1 then Some (Some NoncontiguousNFA) else (if n == 2 then Some (Some ContiguousNFA) else (if n == 3 then Some (Some DFA) else None)))
 
--- a depth, or none for the greatest number
+-- a dense depth, or none for the greatest number
 abbrev pub depth_by : ℕ → Option ℕ
 depth_by depth = if depth == no_place then None else Some depth
 
@@ -65,7 +65,7 @@ abbrev pub IsPairingOf : Bool → List Pair → List ℕ → Type 0
 IsPairingOf true pairs pairing = (pairs ≡ []) × IsFolded true pairing
 IsPairingOf false pairs pairing = IsDistinct (named (pairs_of pairs)) × ((b : ℕ) → other pairing b ≡ partner (pairs_of pairs) b)
 
--- Why there is no pairing: pairs beside folding; or a byte that is named twice; or memory ran out.
+-- Why there is no pairing: pairs are given beside folding; or a byte is named twice; or memory ran out.
 abbrev pub IsPairingRefused : Bool → List Pair → Refusal → Type 0
 IsPairingRefused true pairs refusal = (pairs ≢ []) × (refusal ≡ plain bad_pairs)
 IsPairingRefused false pairs refusal = ((byte : ℕ) × IsFirstTwice (named (pairs_of pairs)) byte × (refusal ≡ record { status = bad_pairs; fault = record { count = 0; pattern = byte } }))
@@ -75,7 +75,7 @@ abbrev pub PairsBy : ℕ → List Pair → Result (List ℕ) Refusal → Type 0
 PairsBy fold pairs (Ok pairing) = IsPairingOf (is_set fold) pairs pairing
 PairsBy fold pairs (Err refusal) = IsPairingRefused (is_set fold) pairs refusal
 
--- the settings of the library that these are
+-- the library's settings that C's settings and pairs stand for
 pub record IsBuilderBy (settings : Settings) (pairs : List Pair) (s : FrontSettings) : Type 0 where
   pub kind : kind_by settings.kind ≡ Some s.match_kind
   pub start_kind : start_kind_by settings.start_kind ≡ Some s.start_kind
@@ -86,12 +86,12 @@ pub record IsBuilderBy (settings : Settings) (pairs : List Pair) (s : FrontSetti
   pub byte_classes : s.byte_classes ≡ is_set settings.byte_classes
   pub row_memory : s.row_memory ≡ settings.row_memory
 
--- the first number that names nothing
+-- the status for the first of the settings whose number names nothing
 abbrev pub bad_number : Settings → Option ℕ
 bad_number s =
     elim (kind_by s.kind) [ None ↦ Some bad_kind | Some kind ↦ elim (start_kind_by s.start_kind) [ None ↦ Some bad_start_kind | Some start ↦ elim (engine_by s.engine) [ None ↦ Some bad_engine | Some engine ↦ None ] ] ]
 
--- why the settings are none
+-- why the settings are refused: a number that names nothing, or the pairing
 abbrev pub AreRefused : Settings → List Pair → Refusal → Type 0
 AreRefused s pairs refusal = ((status : ℕ) × (bad_number s ≡ Some status) × (refusal ≡ plain status)) ⊎ ((bad_number s ≡ None) × IsPairingRefused (is_set s.fold) pairs refusal)
 
@@ -99,7 +99,7 @@ abbrev pub AnswersBuilder : Settings → List Pair → Result FrontSettings Refu
 AnswersBuilder settings pairs (Ok s) = IsBuilderBy settings pairs s
 AnswersBuilder settings pairs (Err refusal) = AreRefused settings pairs refusal
 
--- those of a builder at first
+-- the settings of a new builder
 pub record AreDefaults (s : Settings) : Type 0 where
   pub kind : s.kind ≡ 0
   pub start_kind : s.start_kind ≡ 0
@@ -120,18 +120,18 @@ pub record IsBuiltAs (s : FrontSettings) (ps : List (List ℕ)) (ac : AhoCorasic
   pub starts : start_kind_of ac ≡ s.start_kind
   pub served : IsFrontBuilt s ps ac
 
--- the automaton, by C's settings; or why there is none: the settings, or what the library's build says
+-- the automaton that C's settings ask for; or why there is none: the settings are refused, or the library's build is
 abbrev pub IsBuiltFrom : List (List ℕ) → Settings → List Pair → Result AhoCorasick Refusal → Type 0
 IsBuiltFrom patterns settings pairs (Ok ac) = (s : FrontSettings) × IsBuilderBy settings pairs s × IsBuiltAs s patterns ac
 IsBuiltFrom patterns settings pairs (Err refusal) = AreRefused settings pairs refusal
     ⊎ ((s : FrontSettings) × IsBuilderBy settings pairs s × (error : BuildErrorKind) × IsFrontBuildRefused s patterns error × (refusal ≡ build_refusal error))
 
--- in a handle, with the status and the fault; or the handle is unchanged
+-- the handle holds the automaton; or status and fault report why there is none, and the handle is unchanged
 abbrev pub AnswersBuild : List (List ℕ) → Settings → List Pair → HeldAutomaton → HeldAutomaton → Fault → ℕ → Type 0
 AnswersBuild patterns settings pairs old new fault status =
     ((ac : AhoCorasick) × IsBuiltFrom patterns settings pairs (Ok ac) × (new ≡ Some ac) × (status ≡ ok) × (fault ≡ no_fault))
     ⊎ (IsBuiltFrom patterns settings pairs (Err (record { status = status; fault = fault })) × (new ≡ old))
 
--- another handle of the same automaton; or memory ran out, and it is unchanged
+-- the new handle holds a copy, which means the same automaton; or memory ran out, and the handle is unchanged
 abbrev pub IsShared : AhoCorasick → HeldAutomaton → HeldAutomaton → ℕ → Type 0
 IsShared ac old new status = ((copy : AhoCorasick) × MeansSame ac copy × (new ≡ Some copy) × (status ≡ ok)) ⊎ ((status ≡ no_memory) × (new ≡ old))

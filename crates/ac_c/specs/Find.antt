@@ -1,4 +1,4 @@
--- What a search for one match answers.
+-- What a search for one match returns.
 use Rattle.std.specs.Prelude.{◌≡◌, ◌⊎◌, ℕ, ◌==◌, if◌then◌else◌, Bool, true, false, List, Option, Some, None, Result, Ok, Err}
 use Rattle.ac_input.specs.declared.search.Anchored.{Anchored}
 use Rattle.ac_input.specs.declared.search.Anchored.TheVariants.{No, Yes}
@@ -13,7 +13,7 @@ use Rattle.ac_c.specs.declared.find.Bounds.{Bounds}
 use Rattle.ac_c.specs.Found.{shown, nothing}
 use Rattle.ac_c.specs.Status.{ok, none, bad_span, refusal_status}
 
--- a flag of C: 0, or else set
+-- a flag of C is set unless it is 0
 abbrev pub is_set : ℕ → Bool
 is_set flag = if flag == 0 then false else true
 
@@ -26,11 +26,11 @@ bounds start end anchored earliest = record { start = start; end = end; anchored
 abbrev pub span_of : Bounds → Span
 span_of b = record { start = b.start; end = b.end }
 
--- the bounds are a span of the haystack; it may start one past its end, where nothing is left
+-- The bounds are a span of the haystack. The span may start one past the haystack's end, where nothing is left.
 abbrev pub IsSpanIn : List ℕ → Bounds → Type 0
 IsSpanIn haystack b = IsSpanOf haystack (span_of b)
 
--- what the bounds ask for
+-- the search of the haystack that the bounds ask for
 abbrev pub asked_by : List ℕ → Bounds → Asked
 asked_by haystack b = record { haystack = haystack; span = span_of b; anchored = anchoring b.anchored; earliest = is_set b.earliest }
 
@@ -38,12 +38,13 @@ asked_by haystack b = record { haystack = haystack; span = span_of b; anchored =
 abbrev pub IsRefusedStart : AhoCorasick → Asked → ℕ → Type 0
 IsRefusedStart ac asked status = (¬ supported_by ac asked.anchored) × (status ≡ refusal_status (refusal_of asked.anchored))
 
--- the match of the bounds, if they have one; or the status: they are no span of the haystack, or the automaton has no such search
+-- the match within the bounds, if there is one; or why nothing was searched: the span is bad, or the automaton has no start for the
+-- search
 abbrev pub IsFoundBy : AhoCorasick → List ℕ → Bounds → Result (Option Occurrence) ℕ → Type 0
 IsFoundBy ac haystack b (Ok r) = IsSpanIn haystack b × supported_by ac (anchoring b.anchored) × IsFound (as_built ac) (asked_by haystack b) r
 IsFoundBy ac haystack b (Err status) = ((status ≡ bad_span) × ¬ IsSpanIn haystack b) ⊎ (IsSpanIn haystack b × IsRefusedStart ac (asked_by haystack b) status)
 
--- as C sees it
+-- the result of a search, as C sees it
 abbrev pub answer_of : Result (Option Occurrence) ℕ → Answer
 answer_of (Ok (Some o)) = record { found = shown o; status = ok }
 answer_of (Ok None) = record { found = nothing; status = none }

@@ -6,7 +6,7 @@ use Rattle.ac_c.specs.declared.found.Found.{Found}
 abbrev pub shown : Occurrence → Found
 shown o = record { start = o.start; end = o.end; pattern = o.pattern }
 
--- what stands in the place of a match, where there is none
+-- the entry that stands for no match
 abbrev pub nothing : Found
 nothing = record { start = 0; end = 0; pattern = 0 }
 

@@ -1,10 +1,10 @@
--- What a listing answers, from a place that C keeps.
+-- What a listing returns, from a place that C keeps.
 use Rattle.std.specs.Prelude.{◌≡◌, ◌⊎◌, ℕ, zero, suc, ◌+◌, ◌-◌, ◌==◌, if◌then◌else◌, min, max, List, length, Option, Some, None, Result, Ok, Err, slice_get, filter, drop}
 use Rattle.ac_input.specs.Computed.{is_after, listing_after}
 use Rattle.ac_input.specs.Input.{Asked}
 use Rattle.ac_input.specs.Occurrence.{Occurrence}
 use Rattle.ac_automaton.specs.Automaton.{searched}
-use Rattle.ac_automaton.specs.OverlappingIter.{Run, rest_of}
+use Rattle.ac_automaton.specs.Overlapping.OverlappingIter.{Run, rest_of}
 use Rattle.ac_automaton.specs.declared.error.MatchErrorKind.{MatchErrorKind}
 use Rattle.ac_automaton.specs.Overlapping.{CanOverlap, IsOverlappingRefusal}
 use Rattle.aho_corasick.specs.AhoCorasick.{as_built, supported_by}
@@ -20,31 +20,31 @@ use Rattle.ac_c.specs.Walk.{AreGiven, given_status}
 abbrev pub place : ℕ → ℕ → Found → ℕ → Place
 place start end last begun = record { start = start; end = end; last = last; begun = begun }
 
--- the occurrence that a match of C shows
+-- the occurrence that C's match stands for
 abbrev pub seen : Found → Occurrence
 seen f = record { pattern = f.pattern; start = f.start; end = f.end }
 
--- the occurrence that was given last, if one was
+-- the occurrence that was returned last, if there was one
 abbrev pub before_of : Place → Option Occurrence
 before_of p = if p.begun == 0 then None else Some (seen p.last)
 
--- the bounds of its span, from a place on
+-- the bounds of the listing's span, with this start
 abbrev pub bounds_from : Place → ℕ → Bounds
 bounds_from p from = record { start = from; end = p.end; anchored = 0; earliest = 0 }
 
--- what is asked from a place on
+-- the search of the listing's span, with this start
 abbrev pub asked_from : List ℕ → Place → ℕ → Asked
 asked_from haystack p from = asked_by haystack (bounds_from p from)
 
--- a place of a listing over the haystack: its span is one of the haystack
+-- the listing's span is a span of the haystack
 abbrev pub IsPlaceOver : List ℕ → Place → Type 0
 IsPlaceOver haystack p = IsSpanIn haystack (bounds_from p p.start)
 
--- From where on the haystack is searched: the longest pattern before the end of the last occurrence.
+-- Where the next search starts: the longest pattern's length before the end of the last occurrence.
 abbrev pub begins_at : Place → ℕ → ℕ
 begins_at p longest = if p.begun == 0 then p.start else min (max (p.last.end - longest) p.start) (p.end + 1)
 
--- those of the rest of a run that come after the last occurrence
+-- the remaining occurrences of a run that come after the last one returned
 abbrev pub later_of : Place → Run → List Occurrence
 later_of p run = filter (is_after (before_of p)) (rest_of run)
 
@@ -52,24 +52,24 @@ later_of p run = filter (is_after (before_of p)) (rest_of run)
 abbrev pub left_of_listing : AhoCorasick → List ℕ → Place → List Occurrence
 left_of_listing ac haystack p = listing_after (searched (as_built ac) (asked_from haystack p p.start)) (before_of p)
 
--- the place after so many of the buffer's entries were given
+-- the listing's place after n of the buffer's entries were returned
 abbrev pub place_after : Place → List Found → ℕ → Place
 place_after p out zero = p
 place_after p out (suc n) = elim (slice_get out n) [ None ↦ p | Some f ↦ record p { last = f; begun = 1 } ]
 
--- why a listing doesn't go on: the place is none of the haystack, or the automaton lists no occurrences
+-- why a listing doesn't go on: its span isn't one of the haystack, or the automaton lists no occurrences
 abbrev pub IsRefusedListing : AhoCorasick → List ℕ → Place → ℕ → Type 0
 IsRefusedListing ac haystack p status = ((status ≡ bad_cursor) × ¬ IsPlaceOver haystack p)
     ⊎ (IsPlaceOver haystack p × (error : MatchErrorKind) × IsOverlappingRefusal (as_built ac) (supported_by ac) (asked_from haystack p p.start) error × (status ≡ refusal_status error))
 
--- the next occurrences of a listing, and where they leave it; or why it doesn't go on, and the buffer is unchanged
+-- the next occurrences of a listing, and its place after them; or why it doesn't go on, and the buffer is unchanged
 abbrev pub IsListedBy : AhoCorasick → List ℕ → Place → List Found → List Found → Result ℕ ℕ → Type 0
 IsListedBy ac haystack p old new (Ok count) =
     IsPlaceOver haystack p × CanOverlap (as_built ac) (supported_by ac) (asked_from haystack p p.start) × AreGiven (left_of_listing ac haystack p) old new count
     × (left_of_listing ac haystack (place_after p new count) ≡ drop count (left_of_listing ac haystack p))
 IsListedBy ac haystack p old new (Err status) = IsRefusedListing ac haystack p status × (new ≡ old)
 
--- as C sees it: the place is the one after what was given
+-- the result of a listing as C sees it, with the place after what was returned
 abbrev pub listed_of : Place → List Found → Result ℕ ℕ → Listed
 listed_of p new (Ok count) = record { place = place_after p new count; count = count; status = given_status (length new) count }
 listed_of p new (Err status) = record { place = p; count = 0; status = status }

@@ -1,4 +1,4 @@
--- What a handle of a replacement of pieces holds, and what the calls for it answer.
+-- What a handle of a replacement of pieces holds, and what its calls return.
 use base.Stored.{Coded}
 use denote.Ref.{Bor}
 use Rattle.std.specs.Prelude.{◌≡◌, ◌⊎◌, ℕ, List}
@@ -23,21 +23,21 @@ HeldReplacer = Option the_row.Denot
 abbrev pub replacer_coded : Coded HeldReplacer
 replacer_coded = coded_option the_row.coded
 
--- a replacement that was passed nothing yet; or why there is none, and the handle is unchanged
+-- the handle holds a replacement that was passed nothing yet; or why there is none, and the handle is unchanged
 abbrev pub AnswersReplacing : AhoCorasick → HeldReplacer → HeldReplacer → ℕ → Type 0
 AnswersReplacing ac old new status = (CanStreamAnyKind (as_built ac) (supported_by ac) × (new ≡ Some (replacing_by ac)) × (status ≡ ok)) ⊎ (IsRefusedSearch ac status × (new ≡ old))
 
--- the first bytes of a piece were taken, or why not; or there is no replacement
+-- the first bytes of a piece were taken, or why none were; or the handle holds no replacement
 abbrev pub AnswersPushOn : List ℕ → HeldReplacer → HeldReplacer → Count → Type 0
 AnswersPushOn piece None new taken = (new ≡ None) × (taken ≡ record { count = 0; status = no_replacer })
 AnswersPushOn piece (Some r) new taken = (t : Replacing) × (new ≡ Some t) × IsPushedOn r piece t taken
 
--- the next slice of the text, or that there is none; or there is no replacement
+-- the next slice of the text, or none yet; or the handle holds no replacement
 abbrev pub AnswersSlice : List (Bor (List ℕ)) → HeldReplacer → HeldReplacer → Length → Type 0
 AnswersSlice replacements None new given = (new ≡ None) × (given ≡ record { len = 0; status = no_replacer })
 AnswersSlice replacements (Some r) new given = (t : Replacing) × (new ≡ Some t) × IsGivenText r replacements t given
 
--- what the replacement is once it was told that no more pieces come, and the status
+-- the replacement after the call that says that no more pieces come, and the status of that call
 abbrev pub end_by : HeldReplacer → HeldReplacer
 end_by None = None
 end_by (Some r) = Some (ended_by r)

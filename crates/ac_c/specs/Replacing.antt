@@ -1,8 +1,8 @@
 -- A replacement of a text that is passed piece by piece: what it begins as, and what each call does.
 use Rattle.std.specs.Prelude.{◌≡◌, ◌≢◌, ◌⊎◌, ℕ, true, false, List, length, map, Option, None, Some, Result, Ok, Err}
 use denote.Ref.{Bor}
-use Rattle.ac_automaton.specs.Stream.{CanStreamAnyKind}
-use Rattle.ac_automaton.specs.StreamReplacer.{GivesText, PushesText, ReplacerProgress, told_the_end, fresh_replacer}
+use Rattle.ac_automaton.specs.Stream.{CanStreamAnyKind, closed_by}
+use Rattle.ac_automaton.specs.Stream.StreamReplacer.{GivesText, PushesText, ReplacerProgress, fresh_replacer}
 use Rattle.ac_automaton.specs.declared.error.StreamError.{StreamError}
 use Rattle.aho_corasick.specs.AhoCorasick.{as_built, supported_by}
 use Rattle.aho_corasick.specs.declared.ahocorasick.AhoCorasick.{AhoCorasick}
@@ -37,18 +37,19 @@ IsPushedOn r piece t taken =
 abbrev pub patterns_in : Replacing → ℕ
 patterns_in r = length r.replacer.search.built.dictionary.patterns
 
--- as C sees it
+-- a slice as C sees it: its length
 abbrev pub slice_of : Option (List ℕ) → Length
 slice_of None = record { len = 0; status = none }
 slice_of (Some bytes) = record { len = length bytes; status = ok }
 
--- There isn't one replacement for each pattern, and nothing changed. Or the next slice of the text has this length; or there is none.
+-- There isn't one replacement for each pattern, and nothing changed. Or the next slice of the text has this length; or there is no
+-- slice.
 abbrev pub IsGivenText : Replacing → List (Bor (List ℕ)) → Replacing → Length → Type 0
 IsGivenText r replacements t given =
     ((length replacements ≢ patterns_in r) × (t ≡ r) × (given ≡ record { len = 0; status = wrong_count }))
     ⊎ ((length replacements ≡ patterns_in r) × (slice : Option (List ℕ)) × GivesText r.replacer t.replacer (map (λ b. b.now) replacements) slice × (given ≡ slice_of slice))
 
--- ---- what it is told
+-- ---- the end of the pieces
 
 abbrev pub ended_by : Replacing → Replacing
-ended_by r = record { replacer = told_the_end r.replacer }
+ended_by r = record { replacer = (record r.replacer { search = closed_by r.replacer.search; finished = true }) }

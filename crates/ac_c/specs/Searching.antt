@@ -1,9 +1,9 @@
 -- A search of a text that is passed piece by piece: what it begins as, and what each call does.
-use Rattle.std.specs.Prelude.{◌≡◌, ◌≢◌, ◌⊎◌, ℕ, ◌<◌, ◌≤◌, ◌||◌, Bool, true, false, List, [], ◌++◌, length, map, take, Result, Ok, Err}
+use Rattle.std.specs.Prelude.{◌≡◌, ◌≢◌, ◌⊎◌, ℕ, ◌<◌, ◌≤◌, ◌||◌, Bool, true, false, List, [], ◌++◌, length, map, take, Result, Ok, Err, drop}
 use Rattle.std.specs.List.{All}
 use Rattle.ac_input.specs.Occurrence.{Occurrence}
-use Rattle.ac_automaton.specs.Stream.{AreAllGiven, CanBeCounted, CanStreamAnyKind, IsAnyKindConfigRefusal, IsHeldMatch, IsSearched, ReadsNothing, StreamProgress, closed_by, cut_of, fresh_progress, held_by, read_by}
-use Rattle.ac_automaton.specs.StreamPush.{Pushes}
+use Rattle.ac_automaton.specs.Stream.{AreAllGiven, CanBeCounted, CanStreamAnyKind, IsAnyKindConfigRefusal, IsHeldMatch, IsSearched, ReadsNothing, StreamProgress, closed_by, cut_of, fresh_progress, read_by}
+use Rattle.ac_automaton.specs.Stream.StreamPush.{Pushes}
 use Rattle.ac_automaton.specs.declared.error.MatchErrorKind.{MatchErrorKind}
 use Rattle.ac_automaton.specs.declared.error.StreamError.{StreamError}
 use Rattle.aho_corasick.specs.AhoCorasick.{as_built, supported_by}
@@ -22,7 +22,7 @@ use Rattle.ac_c.specs.Walk.{given_status}
 abbrev pub begun_by : AhoCorasick → Searching
 begun_by ac = record { search = fresh_progress (as_built ac); finished = false }
 
--- Why there is none: first because the automaton has no start for it, then because of an empty pattern; or memory ran out.
+-- Why there is no search: the automaton has no start for it, or else a pattern is empty; or memory ran out.
 abbrev pub IsRefusedSearch : AhoCorasick → ℕ → Type 0
 IsRefusedSearch ac status = ((error : MatchErrorKind) × IsAnyKindConfigRefusal (as_built ac) (supported_by ac) error × (status ≡ refusal_status error))
     ⊎ (CanStreamAnyKind (as_built ac) (supported_by ac) × (status ≡ no_memory))
@@ -34,7 +34,7 @@ IsSearchOfPieces ac (Err status) = IsRefusedSearch ac status
 
 -- ---- what a push takes
 
--- whether it was told that no more pieces come
+-- whether the search was told that no more pieces come
 abbrev pub is_finished : Searching → Bool
 is_finished s = s.finished || s.search.closed
 
@@ -58,7 +58,7 @@ pub record Returns (s t : StreamProgress) (os : List Occurrence) : Type 0 where
   pub held : All (IsHeldMatch s) os
   pub some : os ≢ [] → CanBeCounted (read_by s) × ¬ AreAllGiven s
 
--- they are the first entries of the buffer
+-- the occurrences are the first n entries of the buffer
 pub record AreShown (os : List Occurrence) (old new : List Found) (n : ℕ) : Type 0 where
   pub count : n ≡ length os
   pub room : n ≤ length old
@@ -72,10 +72,10 @@ AreNext s t old new n = (os : List Occurrence) × Returns s t os × AreShown os 
 abbrev pub IsGiven : Searching → Searching → List Found → List Found → Count → Type 0
 IsGiven s t old new given = AreNext s.search t.search old new given.count × (t.finished ≡ s.finished) × (given.status ≡ given_status (length old) given.count)
 
--- ---- what it is asked and told
+-- ---- the held bytes, and the end of the pieces
 
 abbrev pub view_of : Searching → View
-view_of s = record { len = length (held_by s.search); from = s.search.from; cut = cut_of s.search; status = ok }
+view_of s = record { len = length (drop s.search.from (read_by s.search)); from = s.search.from; cut = cut_of s.search; status = ok }
 
 abbrev pub finished_by : Searching → Searching
 finished_by s = record { search = closed_by s.search; finished = true }

@@ -53,7 +53,7 @@ too_many_bytes = 23
 abbrev pub no_replacer : ℕ
 no_replacer = 24
 
--- the status of a search that the automaton doesn't have
+-- the status of a search that the automaton doesn't support
 abbrev pub refusal_status : MatchErrorKind → ℕ
 refusal_status InvalidInputAnchored = 12
 refusal_status InvalidInputUnanchored = 13

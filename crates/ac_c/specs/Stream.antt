@@ -1,4 +1,4 @@
--- What a handle of a search of pieces holds, and what the calls for it answer.
+-- What a handle of a search of pieces holds, and what its calls return.
 use base.Stored.{Coded}
 use Rattle.std.specs.Prelude.{◌≡◌, ◌⊎◌, ℕ, List}
 use Rattle.std.specs.declared.option.Option.{Option}
@@ -22,30 +22,30 @@ HeldStream = Option the_row.Denot
 abbrev pub stream_coded : Coded HeldStream
 stream_coded = coded_option the_row.coded
 
--- a search that was passed nothing yet; or why there is none, and the handle is unchanged
+-- the handle holds a search that was passed nothing yet; or why there is none, and the handle is unchanged
 abbrev pub AnswersStream : AhoCorasick → HeldStream → HeldStream → ℕ → Type 0
 AnswersStream ac old new status = (CanStreamAnyKind (as_built ac) (supported_by ac) × (new ≡ Some (begun_by ac)) × (status ≡ ok)) ⊎ (IsRefusedSearch ac status × (new ≡ old))
 
--- where there is no search
+-- what a call returns where the handle holds no search
 abbrev pub counts_none : Count
 counts_none = record { count = 0; status = no_stream }
 
--- the first bytes of a piece were taken, or why not; or there is no search
+-- the first bytes of a piece were taken, or why none were; or the handle holds no search
 abbrev pub AnswersPush : List ℕ → HeldStream → HeldStream → Count → Type 0
 AnswersPush piece None new taken = (new ≡ None) × (taken ≡ counts_none)
 AnswersPush piece (Some s) new taken = (t : Searching) × (new ≡ Some t) × IsPushed s piece t taken
 
--- the next matches; or there is no search, and the buffer is unchanged
+-- the next matches are in the buffer; or the handle holds no search, and the buffer is unchanged
 abbrev pub AnswersNext : HeldStream → HeldStream → List Found → List Found → Count → Type 0
 AnswersNext None new before after given = (new ≡ None) × (after ≡ before) × (given ≡ counts_none)
 AnswersNext (Some s) new before after given = (t : Searching) × (new ≡ Some t) × IsGiven s t before after given
 
--- where the held bytes stand; or there is no search
+-- where the held bytes stand; or the handle holds no search
 abbrev pub view_by : HeldStream → View
 view_by None = record { len = 0; from = 0; cut = 0; status = no_stream }
 view_by (Some s) = view_of s
 
--- what the search is once it was told that no more pieces come, and the status
+-- the search after the call that says that no more pieces come, and the status of that call
 abbrev pub finish_by : HeldStream → HeldStream
 finish_by None = None
 finish_by (Some s) = Some (finished_by s)

@@ -1,4 +1,4 @@
--- What is told of an automaton.
+-- What an automaton reports about itself.
 use Rattle.std.specs.Prelude.{◌≡◌, ◌⊎◌, ℕ, ◌<◌, ◌≤◌, [], length, get_or}
 use Rattle.ac_input.specs.declared.search.MatchKind.{MatchKind}
 use Rattle.ac_input.specs.declared.search.MatchKind.TheVariants.{Standard, LeftmostFirst, LeftmostLongest}
@@ -30,7 +30,7 @@ engine_number NoncontiguousNFA = 1
 engine_number ContiguousNFA = 2
 engine_number DFA = 3
 
--- what an automaton was built of and as; of the memory nothing is claimed
+-- what an automaton was built of, and its kinds; the memory it takes isn't specified
 pub record TellsAbout (ac : AhoCorasick) (about : About) : Type 0 where
   pub patterns : about.patterns ≡ pattern_count ac
   pub shortest : about.shortest ≡ shortest (patterns_of ac)
@@ -39,7 +39,7 @@ pub record TellsAbout (ac : AhoCorasick) (about : About) : Type 0 where
   pub start_kind : about.start_kind ≡ start_number (start_kind_of ac)
   pub engine : about.engine ≡ engine_number (kind_served (serving_engine ac))
 
--- How many bytes a pattern has, if there is one of this number. No number past the greatest is a pattern's.
+-- The length of pattern n, if there is one. No number past the greatest is a pattern's.
 abbrev pub AnswersLength : AhoCorasick → ℕ → Length → Type 0
 AnswersLength ac pattern told =
     ((pattern < pattern_count ac) × (pattern ≤ greatest_number) × (told ≡ record { len = length (get_or (patterns_of ac) pattern []); status = ok }))

@@ -13,7 +13,7 @@ HeldText = Option the_row.Denot
 abbrev pub text_coded : Coded HeldText
 text_coded = coded_option the_row.coded
 
--- how many bytes the text has, if there is one
+-- the length of the text, or 0 if there is none
 abbrev pub held_len : HeldText → ℕ
 held_len None = 0
 held_len (Some x) = length x.bytes.items

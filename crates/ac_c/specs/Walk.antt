@@ -1,7 +1,7 @@
--- What a walk answers, from a cursor that C keeps.
+-- What a walk returns, from a cursor that C keeps.
 use Rattle.std.specs.Prelude.{◌≡◌, ◌⊎◌, ℕ, ◌==◌, ◌<◌, ◌≤◌, ◌^◌, ◌-◌, ◌&&◌, nat_lt, if◌then◌else◌, min, List, [], ◌∷◌, length, map, take, drop, Option, Some, None, IfSome, MatchOption, Result, Ok, Err}
 use Rattle.ac_input.specs.Occurrence.{Occurrence}
-use Rattle.ac_automaton.specs.Iter.{IsPlaceIn, Walk, left_of, place_of, walk_from_place}
+use Rattle.ac_automaton.specs.Iter.{IsPlaceIn, Walk, left_of, walk_from_place}
 use Rattle.ac_automaton.specs.declared.iter.WalkPlace.{WalkPlace}
 use Rattle.aho_corasick.specs.AhoCorasick.{as_built, supported_by}
 use Rattle.aho_corasick.specs.declared.ahocorasick.AhoCorasick.{AhoCorasick}
@@ -14,7 +14,7 @@ use Rattle.ac_c.specs.Find.{IsRefusedStart, IsSpanIn, anchoring, asked_by}
 use Rattle.ac_c.specs.Found.{shown, nothing}
 use Rattle.ac_c.specs.Status.{ok, none, bad_cursor}
 
--- the number that stands in the place of the last match's end, where there was none
+-- the number that stands for the last match's end, where there is no last match
 abbrev pub no_place : ℕ
 no_place = 2 ^ 64 - 1
 
@@ -28,11 +28,11 @@ bounds_of c = record { start = c.start; end = c.end; anchored = c.anchored; earl
 abbrev pub last_of : Cursor → Option ℕ
 last_of c = if c.last == no_place then None else Some c.last
 
--- the place of the walk
+-- the place in the walk at which the cursor stands
 abbrev pub place_of_cursor : Cursor → WalkPlace
 place_of_cursor c = record { start = c.start; last = last_of c }
 
--- a cursor that a walk over the haystack has: its span is one of the haystack, and its last match ended before it or at its start
+-- a valid cursor over the haystack: its span is one of the haystack, and its last match ended at its start or before
 abbrev pub IsCursorIn : List ℕ → Cursor → Type 0
 IsCursorIn haystack c = IsSpanIn haystack (bounds_of c) × IfSome (last_of c) (λ last. last ≤ c.start)
 
@@ -44,25 +44,25 @@ Goes c place d = (d ≡ record c { start = place.start; last = d.last }) × (IfS
 abbrev pub left_of_walk : AhoCorasick → List ℕ → Cursor → List Occurrence
 left_of_walk ac haystack c = left_of (walk_from_place (as_built ac) (asked_by haystack (bounds_of c)) (place_of_cursor c))
 
--- the second cursor stands further on in the walk of the first, with this left
+-- the second cursor stands further on in the walk of the first, and these matches are left
 pub record IsCursorAfter (ac : AhoCorasick) (haystack : List ℕ) (c d : Cursor) (left : List Occurrence) : Type 0 where
   pub valid : IsCursorIn haystack d
   pub same : d ≡ record c { start = d.start; last = d.last }
   pub rest : left_of_walk ac haystack d ≡ left
 
--- why a walk doesn't go on: the cursor is none of a walk over the haystack, or the automaton has no such search
+-- why a walk doesn't go on: the cursor isn't valid for the haystack, or the automaton has no start for the search
 abbrev pub IsRefusedWalk : AhoCorasick → List ℕ → Cursor → ℕ → Type 0
 IsRefusedWalk ac haystack c status = ((status ≡ bad_cursor) × ¬ IsCursorIn haystack c) ⊎ (IsCursorIn haystack c × IsRefusedStart ac (asked_by haystack (bounds_of c)) status)
 
--- a walk goes on
+-- the cursor is valid for the haystack, and the automaton has a start for the search
 abbrev pub IsWalkBy : AhoCorasick → List ℕ → Cursor → Type 0
 IsWalkBy ac haystack c = IsCursorIn haystack c × supported_by ac (anchoring c.anchored)
 
--- what is left where this is the next match
+-- r is the next match of those left, if there is one, and `rest` is what is left after it
 abbrev pub IsFirstLeft : List Occurrence → Option Occurrence → List Occurrence → Type 0
 IsFirstLeft left r rest = MatchOption r ((left ≡ []) × (rest ≡ [])) (λ o. left ≡ o ∷ rest)
 
--- the next match of a walk, and where that leaves it; or why it doesn't go on
+-- the next match of a walk, and the cursor after it; or why the walk doesn't go on
 abbrev pub IsStepBy : AhoCorasick → List ℕ → Cursor → Result (Option Occurrence × Cursor) ℕ → Type 0
 IsStepBy ac haystack c (Ok step) = IsWalkBy ac haystack c × (rest : List Occurrence) × IsFirstLeft (left_of_walk ac haystack c) step.0 rest × IsCursorAfter ac haystack c step.1 rest
 IsStepBy ac haystack c (Err status) = IsRefusedWalk ac haystack c status
@@ -76,27 +76,27 @@ step_of c (Err status) = record { cursor = c; found = nothing; status = status }
 abbrev pub AnswersStep : AhoCorasick → List ℕ → Cursor → Step → Type 0
 AnswersStep ac haystack c step = (r : Result (Option Occurrence × Cursor) ℕ) × IsStepBy ac haystack c r × (step ≡ step_of c r)
 
--- as many of these as the buffer has room for are its first entries
+-- the first entries of the buffer are the next matches, as many as it has room for
 pub record AreGiven (left : List Occurrence) (old new : List Found) (n : ℕ) : Type 0 where
   pub count : n ≡ min (length old) (length left)
   pub given : take n new ≡ map shown (take n left)
 
--- These are the next matches of a walk that stands at the cursor. Then it stands at the other cursor.
+-- The walk stands at the first cursor, and its next matches went to the buffer. It stands at the second cursor after them.
 pub record TakesSome (w : Walk) (c : Cursor) (old new : List Found) (taken : ℕ × Cursor) : Type 0 where
   pub given : AreGiven (left_of w) old new taken.0
   pub after : Walk
   pub rest : left_of after ≡ drop taken.0 (left_of w)
   pub built : after.built ≡ w.built
   pub asked : after.asked ≡ w.asked
-  pub within : IsPlaceIn after.asked (place_of after)
-  pub goes : Goes c (place_of after) taken.1
+  pub within : IsPlaceIn after.asked (record { start = after.at; last = after.last })
+  pub goes : Goes c (record { start = after.at; last = after.last }) taken.1
 
--- the next matches of a walk, and where they leave it; or why it doesn't go on, and the buffer is unchanged
+-- the next matches of a walk, and the cursor after them; or why the walk doesn't go on, and the buffer is unchanged
 abbrev pub IsSomeBy : AhoCorasick → List ℕ → Cursor → List Found → List Found → Result (ℕ × Cursor) ℕ → Type 0
 IsSomeBy ac haystack c old new (Ok taken) = IsWalkBy ac haystack c × AreGiven (left_of_walk ac haystack c) old new taken.0 × IsCursorAfter ac haystack c taken.1 (drop taken.0 (left_of_walk ac haystack c))
 IsSomeBy ac haystack c old new (Err status) = IsRefusedWalk ac haystack c status × (new ≡ old)
 
--- the status where so many were given, of so much room
+-- the status of a call that returned this count, for a buffer with this room
 abbrev pub given_status : ℕ → ℕ → ℕ
 given_status room count = if (count == 0) && nat_lt 0 room then none else ok
 

@@ -41,6 +41,7 @@ pub mod tell;
 pub mod text;
 mod threads;
 pub mod walk;
+mod walking;
 
 use aho_corasick::AhoCorasick;
 use build::{Fault, Pair, Settings};
@@ -426,7 +427,6 @@ pub unsafe extern "C" fn dado_raw_list(
 #[unsafe(no_mangle)]
 pub unsafe extern "C" fn dado_raw_replace_into(
     at: *const Opaque,
-    alloc: Global,
     haystack: &[u8],
     replacements: &[&[u8]],
     out: &mut [u8],
@@ -437,7 +437,7 @@ pub unsafe extern "C" fn dado_raw_replace_into(
     ensures answer { AnswersInto g.automaton haystack.now replacements.now out.old out.new result }
 {
     let ac = at as *const AhoCorasick;
-    replace::into(&*ac, alloc, haystack, replacements, out)
+    replace::into(&*ac, haystack, replacements, out)
 }
 
 /// The same text, in memory of the library's.

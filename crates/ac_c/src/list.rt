@@ -5,7 +5,6 @@
 ghost use Rattle.std.specs.Prelude.{◌≡◌, ◌<◌, ◌≤◌, ◌^◌, IfOk, MatchOption, length, map, min, take};
 ghost use Rattle.std.specs.Iterator.{YieldsFirst};
 ghost use Rattle.ac_input.specs.Computed.{is_after};
-ghost use Rattle.ac_automaton.specs.OverlappingIter.{rest_of};
 ghost use Rattle.ac_c.specs.Found.{found, shown};
 ghost use Rattle.ac_c.specs.List.{AnswersListed, IsListedBy, IsPlaceOver, asked_from, before_of, begins_at, later_of, listed_of, place, place_after};
 

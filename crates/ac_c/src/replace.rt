@@ -1,11 +1,17 @@
 //! Replacement: into a buffer of the caller's, and into memory of the library's.
-ghost use Rattle.std.specs.Prelude.{◌≡◌, Some};
-ghost use Rattle.ac_c.specs.Replace.{AnswersInto, AnswersText, IsReplacedBy};
+//!
+//! For a buffer the haystack is searched twice: for the length of the text, and then to write it, if the buffer has room. So no memory
+//! is taken, and a buffer that is too short stays as it was.
+ghost use Rattle.std.specs.Prelude.{◌≡◌, ◌≤◌, ◌+◌, ◌++◌, length, take, drop, Some};
+ghost use Rattle.ac_automaton.specs.Iter.{left_of};
+ghost use Rattle.ac_automaton.specs.Replace.{LieInOrder};
+ghost use Rattle.ac_c.specs.Replace.{AnswersInto, AnswersText, IsLenBy, IsLenOf, IsReplaced, IsReplacedBy, begun_with, text_by, text_of};
 
 use crate::bytes::Bytes;
-use crate::status::{NO_MEMORY, OK, TOO_SHORT, WRONG_COUNT, refused};
+use crate::status::{NO_MEMORY, OK, TOO_MANY_BYTES, TOO_SHORT, WRONG_COUNT, refused};
 use crate::text::Text;
-use aho_corasick::{AhoCorasick, ReplaceError};
+use crate::walking::Walking;
+use aho_corasick::{AhoCorasick, Input, ReplaceError, Steps};
 use std::alloc::Global;
 
 /// A length, and the status.
@@ -14,6 +20,126 @@ use std::alloc::Global;
 pub struct Length {
     pub len: usize,
     pub status: u32,
+}
+
+/// How many bytes a haystack has with each of the matches replaced, if a number says it.
+fn text_len<W: Walking + Drop>(
+    mut matches: W,
+    haystack: &[u8],
+    replacements: &[&[u8]],
+) -> Result<usize, u32>
+    requires { LieInOrder (length replacements.now) (length haystack.now) 0
+        (left_of (W.walk matches)) }
+    ensures { IsLenOf (text_of haystack.now replacements.now (left_of (W.walk matches))) result }
+{
+    let mut steps = Steps::new();
+    let mut at = 0;
+    let mut len: usize = 0;
+    while let Some(found) = matches.next_match(&mut steps) {
+        let Some(before) = len.checked_add(found.start() - at) else {
+            return Err(TOO_MANY_BYTES);
+        };
+        let Some(after) = before.checked_add(replacements[found.pattern().as_usize()].len()) else {
+            return Err(TOO_MANY_BYTES);
+        };
+        len = after;
+        at = found.end();
+    }
+    match len.checked_add(haystack.len() - at) {
+        Some(len) => Ok(len),
+        None => Err(TOO_MANY_BYTES),
+    }
+}
+
+/// Copies bytes to a place of a buffer. Returns the place after them.
+fn put(out: &mut [u8], at: usize, bytes: &[u8]) -> usize
+    requires { at + length bytes.now ≤ length out.old }
+    ensures end { result ≡ at + length bytes.now }
+    ensures put { out.new ≡ take at out.old ++ begun_with bytes.now (drop at out.old) }
+{
+    let end = at + bytes.len();
+    out[at..end].copy_from_slice(bytes);
+    end
+}
+
+/// Writes a haystack with each of the matches replaced to the start of a buffer.
+fn write_text<W: Walking + Drop>(
+    mut matches: W,
+    haystack: &[u8],
+    replacements: &[&[u8]],
+    out: &mut [u8],
+)
+    requires lie { LieInOrder (length replacements.now) (length haystack.now) 0
+        (left_of (W.walk matches)) }
+    requires fits { length (text_of haystack.now replacements.now (left_of (W.walk matches)))
+        ≤ length out.old }
+    ensures { out.new
+        ≡ begun_with (text_of haystack.now replacements.now (left_of (W.walk matches))) out.old }
+{
+    let mut steps = Steps::new();
+    let mut at = 0;
+    let mut len = 0;
+    while let Some(found) = matches.next_match(&mut steps) {
+        len = put(out, len, &haystack[at..found.start()]);
+        len = put(out, len, replacements[found.pattern().as_usize()]);
+        at = found.end();
+    }
+    put(out, len, &haystack[at..]);
+}
+
+/// A haystack of this length is read ahead. For a shorter one the notes take longer to make than they save.
+const LONG: usize = 4096;
+
+/// How many bytes the text has, or the status.
+fn len_by(ac: &AhoCorasick, haystack: &[u8], replacements: &[&[u8]]) -> Result<usize, u32>
+    ensures { IsLenBy ac.now haystack.now replacements.now result }
+{
+    if replacements.len() != ac.patterns_len() {
+        return Err(WRONG_COUNT);
+    }
+    if haystack.len() < LONG {
+        return match ac.try_find_iter(Input::new(haystack)) {
+            Err(error) => Err(refused(&error)),
+            Ok(matches) => text_len(matches, haystack, replacements),
+        };
+    }
+    match ac.try_find_iter_ahead(Input::new(haystack)) {
+        Err(error) => Err(refused(&error)),
+        Ok(matches) => text_len(matches, haystack, replacements),
+    }
+}
+
+/// Writes the text to the start of a buffer.
+fn write_by(ac: &AhoCorasick, haystack: &[u8], replacements: &[&[u8]], out: &mut [u8])
+    requires replaced { IsReplaced ac.now replacements.now }
+    requires fits { length (text_by ac.now haystack.now replacements.now) ≤ length out.old }
+    ensures { out.new ≡ begun_with (text_by ac.now haystack.now replacements.now) out.old }
+{
+    let input = Input::new(haystack);
+    if haystack.len() < LONG {
+        write_text(ac.find_iter(input), haystack, replacements, out);
+    } else {
+        write_text(ac.find_iter_ahead(input), haystack, replacements, out);
+    }
+}
+
+/// The text into a buffer, and its length.
+pub fn into(ac: &AhoCorasick, haystack: &[u8], replacements: &[&[u8]], out: &mut [u8]) -> Length
+    ensures { AnswersInto ac.now haystack.now replacements.now out.old out.new result }
+{
+    match len_by(ac, haystack, replacements) {
+        Err(status) => Length { len: 0, status },
+        Ok(len) => {
+            if len > out.len() {
+                return Length {
+                    len,
+                    status: TOO_SHORT,
+                };
+            }
+            write_by(ac, haystack, replacements, out);
+            Length { len, status: OK }
+        }
+    }
 }
 
 /// The haystack with each match replaced, or the status.
@@ -32,32 +158,6 @@ fn replaced_by(
         Ok(text) => Ok(text),
         Err(ReplaceError::Match(error)) => Err(refused(&error)),
         Err(ReplaceError::Memory) => Err(NO_MEMORY),
-    }
-}
-
-/// The text into a buffer, and its length.
-pub fn into(
-    ac: &AhoCorasick,
-    alloc: Global,
-    haystack: &[u8],
-    replacements: &[&[u8]],
-    out: &mut [u8],
-) -> Length
-    ensures { AnswersInto ac.now haystack.now replacements.now out.old out.new result }
-{
-    match replaced_by(ac, alloc, haystack, replacements) {
-        Err(status) => Length { len: 0, status },
-        Ok(text) => {
-            let len = text.len();
-            if len > out.len() {
-                return Length {
-                    len,
-                    status: TOO_SHORT,
-                };
-            }
-            out[..len].copy_from_slice(text.as_slice());
-            Length { len, status: OK }
-        }
     }
 }
 

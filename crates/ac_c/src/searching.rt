@@ -2,8 +2,8 @@
 //!
 //! The library's search takes a piece only once all matches of what came before were returned. It holds a match back until no byte
 //! that follows can change it, and the bytes that are still undecided. A caller passes on what lies before the cut.
-ghost use Rattle.std.specs.Prelude.{◌≡◌, IfErr, IfOk, Ok, OnOk};
-ghost use Rattle.ac_automaton.specs.Stream.{CanStreamAnyKind, IsAnyKindConfigRefusal, IsOnCourse, held_by};
+ghost use Rattle.std.specs.Prelude.{◌≡◌, IfErr, IfOk, Ok, OnOk, drop};
+ghost use Rattle.ac_automaton.specs.Stream.{CanStreamAnyKind, IsAnyKindConfigRefusal, IsOnCourse, read_by};
 ghost use Rattle.aho_corasick.specs.AhoCorasick.{MeansSame, as_built, supported_by};
 ghost use Rattle.ac_c.specs.Searching.{AreNext, IsGiven, IsPushed, IsRefusedSearch, IsSearchOfPieces, begun_by, finished_by, is_finished, view_of};
 
@@ -150,7 +150,7 @@ impl Searching {
 
     /// The bytes that are held.
     pub fn held(&self) -> &[u8]
-        ensures { result.now ≡ held_by self.now.search }
+        ensures { result.now ≡ drop self.now.search.from (read_by self.now.search) }
     {
         self.search.held()
     }

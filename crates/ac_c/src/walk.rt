@@ -8,7 +8,8 @@ ghost use Rattle.ac_c.specs.Find.{asked_by};
 use crate::find::{Bounds, input_of};
 use crate::found::Found;
 use crate::status::{BAD_CURSOR, NONE, OK, refused};
-use aho_corasick::{AhoCorasick, FindIter, FindIterAhead, Input, Match, Steps, WalkPlace};
+use crate::walking::Walking;
+use aho_corasick::{AhoCorasick, Input, Match, Steps, WalkPlace};
 
 /// Where a walk stands: what is left of its span, and where its last match ended, or the greatest number for none. A flag is 0 or
 /// else set.
@@ -108,48 +109,6 @@ fn step_by(
             let found = matches.next_counted(&mut steps);
             Ok((found, moved(cursor, matches.place())))
         }
-    }
-}
-
-/// What gives the matches of a walk: an iterator that reads ahead, or one that doesn't.
-trait Walking {
-    ghost use Rattle.ac_automaton.specs.Iter.{GivesPick, IsOnItsWay, IsPlaceIn, Walk, place_of};
-
-    /// The walk, where it stands.
-    ghost walk: { Self → Walk };
-
-    /// The next match.
-    fn next_match(&mut self, steps: &mut Steps) -> Option<Match>
-        ensures gives { GivesPick (walk self.old) result (walk self.new) }
-        ensures kept { IsOnItsWay (walk self.new) };
-
-    /// Where the walk stands.
-    fn stands(&self) -> WalkPlace
-        ensures value { result ≡ place_of (walk self.now) }
-        ensures within { IsPlaceIn (walk self.now).asked result };
-}
-
-impl<'a, 'h> Walking for FindIter<'a, 'h> {
-    ghost walk = { λ w. w };
-
-    fn next_match(&mut self, steps: &mut Steps) -> Option<Match> {
-        self.next_counted(steps)
-    }
-
-    fn stands(&self) -> WalkPlace {
-        self.place()
-    }
-}
-
-impl<'a, 'h> Walking for FindIterAhead<'a, 'h> {
-    ghost walk = { λ w. w };
-
-    fn next_match(&mut self, steps: &mut Steps) -> Option<Match> {
-        self.next_counted(steps)
-    }
-
-    fn stands(&self) -> WalkPlace {
-        self.place()
     }
 }
 

@@ -1,8 +1,9 @@
 -- What a set of bytes, the boundaries between classes of bytes, and the classes themselves are.
+pub mod Classes
 use Rattle.std.specs.Prelude.{◌≡◌, ◌≢◌, ℕ, zero, suc, ◌+◌, ◌^◌, ◌⊎◌, ◌<◌, ◌≤◌, nat_le, ◌==◌, ◌&&◌, ◌||◌, Bool, false, if◌then◌else◌, Option, None, Some, List, [], ◌∷◌, length, get_or, filter}
 use Rattle.std.specs.List.{range_with_len}
 
--- A table of 256 flags says which bytes are in a set: those whose flag is up.
+-- whether the byte is in the set, which is a table of 256 flags
 abbrev pub has : List Bool → ℕ → Bool
 has set byte = get_or set byte false
 
@@ -15,30 +16,27 @@ count_below set (suc n) = count_below set n + (if has set n then 1 else 0)
 unfoldable pub set_len : List Bool → ℕ
 set_len set = count_below set 256
 
--- a range, both of whose ends are in it, holds the byte
-abbrev pub is_within : ℕ → ℕ → ℕ → Bool
-is_within start end byte = nat_le start byte && nat_le byte end
-
 -- the range begins or ends between this byte and the next
 abbrev pub is_edge : ℕ → ℕ → ℕ → Bool
 is_edge start end byte = (byte == end) || (byte + 1 == start)
 
 -- the range holds just one of this byte and the next
 abbrev pub HoldsJustOne : ℕ → ℕ → ℕ → Type 0
-HoldsJustOne start end byte = is_within start end byte ≢ is_within start end (byte + 1)
+HoldsJustOne start end byte = (nat_le start byte && nat_le byte end) ≢ (nat_le start (byte + 1) && nat_le (byte + 1) end)
 
 -- the class of a byte in a table of classes
 abbrev pub class : List ℕ → ℕ → ℕ
 class classes byte = get_or classes byte 0
 
--- A table of classes: 256 bytes in order, each in the class of the one before it or in the next, from class 0 on.
+-- A table of classes has an entry for each of the 256 bytes. Byte 0 is in class 0, and each other byte is in the class of the byte
+-- before it or in the next class.
 pub record IsClasses (classes : List ℕ) : Type 0 where
   pub len : length classes ≡ 256
   pub first : class classes 0 ≡ 0
   pub next : (b : ℕ) → b < 255 → (class classes (b + 1) ≡ class classes b) ⊎ (class classes (b + 1) ≡ class classes b + 1)
 
--- The classes that boundaries make. The boundaries are the set of the bytes after which a class ends: the class of byte 0 is 0,
--- and a byte is in the class of the one before it where that is no boundary, else in the next.
+-- The classes that boundaries make. A boundary is a byte after which a class ends. Byte 0 is in class 0; any other byte is in the
+-- next class if the byte before it is a boundary, else in that byte's class.
 pub record AreClassesOf (boundaries : List Bool) (classes : List ℕ) : Type 0 where
   pub first : class classes 0 ≡ 0
   pub next : (b : ℕ) → b < 255 → class classes (b + 1) ≡ class classes b + (if has boundaries b then 1 else 0)
@@ -47,7 +45,7 @@ pub record AreClassesOf (boundaries : List Bool) (classes : List ℕ) : Type 0 w
 abbrev pub alphabet_len : List ℕ → ℕ
 alphabet_len classes = class classes 255 + 1
 
--- the least power of two that is at least n is two to this exponent
+-- the least exponent for which two to it is at least n
 pub record IsLeastExponent (n exponent : ℕ) : Type 0 where
   pub enough : n ≤ 2 ^ exponent
   pub least : (e : ℕ) → n ≤ 2 ^ e → exponent ≤ e
@@ -56,7 +54,7 @@ pub record IsLeastExponent (n exponent : ℕ) : Type 0 where
 abbrev pub IsLeastPowerOfTwo : ℕ → ℕ → Type 0
 IsLeastPowerOfTwo n power = (exponent : ℕ) × IsLeastExponent n exponent × (power ≡ 2 ^ exponent)
 
--- the bytes of a class among the next bytes from a place on, as many as are counted
+-- the bytes of class `wanted` among the `count` bytes from byte `at` on
 abbrev pub elements_from : List ℕ → ℕ → ℕ → ℕ → List ℕ
 elements_from classes wanted at count = filter (λ b. class classes b == wanted) (range_with_len at count)
 
@@ -64,17 +62,17 @@ elements_from classes wanted at count = filter (λ b. class classes b == wanted)
 unfoldable pub elements : List ℕ → ℕ → List ℕ
 elements classes wanted = elements_from classes wanted 0 256
 
--- the runs of rising bytes after an open run: each the first and the last of bytes that follow one another
+-- the runs of a rising list of bytes, after an open run from start to end; each run is given by its first and its last byte
 abbrev pub runs_behind : ℕ → ℕ → List ℕ → List (ℕ × ℕ)
 runs_behind start end [] = (start, end) ∷ []
 runs_behind start end (b ∷ bs) = if b == end + 1 then runs_behind start b bs else (start, end) ∷ runs_behind b b bs
 
--- the runs of rising bytes, each as long as can be: its first byte and its last, with every byte between them
+-- the runs of consecutive bytes in a rising list, each as long as possible, given by its first and its last byte
 abbrev pub runs : List ℕ → List (ℕ × ℕ)
 runs [] = []
 runs (b ∷ bs) = runs_behind b b bs
 
--- the runs of rising bytes, the first of which may be open
+-- the runs of a rising list of bytes, after an open run where there is one
 abbrev pub runs_from : Option (ℕ × ℕ) → List ℕ → List (ℕ × ℕ)
 runs_from None bs = runs bs
 runs_from (Some open_run) bs = runs_behind open_run.0 open_run.1 bs

@@ -17,14 +17,14 @@ start_of candidates.None = None
 start_of (candidates.Match o) = Some o.start
 start_of (candidates.PossibleStartOfMatch at) = Some at
 
--- what a prefilter is made for: searches by this dictionary; and the bytes that it scans for, none where it searches for whole
--- patterns
+-- what a prefilter is made for: the dictionary, and the bytes that it scans for; no bytes where it searches for whole patterns
 pub record Filter : Type 0 where
   pub dictionary : Dictionary
   pub needles : List ℕ
 
--- No occurrence that is whole in the span begins before the candidate, which lies in the span. A match is the result of the
--- search: of the leftmost kind, and with one pattern of every kind. Under standard it comes only with one pattern.
+-- What a prefilter may return. `None` means that nothing occurs. A possible start lies in the span, and no occurrence begins before
+-- it. A match is the best of the search under a leftmost kind, and under every kind where there is one pattern. Under standard a
+-- match is returned only where there is one pattern.
 abbrev pub IsCandidate : MatchKind → Search → Candidate → Type 0
 IsCandidate kind s candidates.None = (o : Occurrence) → ¬ Occurs s o
 IsCandidate kind s (candidates.Match m) = ((kind ≢ Standard) → IsBest kind s (Some m)) × ((kind ≡ Standard) → length s.patterns ≡ 1) × ((length s.patterns ≡ 1) → (any : MatchKind) → IsBest any s (Some m))
@@ -44,11 +44,11 @@ abbrev pub scan_len : Search → Option ℕ → ℕ
 scan_len s None = s.end - s.start
 scan_len s (Some found) = found + 1 - s.start
 
--- how far a byte that is scanned for may stand after the beginning of a pattern: where the last byte of 255 stands
+-- how far after a pattern's beginning a byte that is scanned for may stand: at most where the last of 255 bytes stands
 abbrev pub max_distance : ℕ
 max_distance = 254
 
--- the result of a scan for bytes: none where it found none, else a place at most that far before the byte that it found
+-- the result of a scan for bytes: `None` where it found none, else a place at most `max_distance` before the byte that it found
 abbrev pub IsNearFound : Option ℕ → Candidate → Type 0
 IsNearFound None c = c ≡ candidates.None
 IsNearFound (Some found) c = (at : ℕ) × (c ≡ candidates.PossibleStartOfMatch at) × (at ≤ found) × (found ≤ at + max_distance)
@@ -62,7 +62,7 @@ pub record IsScan (bytes : List ℕ) (s : Search) (places : ℕ) (c : Candidate)
   pub near : IsNearFound found c
   pub before_ends : (o : Occurrence) → Occurs s o → s.start + places ≤ o.end
 
--- how many places a prefilter scanned that gave this result: none, where it searches for whole patterns
+-- how many places a prefilter scanned to return this candidate: none where it searches for whole patterns
 abbrev pub IsScanned : List ℕ → Search → ℕ → Candidate → Type 0
 IsScanned [] s places c = places ≡ 0
 IsScanned (byte ∷ bytes) s places c = IsScan (byte ∷ bytes) s places c

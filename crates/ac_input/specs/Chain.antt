@@ -7,8 +7,9 @@ use Rattle.ac_input.specs.Occurrence.{Occurrence}
 abbrev pub Calls : Type 0 → Type 1
 Calls F = F → Occurrence → List ℕ → List ℕ → Option Bool → F → List ℕ → Type 0
 
--- The closure and the destination from a place of the text on, over the occurrences that are left. Before each one the bytes up to
--- it are appended, then the closure is called. At the end, or after the first false, the rest of the text is appended.
+-- How a replacement goes on from place `at` of the text, for the occurrences that are left. For each one the bytes before it are
+-- appended to the destination, then the closure is called. After the last one, or once the closure returns false, the rest of the
+-- text is appended.
 abbrev pub IsChain : {F : Type 0} → Calls F → List ℕ → ℕ → List Occurrence → F → List ℕ → F → List ℕ → Type 0
 IsChain Call x at [] f old last new = (last ≡ f) × (new ≡ old ++ drop at x)
 IsChain {F} Call x at (o ∷ os) f old last new =
@@ -16,7 +17,7 @@ IsChain {F} Call x at (o ∷ os) f old last new =
     × ((Call f o (slice_range x o.start o.end) (old ++ slice_range x at o.start) (Some true) mid answered × IsChain Call x o.end os mid answered last new)
     ⊎ (Call f o (slice_range x o.start o.end) (old ++ slice_range x at o.start) (Some false) mid answered × (last ≡ mid) × (new ≡ answered ++ drop o.end x)))
 
--- Where an error ended the chain: at an append, which then took nothing, or in a call of the closure.
+-- An error ended the chain: an append failed, and appended nothing, or a call of the closure failed.
 abbrev pub IsRefusedChain : {F : Type 0} → Calls F → List ℕ → ℕ → List Occurrence → F → List ℕ → F → List ℕ → Type 0
 IsRefusedChain Call x at [] f old last new = (last ≡ f) × (new ≡ old)
 IsRefusedChain {F} Call x at (o ∷ os) f old last new =

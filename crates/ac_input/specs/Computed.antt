@@ -1,4 +1,5 @@
--- The same as functions, which compute. The laws prove that each is the one value that meets its relation.
+-- The best, the pick, the walk and the listing as functions that compute them. The laws prove that each is the only value that
+-- meets its relation.
 use Rattle.std.specs.Prelude.{ℕ, zero, suc, ◌+◌, ◌-◌, ◌*◌, Bool, true, false, ◌&&◌, ◌==◌, nat_le, List, [], ◌∷◌, ◌++◌, length, Option, Some, None, if◌then◌else◌, slice_range, filter}
 use Rattle.std.specs.declared.cmp.Ordering.{Ordering}
 use Rattle.std.specs.declared.cmp.Ordering.TheVariants.{Less, Equal, Greater}
@@ -8,7 +9,7 @@ use Rattle.ac_input.specs.Same.{same_text}
 use Rattle.ac_input.specs.Occurrence.{Search, Occurrence, starting_at}
 use Rattle.ac_input.specs.Best.{preference}
 
--- the patterns that lie at a place, from this pattern number on
+-- the occurrences at a place of these patterns, which are numbered from n on
 abbrev pub at_place : Search → ℕ → List (List ℕ) → ℕ → List Occurrence
 at_place s at [] n = []
 at_place s at (p ∷ ps) n =
@@ -16,7 +17,7 @@ at_place s at (p ∷ ps) n =
     then record { pattern = n; start = at; end = at + length p } ∷ at_place s at ps (n + 1)
     else at_place s at ps (n + 1)
 
--- the same at each of some places, from a place on
+-- the occurrences that start at one of the next `places` places, from place `at` on
 abbrev pub from_place : Search → ℕ → ℕ → List Occurrence
 from_place s at zero = []
 from_place s at (suc places) = at_place s at s.patterns 0 ++ from_place s (at + 1) places
@@ -30,7 +31,7 @@ is_less Less = true
 is_less Equal = false
 is_less Greater = false
 
--- the least of some occurrences
+-- the one of some occurrences that the kind prefers
 abbrev pub least : MatchKind → List Occurrence → Option Occurrence
 least kind [] = None
 least kind (o ∷ os) = elim (least kind os) [ None ↦ Some o | Some b ↦ (if is_less (preference kind b o) then Some b else Some o) ]
@@ -52,7 +53,7 @@ abbrev pub walk_from : ℕ → MatchKind → Search → ℕ → Option ℕ → L
 walk_from zero kind s at last = []
 walk_from (suc turns) kind s at last = elim (pick_of kind s at last) [ None ↦ [] | Some o ↦ o ∷ walk_from turns kind s o.end (Some o.end) ]
 
--- The walk that stands at a place. Each pick but an empty one takes it further on, so two turns a place are enough.
+-- The walk that stands at a place. Each pick that isn't empty moves it on, so two turns a place are enough.
 abbrev pub walk_after : MatchKind → Search → ℕ → Option ℕ → List Occurrence
 walk_after kind s at last = walk_from (2 * (s.end + 1 - at) + 1) kind s at last
 
@@ -60,7 +61,7 @@ walk_after kind s at last = walk_from (2 * (s.end + 1 - at) + 1) kind s at last
 abbrev pub walk_of : MatchKind → Search → List Occurrence
 walk_of kind s = walk_after kind s s.start None
 
--- the occurrences that end at each of some places, from a place on
+-- the occurrences that end at one of the next `places` places, from place `at` on, by their ends
 abbrev pub to_place : Search → ℕ → ℕ → List Occurrence
 to_place s at zero = []
 to_place s at (suc places) = filter (λ o. o.end == at) (occurrences s) ++ to_place s (at + 1) places
@@ -69,11 +70,11 @@ to_place s at (suc places) = filter (λ o. o.end == at) (occurrences s) ++ to_pl
 abbrev pub listing_of : Search → List Occurrence
 listing_of s = to_place s s.start (s.end + 1 - s.start)
 
--- whether an occurrence comes after another one by end, start and number; every one does, where there is none before
+-- whether an occurrence comes after `before` by end, start and number; with no `before`, each one does
 abbrev pub is_after : Option Occurrence → Occurrence → Bool
 is_after None o = true
 is_after (Some before) o = is_less (preference Standard before o)
 
--- the part of the overlapping listing after a given occurrence; all of it where there is none before
+-- the part of the overlapping listing after a given occurrence; all of it where none is given
 abbrev pub listing_after : Search → Option Occurrence → List Occurrence
 listing_after s before = filter (is_after before) (listing_of s)

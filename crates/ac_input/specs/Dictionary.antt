@@ -12,7 +12,7 @@ pub record Dictionary : Type 0 where
   pub pairing : List ℕ
   pub kind : MatchKind
 
--- what an automaton of these patterns is made from
+-- the dictionary of these patterns, this pairing and this kind
 abbrev pub dictionary_of : List (List ℕ) → List ℕ → MatchKind → Dictionary
 dictionary_of patterns pairing kind = record { patterns = patterns; pairing = pairing; kind = kind }
 
@@ -20,28 +20,28 @@ dictionary_of patterns pairing kind = record { patterns = patterns; pairing = pa
 abbrev pub IsPattern : Dictionary → ℕ → List ℕ → Type 0
 IsPattern m n p = slice_get m.patterns n ≡ Some p
 
--- one text begins another, byte by byte the same
+-- one text is a prefix of another, where paired bytes count as the same
 abbrev pub Begins : List ℕ → List ℕ → List ℕ → Type 0
 Begins pairing front whole = (length front ≤ length whole) × IsTrue (same_text pairing front (take (length front) whole))
 
--- an earlier pattern is a proper prefix
+-- p is pattern n, and some earlier pattern is a proper prefix of it
 abbrev pub IsShadowed : Dictionary → ℕ → List ℕ → Type 0
 IsShadowed m n p = (earlier : ℕ) × (q : List ℕ) × (earlier < n) × IsPattern m earlier q × (length q < length p) × Begins m.pairing q p
 
--- The patterns that the trie has: all, but under leftmost-first those alone that no earlier pattern shadows.
+-- The trie has p, which is pattern n. It has all patterns, but under leftmost-first only those that no earlier one shadows.
 abbrev pub IsEntered : Dictionary → ℕ → List ℕ → Type 0
 IsEntered m n p = IsPattern m n p × (m.kind ≡ LeftmostFirst → ¬ IsShadowed m n p)
 
--- begins an entered pattern; the empty text always counts as beginning one
+-- the text is a prefix of an entered pattern; the empty text always counts as one
 abbrev pub BeginsEntered : Dictionary → List ℕ → Type 0
 BeginsEntered m [] = Unit {0}
 BeginsEntered m (b ∷ bs) = (n : ℕ) × (p : List ℕ) × IsEntered m n p × Begins m.pairing (b ∷ bs) p
 
--- the whole of a text, searched by the dictionary
+-- the search of a whole text for the patterns of a dictionary
 abbrev pub whole : Dictionary → List ℕ → Bool → Search
 whole m text anchored = record { patterns = m.patterns; pairing = m.pairing; haystack = text; start = 0; end = length text; anchored = anchored }
 
--- What is left of the text from a place on may still grow into the match.
+-- the text from a place on may still grow into the match
 pub record IsAlive (m : Dictionary) (anchored : Bool) (text : List ℕ) (from : ℕ) : Type 0 where
   pub within : from ≤ length text
   pub begins : BeginsEntered m (drop from text)

@@ -6,7 +6,8 @@ use Rattle.ac_input.specs.declared.search.Anchored.TheVariants.{No, Yes}
 use Rattle.ac_input.specs.Occurrence.{Search}
 use Rattle.ac_input.specs.Dictionary.{Dictionary}
 
--- a haystack, the span of it that is searched, whether a match starts where the span starts, and whether the first end will do
+-- an input: the haystack, the span that is searched, whether a match must start where the span does, and whether the earliest end
+-- is taken
 pub record Asked : Type 0 where
   pub haystack : List ℕ
   pub span : Span
@@ -26,7 +27,7 @@ abbrev pub is_anchored : Anchored → Bool
 is_anchored No = false
 is_anchored Yes = true
 
--- the search of a span, for what is in the dictionary
+-- the search of a span of a haystack for the patterns of a dictionary
 abbrev pub search_of : Dictionary → Anchored → List ℕ → Span → Search
 search_of m anchored haystack span =
     record {
@@ -37,7 +38,3 @@ search_of m anchored haystack span =
       end = span.end;
       anchored = is_anchored anchored;
     }
-
--- the search that an input describes
-abbrev pub search_in : Dictionary → Asked → Search
-search_in m asked = search_of m asked.anchored asked.haystack asked.span

@@ -1,4 +1,7 @@
 -- The laws: what holds of the definitions, whatever the patterns and the text. Most ask that the span lies within the haystack.
+pub mod BeginningLaws
+pub mod LiveLaws
+pub mod Utf8Laws
 use Rattle.std.specs.Prelude.{◌≡◌, ◌≢◌, ◌↔◌, ℕ, ◌<◌, ◌≤◌, false, List, [], ◌∷◌, ◌++◌, length, Contains, Option, None}
 use Rattle.std.specs.declared.cmp.Ordering.TheVariants.{Greater}
 use Rattle.ac_input.specs.declared.search.MatchKind.{MatchKind}
@@ -11,30 +14,30 @@ use Rattle.ac_input.specs.Text.{replaced_from, listed}
 use Rattle.ac_input.specs.Rules.{FirstBadLine, FirstBadTextLine, IsRuleFile, IsTextRuleFile, Rule}
 use Rattle.ac_input.specs.Computed.{best_of, pick_of, walk_after, walk_of}
 
--- Each begins where the one before it ended or later, and later than that one began; none is empty exactly where the one before it
--- ended.
+-- Each occurrence starts where the one before it ended or later, and later than that one started. None is empty at the very place
+-- where the one before it ended.
 abbrev pub IsApart : List Occurrence → Type 0
 IsApart [] = Unit {0}
 IsApart (p ∷ []) = Unit {0}
 IsApart (p ∷ q ∷ os) = (p.end ≤ q.start) × (p.start < q.start) × (¬ ((q.start ≡ p.end) × (q.end ≡ p.end))) × IsApart (q ∷ os)
 
--- The span ends within the haystack. Past the haystack's end, one text could have many ends, and an occurrence many doubles.
+-- The span ends within the haystack. Otherwise an occurrence could be given with several ends.
 abbrev pub IsInside : Search → Type 0
 IsInside s = s.end ≤ length s.haystack
 
--- of two occurrences of one search each kind prefers one
+-- of two different occurrences of a search, each kind prefers one
 abbrev pub PreferenceTellsApart : Type 0
 PreferenceTellsApart = (kind : MatchKind) (s : Search) (a b : Occurrence) → IsInside s → Occurs s a → Occurs s b → preference kind a b ≢ Greater → preference kind b a ≢ Greater → a ≡ b
 
--- the best is one, and the computed one
+-- a search has exactly one best, the computed one
 abbrev pub BestIsOne : Type 0
 BestIsOne = (kind : MatchKind) (s : Search) (r : Option Occurrence) → IsInside s → IsBest kind s r ↔ (r ≡ best_of kind s)
 
--- the next pick is one, and the computed one
+-- a walk has exactly one next pick, the computed one
 abbrev pub PickIsOne : Type 0
 PickIsOne = (kind : MatchKind) (s : Search) (at : ℕ) (last : Option ℕ) (r : Option Occurrence) → IsInside s → IsPick kind s at last r ↔ (r ≡ pick_of kind s at last)
 
--- the walk from a place is one, and the computed one
+-- there is exactly one walk from a place, the computed one
 abbrev pub WalkIsOne : Type 0
 WalkIsOne = (kind : MatchKind) (s : Search) (at : ℕ) (last : Option ℕ) (os : List Occurrence) → IsInside s → IsWalk kind s at last os ↔ (os ≡ walk_after kind s at last)
 
@@ -42,11 +45,11 @@ WalkIsOne = (kind : MatchKind) (s : Search) (at : ℕ) (last : Option ℕ) (os :
 abbrev pub WalkIsApart : Type 0
 WalkIsApart = (kind : MatchKind) (s : Search) (at : ℕ) (last : Option ℕ) (os : List Occurrence) → IsInside s → IsWalk kind s at last os → IsApart os
 
--- each pick lies within the span, from the place of the walk on
+-- each pick lies in the span, and starts at or after the place where the walk stands
 abbrev pub WalkLiesWithin : Type 0
 WalkLiesWithin = (kind : MatchKind) (s : Search) (at : ℕ) (last : Option ℕ) (os : List Occurrence) (o : Occurrence) → IsWalk kind s at last os → Contains os o → (at ≤ o.start) × (o.start ≤ o.end) × (o.end ≤ s.end)
 
--- each pick of a search that isn't anchored occurs in it, from the place of the walk on
+-- each pick of an unanchored walk is an occurrence of the search from the place where the walk stands
 abbrev pub WalkOccurs : Type 0
 WalkOccurs = (kind : MatchKind) (s : Search) (at : ℕ) (last : Option ℕ) (os : List Occurrence) (o : Occurrence) → s.anchored ≡ false → IsWalk kind s at last os → Contains os o → Occurs (starting_at s at) o
 
@@ -90,7 +93,7 @@ TextRulesAreOne =
     × ((text : List ℕ) (one other : ℕ) → FirstBadTextLine text one → FirstBadTextLine text other → one ≡ other)
     × ((text : List ℕ) (n : ℕ) (rules : List Rule) → IsTextRuleFile text rules → ¬ FirstBadTextLine text n)
 
--- Pairings that pair nothing search alike: the best is the same, and so are the walks.
+-- Two pairings that pair nothing give the same best and the same walks.
 abbrev pub UnpairedSearchAlike : Type 0
 UnpairedSearchAlike =
     (kind : MatchKind) (s : Search) (one another : List ℕ) → IsUnpaired one → IsUnpaired another

@@ -14,9 +14,6 @@ pub mod Chain
 pub mod Rules
 pub mod Computed
 pub mod Laws
-pub mod BeginningLaws
-pub mod Utf8Laws
-pub mod LiveLaws
 pub mod Limits
 pub mod States
 pub mod Opening
@@ -25,6 +22,5 @@ pub mod Steps
 pub mod Input
 pub mod Alphabet
 pub mod Work
-pub mod Classes
 pub mod Dfa
 pub mod Unused

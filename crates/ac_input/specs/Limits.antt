@@ -2,7 +2,7 @@
 use Rattle.std.specs.Prelude.{◌≡◌, ◌≢◌, ◌↔◌, ℕ, ◌+◌, ◌<◌, ◌≤◌, List, [], ◌∷◌, ◌++◌, length, take, map, AllPairs, Contains}
 use Rattle.ac_input.specs.Number.{greatest_number}
 use Rattle.ac_input.specs.Dictionary.{Dictionary, IsPattern, IsEntered}
-use Rattle.ac_input.specs.LiveLaws.{canonical}
+use Rattle.ac_input.specs.Laws.LiveLaws.{canonical}
 
 -- the dictionary of the first n patterns
 abbrev pub first_patterns : Dictionary → ℕ → Dictionary
@@ -21,11 +21,11 @@ pub record IsPrefix (m : Dictionary) (text : List ℕ) : Type 0 where
   pub some : 0 < length text
   pub entered : (n : ℕ) × (p : List ℕ) × IsEntered m n p × (length text ≤ length p) × (text ≡ take (length text) (canonical_text m p))
 
--- how many states stand for none of these prefixes: the dead state, the fail state and the two starts
+-- how many states stand for no prefix of a pattern: the dead state, the fail state and the two start states
 abbrev pub fixed_states : ℕ
 fixed_states = 4
 
--- how many states an automaton has: those, and one for each of these prefixes
+-- how many states an automaton has: the fixed ones, and one for each non-empty prefix of an entered pattern
 abbrev pub HasStates : Dictionary → ℕ → Type 0
 HasStates m states = (texts : List (List ℕ)) × AllPairs (λ s t. s ≢ t) texts × ((text : List ℕ) → Contains texts text ↔ IsPrefix m text) × (states ≡ length texts + fixed_states)
 
@@ -48,15 +48,11 @@ Passes m p PatternNumber = greatest_number < length m.patterns
 Passes m p PatternLength = (length m.patterns ≤ greatest_number) × (greatest_number < length p)
 Passes m p StateNumber = (length m.patterns ≤ greatest_number) × (length p ≤ greatest_number) × ((states : ℕ) × HasStates (with_pattern m p) states × (greatest_number + 1 < states))
 
--- the pattern of this number passes the limit, and none before it passes one
+-- pattern n passes the limit, and no pattern before it passes one
 pub record IsLimitAt (m : Dictionary) (n : ℕ) (limit : Limit) : Type 0 where
   pub before : IsWithinLimits (first_patterns m n)
   pub passed : (p : List ℕ) × IsPattern m n p × Passes (first_patterns m n) p limit
 
--- The limit that a dictionary passes is that of its first pattern that passes one.
-abbrev pub IsLimitOf : Dictionary → Limit → Type 0
-IsLimitOf m limit = (n : ℕ) × IsLimitAt m n limit
-
--- a pattern with which no limit is passed passes none
+-- a pattern passes no limit if the dictionary with it is within all limits
 abbrev pub WithinPassesNone : Type 0
 WithinPassesNone = (m : Dictionary) (p : List ℕ) (limit : Limit) → IsWithinLimits (with_pattern m p) → ¬ Passes m p limit

@@ -5,13 +5,13 @@ use Rattle.ac_input.specs.declared.search.MatchKind.TheVariants.{Standard}
 use Rattle.ac_input.specs.Occurrence.{Search, Occurrence, Occurs}
 use Rattle.ac_input.specs.Best.{preference}
 
--- each before the next, by end, start and number
+-- each occurrence comes before the next by end, start and number
 abbrev pub IsRising : List Occurrence → Type 0
 IsRising [] = Unit {0}
 IsRising (o ∷ []) = Unit {0}
 IsRising (o ∷ q ∷ os) = (preference Standard o q ≡ Less) × IsRising (q ∷ os)
 
--- exactly the occurrences of which a fact holds, by end, start and number, each once
+-- the list has exactly the occurrences of which P holds, each once, by end, start and number
 abbrev pub ListsAll : (Occurrence → Type 0) → List Occurrence → Type 0
 ListsAll P os = IsRising os × ((o : Occurrence) → Contains os o ↔ P o)
 

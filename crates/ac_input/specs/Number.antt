@@ -9,6 +9,6 @@ greatest_number = 2147483646
 abbrev pub StateID : Type 0
 StateID = ℕ
 
--- the number is made exactly where it is at most the greatest; otherwise the error keeps it
+-- the number is made exactly if it is at most the greatest; otherwise the error holds it
 abbrev pub IsTried : ℕ → Result ℕ ℕ → Type 0
 IsTried number result = (IsOk result ↔ (number ≤ greatest_number)) × IfOk result (λ made. made ≡ number) × IfErr result (λ error. error ≡ number)

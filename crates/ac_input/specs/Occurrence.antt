@@ -23,7 +23,7 @@ pub record Occurs (s : Search) (o : Occurrence) : Type 0 where
   pub same : (p : List ℕ) × (slice_get s.patterns o.pattern ≡ Some p) × IsTrue (same_text s.pairing p (slice_range s.haystack o.start o.end))
   pub anchor : IsTrue s.anchored → o.start ≡ s.start
 
--- the same search from another place on
+-- the same search, with a span that starts at another place
 abbrev pub starting_at : Search → ℕ → Search
 starting_at s at = record s { start = at }
 

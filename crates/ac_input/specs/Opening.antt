@@ -1,16 +1,12 @@
 -- Where a pattern may begin, by its first bytes alone.
-use Rattle.std.specs.Prelude.{ℕ, ◌<◌, ◌≤◌, List, length, drop, take, IsTrue}
+use Rattle.std.specs.Prelude.{ℕ, List, drop, take, IsTrue}
 use Rattle.ac_input.specs.Same.{same_text}
 use Rattle.ac_input.specs.Dictionary.{Dictionary, IsPattern}
-
--- no pattern has fewer bytes
-abbrev pub NoneIsShorter : Dictionary → ℕ → Type 0
-NoneIsShorter m len = (n : ℕ) (p : List ℕ) → IsPattern m n p → len ≤ length p
 
 -- the text has, at a place, the first `len` bytes of some pattern
 abbrev pub IsOpening : Dictionary → ℕ → List ℕ → ℕ → Type 0
 IsOpening m len text at = (n : ℕ) × (p : List ℕ) × IsPattern m n p × IsTrue (same_text m.pairing (take len p) (take len (drop at text)))
 
--- the text has them at no place
+-- no place of the text has the first `len` bytes of a pattern
 abbrev pub HasNoOpening : Dictionary → ℕ → List ℕ → Type 0
 HasNoOpening m len text = (at : ℕ) → ¬ IsOpening m len text at

@@ -20,7 +20,7 @@ abbrev pub partner : List (ℕ × ℕ) → ℕ → ℕ
 partner [] byte = byte
 partner (pair ∷ pairs) byte = if pair.0 == byte then pair.1 else (if pair.1 == byte then pair.0 else partner pairs byte)
 
--- nothing stands twice
+-- no element stands twice
 abbrev pub IsDistinct : {X : Type 0} → List X → Type 0
 IsDistinct [] = Unit {0}
 IsDistinct (x ∷ xs) = (¬ Contains xs x) × IsDistinct xs
@@ -33,7 +33,7 @@ IsFirstTwice bytes twice = (front more : List ℕ) × (bytes ≡ front ++ twice 
 abbrev pub other_case : ℕ → ℕ
 other_case byte = if nat_lt 64 byte && nat_lt byte 91 then byte + 32 else (if nat_lt 96 byte && nat_lt byte 123 then byte - 32 else byte)
 
--- with case folded the ASCII letters are paired, and without it nothing is
+-- with case folding the two cases of each ASCII letter are paired; without it no byte is
 abbrev pub IsFolded : Bool → List ℕ → Type 0
 IsFolded true pairing = (byte : ℕ) → other pairing byte ≡ other_case byte
 IsFolded false pairing = IsUnpaired pairing

@@ -5,7 +5,7 @@ use Rattle.std.specs.Prelude.{◌≡◌, ◌≢◌, ℕ, ◌+◌, ◌*◌, ◌<�
 abbrev pub IsDigit : ℕ → ℕ → Type 0
 IsDigit c v = ((v < 10) × (c ≡ 48 + v)) ⊎ ((10 ≤ v) × (v < 16) × ((c ≡ 55 + v) ⊎ (c ≡ 87 + v)))
 
--- two digits a byte, the high half first
+-- the text spells the bytes, each by two hex digits, the high half first
 abbrev pub Spells : List ℕ → List ℕ → Type 0
 Spells [] [] = Unit {0}
 Spells (h ∷ l ∷ text) (byte ∷ bytes) = (high low : ℕ) × IsDigit h high × IsDigit l low × (byte ≡ 16 * high + low) × Spells text bytes
@@ -28,21 +28,21 @@ abbrev pub IsRuleFile : List ℕ → List Rule → Type 0
 IsRuleFile text [] = text ≡ []
 IsRuleFile text (rule ∷ rules) = (more : List ℕ) × BeginsWithRule text rule more × IsRuleFile more rules
 
--- The number of the first line that is no rule, counted from 1: rules up to it, and then a rest that begins with none.
+-- the number of the first line that is no rule, counted from 1; all lines before it are rules
 abbrev pub FirstBadLine : List ℕ → ℕ → Type 0
 FirstBadLine text n = (front more : List ℕ) × (rules : List Rule) × (text ≡ front ++ more) × IsRuleFile front rules × (n ≡ length rules + 1) × (more ≢ []) × BeginsWithNoRule more
 
 -- ---- plain text: a line is `pattern TAB replacement`, or a pattern alone
 
--- The text begins with a line that is written so, and goes on with the rest. LF ends a line, or the end of the text does.
+-- The text begins with a line whose bytes are `written`, and `more` follows it. A line ends at an LF, or at the end of the text.
 abbrev pub BeginsWithWritten : List ℕ → List ℕ → List ℕ → Type 0
 BeginsWithWritten text written more = ¬ Contains written 10 × ((text ≡ written ++ 10 ∷ more) ⊎ ((text ≡ written) × (more ≡ [])))
 
--- the line is what is written, but for one CR at its end
+-- the line is the written bytes without a CR at their end
 abbrev pub IsWrittenAs : List ℕ → List ℕ → Type 0
 IsWrittenAs line written = (written ≡ line ++ 13 ∷ []) ⊎ ((written ≡ line) × ((front : List ℕ) → written ≢ front ++ 13 ∷ []))
 
--- The sides of a line: what stands before its first TAB, and what after it; with no TAB, the line and nothing.
+-- The sides of a line: the bytes before its first TAB, and those after it. With no TAB they are the whole line, and nothing.
 abbrev pub AreSidesOf : List ℕ → Rule → Type 0
 AreSidesOf line rule = ¬ Contains rule.0 9 × ((line ≡ rule.0 ++ 9 ∷ rule.1) ⊎ ((line ≡ rule.0) × (rule.1 ≡ [])))
 
@@ -54,7 +54,7 @@ BeginsWithTextRule text rule more = (written line : List ℕ) × BeginsWithWritt
 abbrev pub BeginsWithNoTextRule : List ℕ → Type 0
 BeginsWithNoTextRule text = (rule : Rule) (more : List ℕ) → ¬ BeginsWithTextRule text rule more
 
--- rules one after another: each begins what the one before it left, and the last leaves this
+-- the text begins with these rules, one after another, and `more` follows the last
 abbrev pub BeginsWithAll : (List ℕ → Rule → List ℕ → Type 0) → List ℕ → List Rule → List ℕ → Type 0
 BeginsWithAll begins text [] more = text ≡ more
 BeginsWithAll begins text (rule ∷ rules) more = (rest : List ℕ) × begins text rule rest × BeginsWithAll begins rest rules more
@@ -63,6 +63,6 @@ BeginsWithAll begins text (rule ∷ rules) more = (rest : List ℕ) × begins te
 abbrev pub IsTextRuleFile : List ℕ → List Rule → Type 0
 IsTextRuleFile text rules = BeginsWithAll BeginsWithTextRule text rules []
 
--- The number of the first line of plain text that is no rule, counted from 1: rules up to it, and then a rest that begins with none.
+-- the number of the first line of plain text that is no rule, counted from 1; all lines before it are rules
 abbrev pub FirstBadTextLine : List ℕ → ℕ → Type 0
 FirstBadTextLine text n = (rules : List Rule) × (more : List ℕ) × BeginsWithAll BeginsWithTextRule text rules more × (n ≡ length rules + 1) × (more ≢ []) × BeginsWithNoTextRule more

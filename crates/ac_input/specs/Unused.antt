@@ -1,4 +1,4 @@
--- Bytes that no pattern has. No occurrence covers such a byte, so a search splits after it.
+-- Bytes that no pattern has. No occurrence covers one of them, so a search splits after it.
 use Rattle.std.specs.Prelude.{◌≡◌, ℕ, ◌+◌, ◌≤◌, false, List, ◌++◌, Contains, Option, Some, IsTrue, slice_get, slice_index}
 use Rattle.ac_input.specs.declared.search.MatchKind.{MatchKind}
 use Rattle.ac_input.specs.Same.{same}
@@ -11,20 +11,16 @@ use Rattle.ac_input.specs.Work.{shortest}
 abbrev pub IsAfterUnused : Search → ℕ → Type 0
 IsAfterUnused s place = (before : ℕ) × (before + 1 ≡ place) × ((n : ℕ) (p : List ℕ) (c : ℕ) → slice_get s.patterns n ≡ Some p → Contains p c → ¬ IsTrue (same s.pairing c (slice_index s.haystack before)))
 
--- the same search up to another place
-abbrev pub ending_by : Search → ℕ → Search
-ending_by s place = record s { end = place }
-
--- Whatever the kind, a walk is that of the part before an unused byte, followed by that of the part after it.
+-- Whatever the kind, a walk is the walk of the part through an unused byte, followed by the walk of the part after it.
 abbrev pub WalkSplitsAfterUnused : Type 0
 WalkSplitsAfterUnused =
     (kind : MatchKind) (s : Search) (at place : ℕ) (last next : Option ℕ) → IsInside s → s.anchored ≡ false → 1 ≤ shortest s.patterns
     → at ≤ place → place ≤ s.end → IsAfterUnused s place
-    → walk_after kind s at last ≡ walk_after kind (ending_by s place) at last ++ walk_after kind s place next
+    → walk_after kind s at last ≡ walk_after kind (record s { end = place }) at last ++ walk_after kind s place next
 
--- The overlapping listing is that of the part before an unused byte, followed by that of the part after it.
+-- The overlapping listing is that of the part through an unused byte, followed by that of the part after it.
 abbrev pub ListingSplitsAfterUnused : Type 0
 ListingSplitsAfterUnused =
     (s : Search) (place : ℕ) → IsInside s → s.anchored ≡ false → 1 ≤ shortest s.patterns
     → s.start ≤ place → place ≤ s.end → IsAfterUnused s place
-    → listing_of s ≡ listing_of (ending_by s place) ++ listing_of (starting_at s place)
+    → listing_of s ≡ listing_of (record s { end = place }) ++ listing_of (starting_at s place)

@@ -4,7 +4,7 @@ use Rattle.ac_input.specs.declared.search.MatchKind.{MatchKind}
 use Rattle.ac_input.specs.Occurrence.{Search, Occurrence, starting_at}
 use Rattle.ac_input.specs.Best.{IsBest}
 
--- empty, and ends where the pick before it ended
+-- the occurrence is empty, and ends where the pick before it ended
 abbrev pub Repeats : Option ℕ → Option Occurrence → Type 0
 Repeats None r = ⊥
 Repeats (Some last) None = ⊥

@@ -5,21 +5,20 @@ use Rattle.ac_input.specs.declared.search.MatchKind.TheVariants.{Standard}
 use Rattle.ac_input.specs.declared.steps.Steps.{Steps}
 use Rattle.ac_input.specs.Candidate.{Filter}
 use Rattle.ac_input.specs.Occurrence.{Search, Occurrence}
-use Rattle.ac_input.specs.Steps.{looked_of, scanned_of, moved_of}
 
 -- How many states are looked at per byte, amortised: one by a deterministic automaton, which has followed every failure
 -- beforehand; two by another.
 abbrev pub lookups_per_byte : Bool → ℕ
 lookups_per_byte deterministic = if deterministic then 1 else 2
 
--- This many more bytes were read. At least one state was looked at for each of them, and in total at most two for each byte read,
--- plus one for each byte that was live before, less those that are live after; exactly one for each by a deterministic automaton.
+-- The looks of a search that read this many more bytes. There is at least one for each byte. There are at most two for each, plus
+-- the bytes that were live before, less those that are live after. A deterministic automaton takes exactly one for each.
 pub record IsLookups (deterministic : Bool) (bytes live_before live_after : ℕ) (before after : Steps) : Type 0 where
-  pub some : looked_of before + bytes ≤ looked_of after
-  pub bound : looked_of after + live_after ≤ looked_of before + 2 * bytes + live_before
-  pub one : IsTrue deterministic → looked_of after ≡ looked_of before + bytes
-  pub scanned : scanned_of after ≡ scanned_of before
-  pub moved : moved_of after ≡ moved_of before
+  pub some : before.looked.value + bytes ≤ after.looked.value
+  pub bound : after.looked.value + live_after ≤ before.looked.value + 2 * bytes + live_before
+  pub one : IsTrue deterministic → after.looked.value ≡ before.looked.value + bytes
+  pub scanned : after.scanned.value ≡ before.scanned.value
+  pub moved : after.moved.value ≡ before.moved.value
 
 -- the length of the longest pattern; 0 where there is none
 abbrev pub longest : List (List ℕ) → ℕ
@@ -36,14 +35,15 @@ abbrev pub over_at : Search → Option Occurrence → ℕ
 over_at s None = s.end
 over_at s (Some o) = o.end
 
--- What a find with this result may cost. Its looks are linear in the span. Under the standard preference they end with the match,
--- under a leftmost one at most the longest pattern and one byte after its start. Its scans for bytes never pass the match.
+-- What a find with this result may cost. Its looks are linear in the span. Under standard they end with the match; under a leftmost
+-- kind they go at most the longest pattern and one byte past the match's start. Its scans cover at most 256 places for each byte up
+-- to the match's end.
 pub record IsFindWork (kind : MatchKind) (deterministic : Bool) (s : Search) (r : Option Occurrence) (before after : Steps) : Type 0 where
-  pub looked : looked_of after ≤ looked_of before + lookups_per_byte deterministic * (s.end - s.start)
-  pub standard : kind ≡ Standard → looked_of after ≤ looked_of before + lookups_per_byte deterministic * (over_at s r - s.start)
-  pub leftmost : (o : Occurrence) → r ≡ Some o → looked_of after ≤ looked_of before + lookups_per_byte deterministic * (o.start + longest s.patterns + 1 - s.start)
-  pub scanned : scanned_of after ≤ scanned_of before + 256 * (over_at s r - s.start)
-  pub moved : moved_of after ≡ moved_of before
+  pub looked : after.looked.value ≤ before.looked.value + lookups_per_byte deterministic * (s.end - s.start)
+  pub standard : kind ≡ Standard → after.looked.value ≤ before.looked.value + lookups_per_byte deterministic * (over_at s r - s.start)
+  pub leftmost : (o : Occurrence) → r ≡ Some o → after.looked.value ≤ before.looked.value + lookups_per_byte deterministic * (o.start + longest s.patterns + 1 - s.start)
+  pub scanned : after.scanned.value ≤ before.scanned.value + 256 * (over_at s r - s.start)
+  pub moved : after.moved.value ≡ before.moved.value
 
 -- how far a search with this result has come at least: to the match's end, or to the span's where there is none; but an anchored
 -- one without a match may be over at any place
@@ -51,8 +51,8 @@ abbrev pub come_at_least : Search → Option Occurrence → ℕ
 come_at_least s None = if s.anchored then s.start else s.end
 come_at_least s (Some o) = o.end
 
--- Each byte that a search passes is counted: without a prefilter as a look, with one that scans for bytes as a look or a scanned
--- place. A prefilter that searches for whole patterns counts nothing.
+-- The search counts each byte that it passes: without a prefilter as a look, with one that scans for bytes as a look or a scanned
+-- place. With a prefilter that searches for whole patterns, it doesn't.
 abbrev pub CountsBytes : Option Filter → Type 0
 CountsBytes filter = IfSome filter (λ f. f.needles ≢ [])
 
@@ -61,6 +61,6 @@ abbrev pub bytes_counted : Option Filter → ℕ → ℕ → ℕ
 bytes_counted None looks places = looks
 bytes_counted (Some f) looks places = looks + places
 
--- at least so many bytes were counted
+-- at least this many bytes were counted
 pub record HasCounted (filter : Option Filter) (bytes : ℕ) (before after : Steps) : Type 0 where
-  pub least : CountsBytes filter → bytes_counted filter (looked_of before) (scanned_of before) + bytes ≤ bytes_counted filter (looked_of after) (scanned_of after)
+  pub least : CountsBytes filter → bytes_counted filter before.looked.value before.scanned.value + bytes ≤ bytes_counted filter after.looked.value after.scanned.value

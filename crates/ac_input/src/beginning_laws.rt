@@ -3,7 +3,7 @@
 //! They compare what a search of the beginning finds with what a search of the whole text finds. Under standard it stays, and the
 //! text up to a cut can be written out before the rest is read. These functions do nothing: each states one law as its contract,
 //! and checking it proves the law. A caller who needs the law calls the function, at no cost.
-ghost use Rattle.ac_input.specs.BeginningLaws.{BeginningHasWhatEndsInIt, PickOfBeginningStays, WalkOfBeginningBegins, ListOfBeginningBegins, ListingOfBeginningBegins, OverlappingListOfBeginningBegins, FrontOfCutIsFinal, EarliestIsStandard};
+ghost use Rattle.ac_input.specs.Laws.BeginningLaws.{BeginningHasWhatEndsInIt, PickOfBeginningStays, WalkOfBeginningBegins, ListOfBeginningBegins, ListingOfBeginningBegins, OverlappingListOfBeginningBegins, FrontOfCutIsFinal, EarliestIsStandard};
 
 /// An occurrence that ends within the beginning of a haystack occurs in the whole exactly where it occurs in the beginning.
 pub fn beginning_has_what_ends_in_it()

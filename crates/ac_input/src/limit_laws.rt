@@ -4,9 +4,9 @@
 //! many states it has, and whether one more pattern passes a limit.
 //!
 //! These functions do nothing. Each states one law as its contract; a caller who needs the law calls the function, at no cost.
-ghost use Rattle.ac_input.specs.Classes.{AlphabetsAreOneNumber};
+ghost use Rattle.ac_input.specs.Alphabet.Classes.{AlphabetsAreOneNumber};
 ghost use Rattle.ac_input.specs.Dfa.{DfaSizesAreOneNumber};
-ghost use Rattle.ac_input.specs.Limits.{WithinPassesNone, HasStates, IsWithinLimits, Limit, IsLimitOf};
+ghost use Rattle.ac_input.specs.Limits.{WithinPassesNone, HasStates, IsWithinLimits, Limit, IsLimitAt};
 ghost use Rattle.std.specs.Prelude.{◌≡◌, ℕ};
 ghost use Rattle.ac_input.specs.Dictionary.{Dictionary};
 
@@ -22,7 +22,7 @@ pub fn within_passes_none()
 
 /// A dictionary that is within the limits passes none of them.
 pub fn within_has_no_limit()
-    ensures { (m : Dictionary) (limit : Limit) → IsWithinLimits m → ¬ IsLimitOf m limit }
+    ensures { (m : Dictionary) (limit : Limit) → IsWithinLimits m → ¬ ((n : ℕ) × IsLimitAt m n limit) }
 {}
 
 /// The patterns, the pairing and the kind determine how many classes of bytes there are.

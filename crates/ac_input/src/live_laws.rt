@@ -7,7 +7,7 @@
 //! before.
 //!
 //! These functions do nothing. Each states one law as its contract; a caller who needs the law calls the function, at no cost.
-ghost use Rattle.ac_input.specs.LiveLaws.{DeadStaysDead, DeadIsFinal};
+ghost use Rattle.ac_input.specs.Laws.LiveLaws.{DeadStaysDead, DeadIsFinal};
 
 /// A dead text stays dead, whatever follows.
 pub fn dead_stays_dead()

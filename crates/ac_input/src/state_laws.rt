@@ -4,7 +4,7 @@
 //! list of patterns unchanged, so the list's length must be a number that fits.
 //!
 //! These functions do nothing. Each states one law as its contract; a caller who needs the law calls the function, at no cost.
-ghost use Rattle.ac_input.specs.Classes.{EachLeadsAlike};
+ghost use Rattle.ac_input.specs.Alphabet.Classes.{EachLeadsAlike};
 ghost use Rattle.ac_input.specs.Failure.{IsList, AreOnce};
 ghost use Rattle.std.specs.Prelude.{ℕ, List};
 ghost use Rattle.ac_input.specs.Dictionary.{Dictionary};

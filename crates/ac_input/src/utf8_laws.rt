@@ -4,7 +4,7 @@
 //! [`Span::of_text`](crate::search::Span::of_text).
 //!
 //! These functions do nothing. Each states one law as its contract; a caller who needs the law calls the function, at no cost.
-ghost use Rattle.ac_input.specs.Utf8Laws.{TextOccursBetweenChars, KeepsChars};
+ghost use Rattle.ac_input.specs.Laws.Utf8Laws.{TextOccursBetweenChars, KeepsChars};
 ghost use Rattle.std.specs.Prelude.{ℕ, Bool, List};
 ghost use Rattle.ac_input.specs.Pairing.{IsFolded};
 

@@ -6,14 +6,5 @@ pub use Rattle.ac_input.specs.Candidate
 pub use Rattle.ac_input.specs.Best
 pub use Rattle.ac_input.specs.Computed
 pub mod Packed
-pub mod RabinKarp
-pub mod Teddy
-pub mod Fingerprints
-pub mod Marks
 pub mod Openings
-pub mod Scanner
-pub mod Needles
-pub mod Strategy
-pub mod RareBytes
 pub mod Prefilter
-pub mod Builder

@@ -1,4 +1,7 @@
 -- Packed search: the models of a builder and a searcher, and their results.
+pub mod RabinKarp
+pub mod Scanner
+pub mod Teddy
 use Rattle.std.specs.Prelude.{◌≡◌, ℕ, ◌<◌, ◌≤◌, Bool, true, false, ◌||◌, ◌==◌, List, [], ◌∷◌, ◌++◌, length, Option, Some, None, map, take, get_or, if◌then◌else◌}
 use Rattle.std.specs.Borrow.{Bor}
 use Rattle.ac_input.specs.declared.search.MatchKind as search
@@ -10,18 +13,18 @@ use Rattle.ac_input.specs.Occurrence.{Search, Occurrence}
 use Rattle.ac_input.specs.Best.{IsBest}
 use Rattle.ac_input.specs.Computed.{walk_of}
 
--- the same kind, under the name that the definitions of a search use
+-- this kind, under the name that the definitions of a search use
 abbrev pub search_kind : MatchKind → search.MatchKind
 search_kind LeftmostFirst = searches.LeftmostFirst
 search_kind LeftmostLongest = searches.LeftmostLongest
 
--- what a builder has so far: an inert one lost its patterns, and takes no more
+-- what a builder has so far; an inert one has dropped its patterns, and takes no more
 pub record Building : Type 0 where
   pub kind : MatchKind
   pub patterns : List (List ℕ)
   pub inert : Bool
 
--- a builder of a kind that has nothing yet
+-- a builder of this kind that has no pattern yet
 abbrev pub fresh : MatchKind → Building
 fresh kind = record { kind = kind; patterns = []; inert = false }
 
@@ -44,35 +47,31 @@ abbrev pub added_all : Building → List (List ℕ) → Building
 added_all b [] = b
 added_all b (pattern ∷ patterns) = added_all (added b pattern) patterns
 
--- a builder that had one state now has some patterns more: those before one of them
+-- the builder has taken some of these patterns, from the first on, but not all
 abbrev pub HasBeginning : Building → List (List ℕ) → Building → Type 0
 HasBeginning old patterns new = (count : ℕ) × (count < length patterns) × (new ≡ added_all old (take count patterns))
-
--- the text of the pattern of a number
-abbrev pub pattern_at : List (List ℕ) → ℕ → List ℕ
-pattern_at patterns number = get_or patterns number []
 
 -- what a builder takes: no more patterns than packed search serves, none of them empty
 pub record AreTaken (patterns : List (List ℕ)) : Type 0 where
   pub few : length patterns ≤ most_packed
-  pub full : (number : ℕ) → number < length patterns → 0 < length (pattern_at patterns number)
+  pub full : (number : ℕ) → number < length patterns → 0 < length (get_or patterns number [])
 
 -- what packed search serves: patterns, but not too many, none of them empty
 pub record AreServed (patterns : List (List ℕ)) : Type 0 where
   pub some : 0 < length patterns
   pub few : length patterns ≤ most_packed
-  pub full : (number : ℕ) → number < length patterns → 0 < length (pattern_at patterns number)
+  pub full : (number : ℕ) → number < length patterns → 0 < length (get_or patterns number [])
 
 -- each pattern has at least this many bytes
 abbrev pub AreAsLong : ℕ → List (List ℕ) → Type 0
-AreAsLong len patterns = (number : ℕ) → number < length patterns → len ≤ length (pattern_at patterns number)
+AreAsLong len patterns = (number : ℕ) → number < length patterns → len ≤ length (get_or patterns number [])
 
 -- what a searcher looks for
 pub record Packed : Type 0 where
   pub kind : MatchKind
   pub patterns : List (List ℕ)
 
--- what is built for patterns of a kind: nothing for none
+-- the searcher that is built for these patterns; none where there are no patterns
 abbrev pub built : MatchKind → List (List ℕ) → Option Packed
 built kind [] = None
 built kind (pattern ∷ patterns) = Some (record { kind = kind; patterns = pattern ∷ patterns })
@@ -81,7 +80,7 @@ built kind (pattern ∷ patterns) = Some (record { kind = kind; patterns = patte
 abbrev pub part_search : List (List ℕ) → List ℕ → ℕ → ℕ → Search
 part_search patterns haystack start end = record { patterns = patterns; pairing = []; haystack = haystack; start = start; end = end; anchored = false }
 
--- the same of a span
+-- the search of a span of a haystack for patterns, byte for byte
 abbrev pub in_span : List (List ℕ) → List ℕ → Span → Search
 in_span patterns haystack span = part_search patterns haystack span.start span.end
 
@@ -93,7 +92,7 @@ in_whole patterns haystack = part_search patterns haystack 0 (length haystack)
 abbrev pub bytes_of : List (Bor (List ℕ)) → List (List ℕ)
 bytes_of patterns = map (λ p. p.now) patterns
 
--- what is built for patterns that are served, for leftmost-first matches
+-- the leftmost-first searcher for these patterns
 abbrev pub leftmost_first : List (List ℕ) → Packed
 leftmost_first patterns = record { kind = LeftmostFirst; patterns = patterns }
 

@@ -13,10 +13,10 @@ mod fingerprints;
 ghost use Rattle.std.specs.Prelude.{◌≡◌, ℕ, ◌+◌, ◌<◌, ◌≤◌, length, slice_index, take, drop, IfSome};
 ghost use Rattle.std.specs.Int.{bit_at};
 ghost use Rattle.ac_input.specs.Same.{other};
-ghost use Rattle.ac_literal.specs.Fingerprints.{ArePrinted, IsPrinted};
-ghost use Rattle.ac_literal.specs.Marks.{HasPartners, HaveOpened};
+ghost use Rattle.ac_literal.specs.Openings.Fingerprints.{ArePrinted, IsPrinted};
+ghost use Rattle.ac_literal.specs.Openings.Marks.{HasPartners, HaveOpened};
 ghost use Rattle.ac_literal.specs.Packed.{bytes_of, AreAsLong};
-ghost use Rattle.ac_literal.specs.Teddy.{LooksBefore, KeepsPatterns, marked_at};
+ghost use Rattle.ac_literal.specs.Packed.Teddy.{LooksBefore, KeepsPatterns};
 
 use crate::openings::fingerprints::Fingerprints;
 use crate::packed::teddy::{LANES, Teddy, lowest, without};

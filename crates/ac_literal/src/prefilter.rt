@@ -90,7 +90,6 @@ impl Prefilter {
     /// Where the first match of the span may begin; the match itself, where a search for patterns found it.
     ///
     /// It looks at nothing outside the span, and takes no memory.
-    /// A caller: `uses::callers::packed::skip`.
     pub fn find_in(&self, haystack: &[u8], span: Span) -> Candidate
         requires ordered { span.start ≤ span.end }
         requires within { span.end ≤ length haystack.now }
@@ -103,7 +102,6 @@ impl Prefilter {
     /// The same, and counts the places that a scan for bytes covered.
     ///
     /// A search for one pattern and packed search are no scans for bytes, so they count nothing.
-    /// A caller: `uses::callers::packed::ask_counted`.
     pub fn find_in_counted(&self, haystack: &[u8], span: Span, steps: &mut Steps) -> Candidate
         requires ordered { span.start ≤ span.end }
         requires within { span.end ≤ length haystack.now }
@@ -125,7 +123,6 @@ impl Prefilter {
     }
 
     /// A copy of the prefilter, in memory from `alloc`.
-    /// A caller: `uses::callers::packed::copy_prefilter`.
     pub fn clone(&self, alloc: Global) -> Result<Prefilter, AllocError>
         ensures { IfOk result (λ copy. copy ≡ self.now) }
     {

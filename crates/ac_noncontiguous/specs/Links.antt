@@ -1,4 +1,9 @@
--- To which states those of a trie fail, and which patterns match at each.
+-- To which state each state of a trie fails, and which patterns match there.
+pub mod Children
+pub mod Failures
+pub mod Lists
+pub mod Order
+pub mod Own
 use Rattle.std.specs.Prelude.{◌≡◌, ℕ, ◌+◌, ◌<◌, ◌≤◌, List, length, take, drop, slice_index, slice_index_or, slice_get, Option, Some, option_map}
 use Rattle.ac_input.specs.Dictionary.{Dictionary}
 use Rattle.ac_input.specs.Failure.{IsList}
@@ -6,9 +11,9 @@ use Rattle.ac_input.specs.States.{FailsTo}
 use Rattle.ac_noncontiguous.specs.declared.links.Links.{Links}
 use Rattle.ac_noncontiguous.specs.declared.links.Range.{Range}
 use Rattle.ac_noncontiguous.specs.declared.trie.State.{State}
-use Rattle.ac_noncontiguous.specs.Tree.{text}
+use Rattle.ac_noncontiguous.specs.Trie.Tree.{text}
 
--- what a place past the last range is read as
+-- the value that is read past the last range
 abbrev pub no_range : Range
 no_range = record { from = 0; len = 0 }
 
@@ -16,7 +21,7 @@ no_range = record { from = 0; len = 0 }
 abbrev pub in_range : List ℕ → Range → List ℕ
 in_range matches range = take range.len (drop range.from matches)
 
--- For each state of a trie the one to which it fails, if not the dead one.
+-- For each state of a trie, the state to which it fails; none if that is the dead one.
 pub record AreFails (m : Dictionary) (states : List State) (fails : List (Option ℕ)) : Type 0 where
   pub counted : length fails ≡ length states
   pub within : (i f : ℕ) → slice_get fails i ≡ Some (Some f) → f < length states

@@ -14,9 +14,9 @@ ghost use Rattle.std.specs.Prelude.{◌≡◌, IfOk, IfErr, OnOk};
 ghost use Rattle.ac_input.specs.Dictionary.{Dictionary};
 ghost use Rattle.ac_input.specs.Pairing.{IsFolded};
 ghost use Rattle.ac_input.specs.Limits.{IsWithinLimits};
-ghost use Rattle.ac_noncontiguous.specs.Builder.{AreFirst, AreCompiled, IsBuiltOf, IsBuiltAtFirst, IsRefusedAtFirst, IsHeld, dictionary_by};
-ghost use Rattle.ac_noncontiguous.specs.Kept.{IsTrieOf};
-ghost use Rattle.ac_noncontiguous.specs.Reads.{built_as};
+ghost use Rattle.ac_noncontiguous.specs.Builder.{AreNfaDefaults, AreCompiled, IsBuiltOf, IsBuiltByDefault, IsRefusedByDefault, IsHeld, dictionary_by};
+ghost use Rattle.ac_noncontiguous.specs.Trie.Kept.{IsTrieOf};
+ghost use Rattle.ac_noncontiguous.specs.Nfa.Reads.{built_as};
 ghost use Rattle.ac_noncontiguous.specs.Standing.{IsBuildRefused};
 
 use crate::error::BuildError;
@@ -71,9 +71,9 @@ impl Model for Builder {
 }
 
 impl Default for Builder {
-    ghost use Rattle.ac_noncontiguous.specs.Builder.{AreFirst};
+    ghost use Rattle.ac_noncontiguous.specs.Builder.{AreNfaDefaults};
 
-    ghost is_default = { AreFirst };
+    ghost is_default = { AreNfaDefaults };
 
     fn default() -> Builder {
         Builder::new()
@@ -82,9 +82,8 @@ impl Default for Builder {
 
 impl Builder {
     /// Standard matches, no byte paired, a prefilter wanted, and rows for states of up to two bytes. It takes no memory.
-    /// A caller: `uses::callers::build::folded`.
     pub fn new() -> Builder
-        ensures { AreFirst result }
+        ensures { AreNfaDefaults result }
     {
         Builder {
             kind: MatchKind::Standard,
@@ -95,7 +94,6 @@ impl Builder {
     }
 
     /// Sets which of several overlapping occurrences is the match.
-    /// A caller: `uses::callers::build::folded`.
     pub fn match_kind(&mut self, kind: MatchKind) -> &mut Builder
         ensures same { result.ghost_name ≡ self.entry.ghost_name }
         ensures value { result.now ≡ record self.old { kind = kind } }
@@ -106,7 +104,6 @@ impl Builder {
 
     /// Sets whether ASCII letters count as the same in their two cases. It sets the whole pairing: the last call of this or of
     /// [`Builder::pairing`] decides.
-    /// A caller: `uses::callers::build::folded`.
     pub fn ascii_case_insensitive(&mut self, yes: bool) -> &mut Builder
         ensures same { result.ghost_name ≡ self.entry.ghost_name }
         ensures rest { result.now ≡ record self.old { pairing = result.now.pairing } }
@@ -121,7 +118,6 @@ impl Builder {
     }
 
     /// Sets which bytes stand for one another. At first none does.
-    /// A caller: `uses::callers::build::thrifty`.
     pub fn pairing(&mut self, pairing: Pairing) -> &mut Builder
         ensures same { result.ghost_name ≡ self.entry.ghost_name }
         ensures value { result.now ≡ record self.old { pairing = pairing } }
@@ -136,7 +132,6 @@ impl Builder {
     /// another one for each failure that it follows. A row takes four bytes for each class of bytes, so at most 1 KiB. Any depth is
     /// accepted; there are at most 256 states of one byte, and 65,536 of two. Take 0 for an automaton from which another one is
     /// made.
-    /// A caller: `uses::callers::build::thrifty`.
     pub fn dense_depth(&mut self, depth: usize) -> &mut Builder
         ensures same { result.ghost_name ≡ self.entry.ghost_name }
         ensures value { result.now ≡ record self.old { dense_depth = depth } }
@@ -150,7 +145,6 @@ impl Builder {
     /// It changes no result. A prefilter passes quickly over bytes where no match begins, which pays if matches are rare. It has
     /// copies of the patterns if it searches for them, and else takes some 256 bytes. Without one the automaton still passes over
     /// bytes that begin no pattern.
-    /// A caller: `uses::callers::build::thrifty`.
     pub fn prefilter(&mut self, yes: bool) -> &mut Builder
         ensures same { result.ghost_name ≡ self.entry.ghost_name }
         ensures value { result.now ≡ record self.old { prefilter = yes } }
@@ -204,7 +198,6 @@ impl Builder {
     /// Time and memory are in proportion to the bytes of all patterns, to the rows, and to the lists of the states. A state takes
     /// 32 bytes, and each transition 8; the dead state and both starts have 256 transitions. [The module](crate::builder) says
     /// when lists are long: bound the patterns of a stranger under the standard kind.
-    /// A caller: `uses::callers::build::thrifty`.
     pub fn build(&self, alloc: Global, patterns: &[&[u8]]) -> Result<NFA, BuildError>
         ensures built { IfOk result (λ nfa. IsBuiltOf self.now patterns.now (built_as nfa)) }
         ensures refused { IfErr result (IsBuildRefused (dictionary_by self.now patterns.now)) }
@@ -231,18 +224,16 @@ impl NFA {
     /// Builds the automaton of the patterns with the default settings: standard matches, no byte paired.
     ///
     /// Its errors and its cost are those of [`Builder::build`].
-    /// A caller: `uses::callers::build::occurs_in`.
     pub fn new(alloc: Global, patterns: &[&[u8]]) -> Result<NFA, BuildError>
-        ensures built { IfOk result (λ nfa. IsBuiltAtFirst patterns.now (built_as nfa)) }
-        ensures refused { IfErr result (IsRefusedAtFirst patterns.now) }
+        ensures built { IfOk result (λ nfa. IsBuiltByDefault patterns.now (built_as nfa)) }
+        ensures refused { IfErr result (IsRefusedByDefault patterns.now) }
     {
         Builder::new().build(alloc, patterns)
     }
 
     /// A builder with the default settings. It takes no memory.
-    /// A caller: `uses::callers::build::thrifty`.
     pub fn builder() -> Builder
-        ensures { AreFirst result }
+        ensures { AreNfaDefaults result }
     {
         Builder::new()
     }

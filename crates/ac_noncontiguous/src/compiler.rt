@@ -4,9 +4,9 @@
 //! trie gives where each byte leads from a state ([`edges`]), and that becomes its transitions ([`transitions`]) and, near the
 //! start, its row ([`rows`]). It takes time in proportion to the states, and keeps nothing but the tables.
 ghost use Rattle.std.specs.Prelude.{◌<◌, length, IfOk};
-ghost use Rattle.ac_noncontiguous.specs.Order.{IsBreadthFirst};
-ghost use Rattle.ac_noncontiguous.specs.Numbering.{FitsTrie};
-ghost use Rattle.ac_noncontiguous.specs.Assembly.{IsBack, AreTablesFor, AreClassedFor};
+ghost use Rattle.ac_noncontiguous.specs.Links.Order.{IsBreadthFirst};
+ghost use Rattle.ac_noncontiguous.specs.Compiler.Numbering.{FitsTrie};
+ghost use Rattle.ac_noncontiguous.specs.Compiler.Assembly.{IsBack, AreTablesFor, AreClassedFor};
 
 mod edges;
 mod numbering;

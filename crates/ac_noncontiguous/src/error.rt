@@ -61,7 +61,6 @@ impl Model for BuildError {
 
 impl BuildError {
     /// Why it was not built.
-    /// A caller: `uses::callers::build::may_succeed_later`.
     pub fn kind(&self) -> &BuildErrorKind
         ensures { result.now ≡ self.now }
     {

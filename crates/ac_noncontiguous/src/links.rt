@@ -6,15 +6,15 @@
 //!
 //! The links are computed breadth first ([`order`]), since a state fails to one of lesser depth: first where each state fails
 //! ([`failures`], over [`children`] put side by side), then its patterns ([`own`], and those of its failure).
-ghost use Rattle.std.specs.Prelude.{◌≡◌, ℕ, ◌+◌, ◌<◌, length, slice_get, Some, IfOk};
+ghost use Rattle.std.specs.Prelude.{◌≡◌, ℕ, ◌+◌, ◌<◌, length, slice_get, Some, IfOk, ◌≤◌};
 ghost use Rattle.ac_input.specs.Dictionary.{Dictionary};
-ghost use Rattle.ac_noncontiguous.specs.Tree.{depth};
-ghost use Rattle.ac_noncontiguous.specs.Kept.{IsTrieOf};
-ghost use Rattle.ac_noncontiguous.specs.Assembly.{AreOwnOf, AreLinksFor};
-ghost use Rattle.ac_noncontiguous.specs.Order.{IsBreadthFirst};
+ghost use Rattle.ac_noncontiguous.specs.Trie.Tree.{depth};
+ghost use Rattle.ac_noncontiguous.specs.Trie.Kept.{IsTrieOf};
+ghost use Rattle.ac_noncontiguous.specs.Compiler.Assembly.{AreOwnOf, AreLinksFor};
+ghost use Rattle.ac_noncontiguous.specs.Links.Order.{IsBreadthFirst};
 ghost use Rattle.ac_noncontiguous.specs.Links.{AreFails, AreLinks, in_range};
-ghost use Rattle.ac_noncontiguous.specs.Lists.{IsRangeOf, EndAbove, IsRest, IsListed};
-ghost use Rattle.ac_noncontiguous.specs.Failures.{AreShallower};
+ghost use Rattle.ac_noncontiguous.specs.Links.Lists.{EndAbove, IsRest, IsListed};
+ghost use Rattle.ac_noncontiguous.specs.Links.Failures.{AreShallower};
 
 mod children;
 mod failures;
@@ -68,7 +68,7 @@ fn push_list(
 ) -> Result<Range, AllocError>
     requires own { AreOwnOf trie.now own.now }
     requires within { id < length trie.now.states.items }
-    requires inside { IsRangeOf matches.old.items rest.now }
+    requires inside { rest.now.from + rest.now.len ≤ length matches.old.items }
     requires above { EndAbove trie.now.states.items trie.now.ends.items
         (depth trie.now.states.items id) (in_range matches.old.items rest.now) }
     ensures { IfOk result (λ range.

@@ -12,17 +12,17 @@ pub mod pattern_lens;
 pub mod read;
 pub(crate) mod tables;
 
-ghost use Rattle.std.specs.Prelude.{◌≡◌, ◌+◌};
+ghost use Rattle.std.specs.Prelude.{◌≡◌, ◌+◌, IfSome, List, ℕ};
 ghost use Rattle.std.proofs.Props.{props};
 ghost use Rattle.ac_automaton.specs.Held.{last_special_of};
-ghost use Rattle.ac_automaton.specs.Passing.{AreOpenedBy};
-ghost use Rattle.ac_automaton.specs.Starters.{SkipsIdle};
-ghost use Rattle.ac_input.specs.Classes.{AreByteClasses};
+ghost use Rattle.ac_literal.specs.Openings.{AreOpenings};
+ghost use Rattle.ac_automaton.specs.Starters.{SkipsBelow};
+ghost use Rattle.ac_input.specs.Alphabet.Classes.{AreByteClasses};
 ghost use Rattle.ac_input.specs.Dictionary.{dictionary_of};
 ghost use Rattle.ac_input.specs.Limits.{IsWithinLimits};
 ghost use Rattle.ac_input.specs.Pairing.{IsPairing};
-ghost use Rattle.ac_noncontiguous.specs.Nfa.{AreTablesOf, IsHeldFor, AreParts};
-ghost use Rattle.ac_noncontiguous.specs.Lookups.{IsIdle};
+ghost use Rattle.ac_noncontiguous.specs.Nfa.{IsHeldFor, AreParts, AreTables};
+ghost use Rattle.ac_noncontiguous.specs.Nfa.Lookups.{IsIdle};
 
 use crate::nfa::pattern_lens::PatternLens;
 use crate::nfa::tables::Tables;
@@ -48,17 +48,17 @@ pub struct NFA {
     kind: MatchKind,
     ghost paired: { IsPairing pairing },
     ghost within: { ∥ IsWithinLimits (dictionary_of lens pairing kind) ∥₁ },
-    ghost stands: { ∥ AreTablesOf (dictionary_of lens pairing kind) tables ∥₁ },
+    ghost stands: { ∥ ((text : ℕ → List ℕ) × AreTables (dictionary_of lens pairing kind) text tables) ∥₁ },
     ghost classed: { ∥ AreByteClasses (dictionary_of lens pairing kind) tables.classes ∥₁ },
     ghost special: { max_special ≡ last_special_of prefilter (tables.start + 1) tables.max_match },
     ghost begins: { skips.start ≡ tables.start },
-    ghost idle: { ∥ SkipsIdle (IsIdle tables) skips.starters ∥₁ },
-    ghost opened: { ∥ AreOpenedBy (dictionary_of lens pairing kind) skips.openings ∥₁ },
+    ghost idle: { ∥ SkipsBelow (IsIdle tables) 256 skips.starters ∥₁ },
+    ghost opened: { ∥ IfSome skips.openings (AreOpenings (dictionary_of lens pairing kind)) ∥₁ },
     ghost held: { IsHeldFor (dictionary_of lens pairing kind) prefilter } by { Prim.hlevel props },
 }
 
 impl NFA {
-    ghost use Rattle.ac_noncontiguous.specs.ReadCalls.{IsMadeOf};
+    ghost use Rattle.ac_noncontiguous.specs.Nfa.ReadCalls.{IsMadeOf};
 
     /// The automaton of these tables, patterns and settings.
     pub(crate) fn from_parts(
@@ -70,7 +70,7 @@ impl NFA {
         kind: MatchKind,
     ) -> NFA
         requires parts { AreParts (dictionary_of lens pairing kind) tables prefilter }
-        requires opened { ∥ AreOpenedBy (dictionary_of lens pairing kind) openings ∥₁ }
+        requires opened { ∥ IfSome openings (AreOpenings (dictionary_of lens pairing kind)) ∥₁ }
         ensures { IsMadeOf (dictionary_of lens pairing kind) tables prefilter result }
     {
         let start_anchored = StateID::must(tables.start.one_more());

@@ -11,18 +11,16 @@
 //!
 //! Under leftmost-first a pattern that begins with an earlier one can never match, and is not entered: the walk that enters it
 //! meets the state in which the earlier one ends.
-ghost use Rattle.std.specs.Prelude.{◌≡◌, ℕ, [], Some, ◌+◌, ◌<◌, ◌≤◌, length, map, true, false, IsTrue, OnOk, IfOk, IfErr};
+ghost use Rattle.std.specs.Prelude.{◌≡◌, ℕ, [], Some, ◌+◌, ◌<◌, ◌≤◌, length, map, true, false, IsTrue, OnOk, IfOk, IfErr, slice_get};
 ghost use Rattle.ac_input.specs.Same.{other};
 ghost use Rattle.ac_input.specs.Pairing.{IsPairing};
-ghost use Rattle.ac_input.specs.LiveLaws.{canonical};
-ghost use Rattle.ac_input.specs.Dictionary.{Dictionary, dictionary_of};
+ghost use Rattle.ac_input.specs.Laws.LiveLaws.{canonical};
+ghost use Rattle.ac_input.specs.Dictionary.{dictionary_of};
 ghost use Rattle.ac_input.specs.Number.{greatest_number};
-ghost use Rattle.ac_input.specs.Limits.{with_pattern};
 ghost use Rattle.ac_literal.specs.Packed.{bytes_of};
-ghost use Rattle.ac_noncontiguous.specs.Own.{EndsIn};
-ghost use Rattle.ac_noncontiguous.specs.Tree.{IsTree, IsChildPlace, IsAdded, state_at, is_match, byte as byte_of};
-ghost use Rattle.ac_noncontiguous.specs.Entering.{IsMarked, IsChildStep, IsChildRefused, IsEnd, IsStuck};
-ghost use Rattle.ac_noncontiguous.specs.Standing.{IsPatternRefused, IsBuildRefused};
+ghost use Rattle.ac_noncontiguous.specs.Trie.Tree.{IsTree, IsChildPlace, IsAdded, state_at, is_match, byte as byte_of};
+ghost use Rattle.ac_noncontiguous.specs.Trie.Entering.{IsMarked, IsChildStep, IsChildRefused, IsEnd, IsStuck};
+ghost use Rattle.ac_noncontiguous.specs.Standing.{IsBuildRefused};
 
 mod hints;
 
@@ -74,11 +72,11 @@ pub(crate) struct Trie {
     ghost few: { length states.items + 3 ≤ greatest_number + 1 },
     ghost counted: { length ends.items ≤ greatest_number + 1 },
     ghost paired: { IsPairing pairing },
-    ghost placed: { (n i : ℕ) → EndsIn ends.items i n → i < length states.items },
+    ghost placed: { (n i : ℕ) → (slice_get ends.items n ≡ Some (Some i)) → i < length states.items },
 }
 
 impl Trie {
-    ghost use Rattle.ac_noncontiguous.specs.Kept.{KeepsSettings, IsNoted, IsTrieOf, TakesPattern, RefusesPattern};
+    ghost use Rattle.ac_noncontiguous.specs.Trie.Kept.{KeepsSettings, IsNoted, IsTrieOf, TakesPattern, RefusesPattern};
 
     /// The trie of no patterns: the start alone.
     pub(crate) fn new(alloc: Global, kind: MatchKind, pairing: Pairing) -> Result<Trie, BuildError>

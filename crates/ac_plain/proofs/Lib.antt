@@ -1,5 +1,0 @@
-pub mod Occurrences
-pub mod Least
-pub mod Places
-pub mod Ranks
-pub mod Lists

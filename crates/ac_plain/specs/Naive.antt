@@ -1,4 +1,4 @@
--- What the plain program asks at one place, and of two occurrences.
+-- What the plain program looks for at one place, and which of two occurrences it takes.
 use Rattle.std.specs.Prelude.{◌≡◌, ℕ, ◌<◌, ◌≤◌, List, Option, Some, None, if◌then◌else◌}
 use Rattle.ac_input.specs.declared.search.Anchored.{Anchored}
 use Rattle.ac_input.specs.declared.search.Span.{Span}
@@ -12,20 +12,20 @@ use Rattle.std.specs.Ordering.{is_lt}
 abbrev pub search_for : List (List ℕ) → List ℕ → List ℕ → Span → Anchored → Search
 search_for patterns pairing haystack span anchored = record { patterns = patterns; pairing = pairing; haystack = haystack; start = span.start; end = span.end; anchored = is_anchored anchored }
 
--- the one occurrence of which a fact holds, or none where it holds of none
+-- the one occurrence of which P holds, or none where P holds of none
 abbrev pub IsOnly : (Occurrence → Type 0) → Option Occurrence → Type 0
 IsOnly P None = (o : Occurrence) → ¬ P o
 IsOnly P (Some it) = P it × ((o : Occurrence) → P o → o ≡ it)
 
--- those that end at a place and come after a given one
+-- the occurrence ends at a place, and comes after a given one
 abbrev pub EndsAfter : Search → ℕ → Option Occurrence → Occurrence → Type 0
 EndsAfter s end before o = (Occurs s o × (o.end ≡ end)) × IsAfter before o
 
--- those that end at a place or later and come after a given one
+-- the occurrence ends at a place or later, and comes after a given one
 abbrev pub ReachesAfter : Search → ℕ → Option Occurrence → Occurrence → Type 0
 ReachesAfter s from before o = Occurs s o × IsAfter before o × (from ≤ o.end)
 
--- those of a later pattern that lie where a given one does
+-- the occurrence is that of a later pattern, and lies exactly where a given one does
 abbrev pub LiesAlike : Search → Occurrence → Occurrence → Type 0
 LiesAlike s before o = Occurs s o × (o.start ≡ before.start) × (o.end ≡ before.end) × (before.pattern < o.pattern)
 

@@ -12,7 +12,8 @@
 ghost use Rattle.std.specs.Prelude.{◌≡◌, ◌≢◌, ◌↔◌, ◌+◌, ◌≤◌, None, map, length, option_map, slice_get, IsTrue, IfOk};
 ghost use Rattle.ac_input.specs.Same.{same_text};
 ghost use Rattle.ac_input.specs.Occurrence.{Occurs, starting_at, StartsAt};
-ghost use Rattle.ac_input.specs.Best.{preference, IsLeast, IsBest, asked_kind, IsAfter, IsNext};
+ghost use Rattle.ac_input.specs.Best.{preference, IsLeast, IsBest, asked_kind, IsAfter};
+ghost use Rattle.ac_input.specs.declared.search.MatchKind.TheVariants.{Standard};
 ghost use Rattle.ac_input.specs.Walk.{Repeats, IsPick, IsWalk};
 ghost use Rattle.ac_input.specs.Computed.{walk_of};
 ghost use Rattle.ac_input.specs.Listing.{IsListing};
@@ -389,7 +390,7 @@ impl<'a> Naive<'a> {
     /// The given one need not be an occurrence. The later patterns at its own place are tried first, so that many equal
     /// patterns take one pass together and not one each.
     pub fn next_occurrence(&self, before: Option<Found>) -> Option<Found>
-        ensures { IsNext self.now before result }
+        ensures { IsLeast Standard (λ o. Occurs self.now o × IsAfter before o) result }
     {
         let Some(found) = before else {
             return self.first_by_end(self.span.start, &before);

@@ -50,17 +50,17 @@ mod states;
 mod table;
 mod words;
 
-ghost use Rattle.std.specs.Prelude.{◌≡◌};
+ghost use Rattle.std.specs.Prelude.{◌≡◌, IfSome};
 ghost use Rattle.std.proofs.Props.{props};
 ghost use Rattle.ac_input.specs.Dictionary.{dictionary_of};
 ghost use Rattle.ac_input.specs.Limits.{IsWithinLimits};
 ghost use Rattle.ac_input.specs.Pairing.{IsPairing};
 ghost use Rattle.ac_noncontiguous.specs.Nfa.{IsHeldFor};
 ghost use Rattle.ac_automaton.specs.Held.{last_special_of};
-ghost use Rattle.ac_automaton.specs.Passing.{AreOpenedBy};
-ghost use Rattle.ac_automaton.specs.Starters.{SkipsIdle};
-ghost use Rattle.ac_tables.specs.ContiguousTable.{AreSomeStates, AreContiguousParts};
-ghost use Rattle.ac_tables.specs.WordReads.{IsIdleAt};
+ghost use Rattle.ac_literal.specs.Openings.{AreOpenings};
+ghost use Rattle.ac_automaton.specs.Starters.{SkipsBelow};
+ghost use Rattle.ac_tables.specs.Contiguous.ContiguousTable.{AreSomeStates, AreContiguousParts};
+ghost use Rattle.ac_tables.specs.Contiguous.WordReads.{IsIdleAt};
 
 use crate::contiguous::rows::Rows;
 use crate::contiguous::table::Table;
@@ -95,14 +95,14 @@ pub struct NFA {
     ghost within: { ∥ IsWithinLimits (dictionary_of lens pairing kind) ∥₁ },
     ghost stands: { AreSomeStates (dictionary_of lens pairing kind) table rows },
     ghost begins: { skips.start ≡ table.start },
-    ghost idle: { ∥ SkipsIdle (IsIdleAt table) skips.starters ∥₁ },
+    ghost idle: { ∥ SkipsBelow (IsIdleAt table) 256 skips.starters ∥₁ },
     ghost special: { max_special ≡ last_special_of prefilter table.start_anchored table.max_match },
-    ghost opened: { ∥ AreOpenedBy (dictionary_of lens pairing kind) skips.openings ∥₁ },
+    ghost opened: { ∥ IfSome skips.openings (AreOpenings (dictionary_of lens pairing kind)) ∥₁ },
     ghost held: { IsHeldFor (dictionary_of lens pairing kind) prefilter } by { Prim.hlevel props },
 }
 
 impl NFA {
-    ghost use Rattle.ac_tables.specs.ContiguousReads.{IsContiguousMadeOf};
+    ghost use Rattle.ac_tables.specs.Contiguous.ContiguousReads.{IsContiguousMadeOf};
 
     /// The automaton of these words, rows, patterns and settings.
     pub(crate) fn from_parts(
@@ -115,7 +115,7 @@ impl NFA {
         kind: MatchKind,
     ) -> NFA
         requires parts { AreContiguousParts (dictionary_of lens pairing kind) table rows prefilter }
-        requires opened { ∥ AreOpenedBy (dictionary_of lens pairing kind) openings ∥₁ }
+        requires opened { ∥ IfSome openings (AreOpenings (dictionary_of lens pairing kind)) ∥₁ }
         ensures { IsContiguousMadeOf (dictionary_of lens pairing kind) table prefilter result }
     {
         let max_special = last_special(&prefilter, table.start_anchored, table.max_match);

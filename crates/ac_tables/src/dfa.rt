@@ -40,16 +40,17 @@ pub(crate) mod numbers;
 mod read;
 mod table;
 
-ghost use Rattle.std.specs.Prelude.{◌≡◌};
+ghost use Rattle.std.specs.Prelude.{◌≡◌, IfSome};
 ghost use Rattle.std.proofs.Props.{props};
 ghost use Rattle.ac_input.specs.Dictionary.{dictionary_of};
 ghost use Rattle.ac_input.specs.Pairing.{IsPairing};
 ghost use Rattle.ac_noncontiguous.specs.Nfa.{IsHeldFor};
 ghost use Rattle.ac_automaton.specs.Held.{last_special_of};
-ghost use Rattle.ac_automaton.specs.Passing.{AreOpenedBy};
-ghost use Rattle.ac_automaton.specs.Starters.{SkipsIdle};
-ghost use Rattle.ac_tables.specs.DfaLookups.{IsIdleIn};
-ghost use Rattle.ac_tables.specs.DfaTable.{AreSomeRows, AreDfaParts};
+ghost use Rattle.ac_literal.specs.Openings.{AreOpenings};
+ghost use Rattle.ac_automaton.specs.Starters.{SkipsBelow};
+ghost use Rattle.ac_tables.specs.Dfa.DfaLookups.{IsIdleIn};
+ghost use Rattle.ac_tables.specs.Dfa.DfaTable.{AreDfaParts, AreDfaRows};
+ghost use Rattle.ac_automaton.specs.Named.{Naming};
 
 use crate::dfa::table::Table;
 use crate::source::unused;
@@ -78,16 +79,16 @@ pub struct DFA {
     pairing: Pairing,
     kind: MatchKind,
     ghost paired: { IsPairing pairing },
-    ghost stands: { AreSomeRows (dictionary_of lens pairing kind) table },
+    ghost stands: { ∥ ((names : Naming) × AreDfaRows (dictionary_of lens pairing kind) table names) ∥₁ },
     ghost special: { max_special ≡ last_special_of prefilter table.start_anchored table.max_match },
     ghost begins: { skips.start ≡ table.start },
-    ghost idle: { ∥ SkipsIdle (IsIdleIn table) skips.starters ∥₁ },
-    ghost opened: { ∥ AreOpenedBy (dictionary_of lens pairing kind) skips.openings ∥₁ },
+    ghost idle: { ∥ SkipsBelow (IsIdleIn table) 256 skips.starters ∥₁ },
+    ghost opened: { ∥ IfSome skips.openings (AreOpenings (dictionary_of lens pairing kind)) ∥₁ },
     ghost held: { IsHeldFor (dictionary_of lens pairing kind) prefilter } by { Prim.hlevel props },
 }
 
 impl DFA {
-    ghost use Rattle.ac_tables.specs.DfaReads.{IsDfaMadeOf};
+    ghost use Rattle.ac_tables.specs.Dfa.DfaReads.{IsDfaMadeOf};
 
     /// The automaton of this table, these patterns and settings.
     pub(crate) fn from_parts(
@@ -99,7 +100,7 @@ impl DFA {
         kind: MatchKind,
     ) -> DFA
         requires parts { AreDfaParts (dictionary_of lens pairing kind) table prefilter }
-        requires opened { ∥ AreOpenedBy (dictionary_of lens pairing kind) openings ∥₁ }
+        requires opened { ∥ IfSome openings (AreOpenings (dictionary_of lens pairing kind)) ∥₁ }
         ensures { IsDfaMadeOf (dictionary_of lens pairing kind) table prefilter result }
     {
         let max_special = last_special(&prefilter, table.start_anchored, table.max_match);

@@ -1,6 +1,6 @@
 //! What both tables take from the noncontiguous automaton that they are made from.
 ghost use Rattle.std.specs.Prelude.{IfOk};
-ghost use Rattle.ac_noncontiguous.specs.Reads.{dictionary};
+ghost use Rattle.ac_noncontiguous.specs.Nfa.Reads.{dictionary};
 ghost use Rattle.ac_tables.specs.TableClasses.{AreClassesFor, AreServing};
 
 use ac_input::alphabet::{ByteClasses, ByteSet};

@@ -6,8 +6,8 @@ use Rattle.std.specs.declared.io.Error.{Error}
 use Rattle.std.specs.Vec.Iter.{into_iter_items}
 use Rattle.std.specs.declared.vec.IntoIter.{IntoIter}
 use Rattle.clap.specs.Words.{Text}
-use Rattle.ac_automaton.specs.Moved.{HasTaken, NoneTouched}
-use Rattle.ac_automaton.specs.Watched.{IsOfWrite, NoneRead, TookFront, failures_of, flushed_of, inner_of, stalls_of, taken_of}
+use Rattle.ac_automaton.specs.Devices.Moved.{HasTaken, NoneTouched}
+use Rattle.ac_automaton.specs.Devices.Watched.{IsOfWrite, NoneRead, TookFront}
 use Rattle.ac_automaton.specs.declared.error.StreamError.{StreamError}
 use Rattle.ac_automaton.specs.declared.watched.Watched.{Watched}
 use Rattle.acsub.specs.declared.error.RunError.{RunError}
@@ -18,6 +18,7 @@ use Rattle.acsub.specs.declared.words.Words.{Words}
 use Rattle.acsub.specs.declared.words.WordsFault.{WordsFault}
 use Rattle.acsub.specs.declared.words.WordsFault.TheVariants.{Help, Bad, Memory, Pairing}
 use Rattle.acsub.specs.Plan.{plan_of}
+use Rattle.acsub.specs.Rules.File.{grammar_of}
 use Rattle.acsub.specs.Run.{RanIn, RefusesIn}
 use Rattle.acsub.specs.Stream.{IsReturnedAs}
 use Rattle.acsub.specs.Tool.{IsFaultOf, exit_of, status_of}
@@ -25,28 +26,28 @@ use Rattle.acsub.specs.Words.{Reads}
 
 -- ---- the rule file
 
--- A file of these bytes. No word says which file it is, and where no contents are known, any bytes are those of one.
+-- Some file holds these bytes: which one isn't said. Where a file's contents are unknown, any bytes may be its contents.
 abbrev pub IsFile : {F : Type 0} → (F → Option (List ℕ)) → List ℕ → Type 0
 IsFile {F} held bytes = (file : F) × IfSome (held file) (λ all. bytes ≡ all)
 
--- the bytes of a file; or it can't be read, or there is no memory for it
+-- the bytes of a file; or the file can't be read, or memory ran out for it
 abbrev pub ReadsFile : {F Z : Type 0} → (F → Option (List ℕ)) → Result (Vec ℕ Z) Fault → Type 0
 ReadsFile held (Ok bytes) = IsFile held bytes.items
 ReadsFile held (Err fault) = (fault ≡ faults.RuleFile) ⊎ (fault ≡ faults.Run errors.Memory)
 
 -- ---- what was written, and the flush after it
 
--- A flush, before and after, of which this many failed: none or one. If none did, everything that was taken is flushed.
+-- The writer was flushed, and this many flushes failed. If none failed, all bytes that it took are flushed.
 pub record Flushes {W : Type 0} (contents : W → Option (List ℕ)) (before after : Watched W) (failed : ℕ) : Type 0 where
-  pub flushed : failed ≡ 0 → flushed_of after ≡ taken_of after
-  pub taken : taken_of after ≡ taken_of before
-  pub failures : failures_of after ≡ failures_of before + failed
-  pub stalls : stalls_of after ≡ stalls_of before
+  pub flushed : failed ≡ 0 → after.flushed.bytes ≡ after.taken.bytes
+  pub taken : after.taken.bytes ≡ before.taken.bytes
+  pub failures : after.failures.value ≡ before.failures.value + failed
+  pub stalls : after.stalls.value ≡ before.stalls.value
   pub reads : NoneRead before after
-  pub device : Keeps (contents (inner_of before)) (contents (inner_of after))
+  pub device : Keeps (contents before.inner) (contents after.inner)
 
 module _ {W : Type 0} (contents : W → Option (List ℕ)) where
-  -- A text was written whole; or a write failed or took no byte, and a beginning of the text was written.
+  -- A text was written whole; or a write failed or took no byte, and a prefix of the text was written.
   abbrev pub WritesText : List ℕ → Watched W → Watched W → Result (Unit {0}) RunError → Type 0
   WritesText text before after (Ok done) = HasTaken contents before after text 0 0
   WritesText text before after (Err e) = TookFront contents before after text × ((error : StreamError) × IsOfWrite before after error × IsReturnedAs (Err error) (Err e))
@@ -60,34 +61,32 @@ module _ {W : Type 0} (contents : W → Option (List ℕ)) where
 
   module _ (before after : Watched W) where
     -- Some text was written, with this result; then the writer was flushed, and this many flushes failed.
-    abbrev pub Shown : Result (Unit {0}) RunError → ℕ → Type 0
-    Shown answer failed = (text : List ℕ) × (between : Watched W) × WritesText text before between answer × Flushes contents between after failed
+    abbrev pub WroteAndFlushed : Result (Unit {0}) RunError → ℕ → Type 0
+    WroteAndFlushed answer failed = (text : List ℕ) × (between : Watched W) × WritesText text before between answer × Flushes contents between after failed
 
-    -- What an outcome says of the help that was asked for.
+    -- what each outcome means where help was asked for
     abbrev pub AnswersHelp : Result (Unit {0}) Fault → Type 0
-    AnswersHelp (Ok done) = Shown (Ok tt) 0
-    AnswersHelp (Err faults.Words) = ⊥
-    AnswersHelp (Err (faults.Pairs e)) = ⊥
-    AnswersHelp (Err faults.RuleFile) = ⊥
-    AnswersHelp (Err (faults.Run e)) = Shown (Err e) 0 ⊎ Shown (Err e) 1 ⊎ ((e ≡ errors.Memory) × (after ≡ before))
-    AnswersHelp (Err faults.Flush) = Shown (Ok tt) 1
+    AnswersHelp (Ok done) = WroteAndFlushed (Ok tt) 0
+    AnswersHelp (Err (faults.Run e)) = WroteAndFlushed (Err e) 0 ⊎ WroteAndFlushed (Err e) 1 ⊎ ((e ≡ errors.Memory) × (after ≡ before))
+    AnswersHelp (Err faults.Flush) = WroteAndFlushed (Ok tt) 1
+    AnswersHelp (Err other) = ⊥
 
 -- ---- the whole program
 
--- The rule file held these bytes, in the form that was asked for, and a run by them returned this.
+-- The rule file holds these bytes, in the form that was asked for, and a run by them returned this result.
 pub record RanFile {F R W : Type 0} (held : F → Option (List ℕ)) (remaining : R → Option (List ℕ)) (contents : W → Option (List ℕ)) (asked : Words) (reader_before reader_after : Watched R) (writer_before writer_after : Watched W) (answer : Result (Unit {0}) RunError) : Type 0 where
   pub file : List ℕ
   pub is_file : IsFile held file
-  pub ran : RanIn asked.text remaining contents reader_before reader_after writer_before writer_after (plan_of asked.stream asked.settings) file answer
-  pub fault : RefusesIn asked.text (plan_of asked.stream asked.settings) file reader_before reader_after writer_before writer_after answer
+  pub ran : RanIn (grammar_of asked.text) remaining contents reader_before reader_after writer_before writer_after (plan_of asked.stream asked.settings) file answer
+  pub fault : RefusesIn (grammar_of asked.text) (plan_of asked.stream asked.settings) file reader_before reader_after writer_before writer_after answer
 
 module _ {F R W : Type 0} (held : F → Option (List ℕ)) (remaining : R → Option (List ℕ)) (contents : W → Option (List ℕ)) where
   module _ (asked : Words) (reader_before reader_after : Watched R) (writer_before writer_after : Watched W) where
-    -- A run by the rule file returned this; then the writer was flushed, and this many flushes failed.
+    -- A run by the rule file returned this result; then the writer was flushed, and this many flushes failed.
     abbrev pub RanAndFlushed : Result (Unit {0}) RunError → ℕ → Type 0
     RanAndFlushed answer failed = (between : Watched W) × RanFile held remaining contents asked reader_before reader_after writer_before between answer × Flushes contents between writer_after failed
 
-    -- What an outcome says of the run that was asked for.
+    -- what each outcome means where a run was asked for
     abbrev pub AnswersFile : Result (Unit {0}) Fault → Type 0
     AnswersFile (Ok done) = RanAndFlushed (Ok tt) 0
     AnswersFile (Err faults.Words) = ⊥
@@ -97,7 +96,7 @@ module _ {F R W : Type 0} (held : F → Option (List ℕ)) (remaining : R → Op
     AnswersFile (Err faults.Flush) = RanAndFlushed (Ok tt) 1
 
   module _ (words : List Text) (reader_before reader_after : Watched R) (writer_before writer_after : Watched W) (outcome : Result (Unit {0}) Fault) where
-    -- what an outcome says where the words are read so
+    -- what the outcome means, given what the words were read as
     abbrev pub AnswersRead : Result Words WordsFault → Type 0
     AnswersRead (Ok asked) = AnswersFile asked reader_before reader_after writer_before writer_after outcome
     AnswersRead (Err (Help help)) = (reader_after ≡ reader_before) × AnswersHelp contents writer_before writer_after outcome
@@ -105,16 +104,16 @@ module _ {F R W : Type 0} (held : F → Option (List ℕ)) (remaining : R → Op
     AnswersRead (Err Memory) = (outcome ≡ Err (faults.Run errors.Memory)) × NoneTouched reader_before reader_after writer_before writer_after
     AnswersRead (Err (Pairing e)) = (outcome ≡ Err (faults.Pairs e)) × NoneTouched reader_before reader_after writer_before writer_after
 
-    -- What an outcome says of the words, of the rule file, of what was read and written, and of the flush.
+    -- what the outcome means for the words, the rule file, what was read and written, and the flush
     abbrev pub AnswersTool : Type 0
     AnswersTool = (asked : Result Words WordsFault) × Reads words asked × AnswersRead asked
 
-  -- The status is that of an outcome, which says all that.
+  -- the status is that of an outcome, which means what `AnswersTool` says
   abbrev pub EndsTool : {Z : Type 0} → List (String Z) → Watched R → Watched R → Watched W → Watched W → ℕ → Type 0
   EndsTool words reader_before reader_after writer_before writer_after status =
       (outcome : Result (Unit {0}) Fault) × (status ≡ exit_of outcome) × AnswersTool (map string_bytes words) reader_before reader_after writer_before writer_after outcome
 
-  -- The same of the words that the system gives; or it gives none, which is reported, and neither device is touched.
+  -- The status for the words that the system gives. If it fails to give them, that is reported, and neither device is touched.
   abbrev pub EndsProgram : {Z A : Type 0} → Result (IntoIter (String Z) A) Error → Watched R → Watched R → Watched W → Watched W → ℕ → Type 0
   EndsProgram (Ok words) reader_before reader_after writer_before writer_after status = EndsTool (into_iter_items words) reader_before reader_after writer_before writer_after status
   EndsProgram (Err error) reader_before reader_after writer_before writer_after status =

@@ -1,10 +1,8 @@
--- Which automaton serves a run, as the builder of the front chooses it, and what goes by that: the limits of a build, and the looks
--- a byte.
+-- Which automaton the front's builder chooses for a run, and what depends on it: the limits of a build, and the look-ups a byte.
 use Rattle.std.specs.Prelude.{◌≡◌, ◌≢◌, ◌⊎◌, ℕ, ◌+◌, ◌*◌, ◌≤◌, true, false, List, Option, None, Some}
 use Rattle.ac_input.specs.Dictionary.{Dictionary}
 use Rattle.ac_input.specs.Limits.{IsWithinLimits}
 use Rattle.ac_input.specs.Rules.{Rule}
-use Rattle.ac_input.specs.Steps.{looked_of}
 use Rattle.ac_input.specs.Work.{lookups_per_byte}
 use Rattle.ac_input.specs.declared.search.StartKind.TheVariants as starts
 use Rattle.ac_input.specs.declared.steps.Steps.{Steps}
@@ -15,12 +13,12 @@ use Rattle.aho_corasick.specs.Served.{IsDictionaryRefused, IsServed, TakesDfa}
 use Rattle.aho_corasick.specs.declared.ahocorasick.AhoCorasickKind.{AhoCorasickKind}
 use Rattle.aho_corasick.specs.declared.ahocorasick.AhoCorasickKind.TheVariants as kinds
 use Rattle.acsub.specs.Plan.{Plan}
-use Rattle.acsub.specs.Sides.{rule_patterns}
+use Rattle.acsub.specs.Rules.Sides.{rule_patterns}
 use Rattle.acsub.specs.declared.settings.Engine.{Engine}
 use Rattle.acsub.specs.declared.settings.Engine.TheVariants as engines
 use Rattle.acsub.specs.declared.settings.Settings.{Settings}
 
--- the automaton that an engine's word names; `auto` leaves it to the front, and packed search is none
+-- the automaton that an engine's word names; `auto` leaves the choice to the front, and `packed` names none
 abbrev pub automaton_named : Engine → Option AhoCorasickKind
 automaton_named engines.Auto = None
 automaton_named engines.Noncontiguous = Some kinds.NoncontiguousNFA
@@ -51,22 +49,22 @@ IsAutomatonFor settings rules kind = IsServed (automaton_named settings.engine) 
 
 -- ---- the limits
 
--- the limit that the rules' patterns pass, where the settings ask for an automaton: one of every build, or that of the automaton
--- that is named; out of memory is none
+-- The settings ask for an automaton, and the rules' patterns exceed this limit: one of every build, or one of the automaton that is
+-- named. Out of memory is no limit.
 abbrev pub IsNotBuilt : Settings → List Rule → BuildErrorKind → Type 0
 IsNotBuilt settings rules error = (settings.engine ≢ engines.Packed) × (error ≢ limits.Memory) × IsDictionaryRefused (builder_settings settings) (dictionary_for settings rules) error
 
--- the rules' patterns pass no limit, where the settings ask for an automaton: one serves
+-- if the settings ask for an automaton, the rules' patterns are within all limits, and some automaton serves them
 abbrev pub IsBuildable : Settings → List Rule → Type 0
 IsBuildable settings rules = settings.engine ≢ engines.Packed → IsWithinLimits (dictionary_for settings rules) × (kind : AhoCorasickKind) × IsAutomatonFor settings rules kind
 
--- ---- the looks
+-- ---- the look-ups
 
--- a DFA serves: the engine's word names it, or leaves the automaton to the front, which takes one
+-- a DFA serves: the engine's word names it, or leaves the choice to the front, which takes one
 abbrev pub IsServedByDfa : Settings → List Rule → Type 0
 IsServedByDfa settings rules = (settings.engine ≡ engines.Dfa) ⊎ ((settings.engine ≡ engines.Auto) × TakesDfa (builder_settings settings) (dictionary_for settings rules))
 
--- The looks for so many bytes: at most two for each, and at most one where a DFA serves.
+-- n bytes take at most two look-ups each, and at most one each where a DFA serves.
 pub record AreLooksFor (plan : Plan) (n : ℕ) (before after : Steps) : Type 0 where
-  pub most : looked_of after ≤ looked_of before + lookups_per_byte false * n
-  pub by_dfa : IsServedByDfa plan.settings plan.rules → looked_of after ≤ looked_of before + lookups_per_byte true * n
+  pub most : after.looked.value ≤ before.looked.value + lookups_per_byte false * n
+  pub by_dfa : IsServedByDfa plan.settings plan.rules → after.looked.value ≤ before.looked.value + lookups_per_byte true * n

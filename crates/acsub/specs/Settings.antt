@@ -1,10 +1,10 @@
 -- Which settings are accepted.
-use Rattle.std.specs.Prelude.{◌≡◌, ◌≢◌, ℕ, ◌<◌, List, [], length, ◌⊎◌, Result, MatchResult}
+use Rattle.std.specs.Prelude.{◌≡◌, ◌≢◌, ℕ, ◌<◌, List, [], length, ◌⊎◌}
 use Rattle.ac_input.specs.Same.{IsUnpaired}
 use Rattle.ac_input.specs.Rules.{Rule}
 use Rattle.ac_input.specs.declared.search.MatchKind.TheVariants.{Standard}
 use Rattle.ac_literal.specs.Packed.{most_packed}
-use Rattle.acsub.specs.Lines.{rule_at}
+use Rattle.acsub.specs.Rules.Lines.{rule_at}
 use Rattle.acsub.specs.declared.settings.Settings.{Settings}
 use Rattle.acsub.specs.declared.settings.Mode.TheVariants.{Overlap}
 use Rattle.acsub.specs.declared.settings.Engine.TheVariants.{Packed}
@@ -15,7 +15,7 @@ use Rattle.acsub.specs.declared.settings.SettingError.TheVariants.{OverlapLeftmo
 abbrev pub HasEmptyPattern : List Rule → Type 0
 HasEmptyPattern rules = (i : ℕ) × (i < length rules) × ((rule_at rules i).0 ≡ [])
 
--- what excludes settings, with these rules
+-- this reason excludes the settings, given the rules
 abbrev pub IsExcluded : Settings → List Rule → SettingError → Type 0
 IsExcluded s rules OverlapLeftmost = (s.mode ≡ Overlap) × (s.kind ≢ Standard)
 IsExcluded s rules PackedStandard = (s.engine ≡ Packed) × (s.kind ≡ Standard)
@@ -23,7 +23,7 @@ IsExcluded s rules PackedFold = (s.engine ≡ Packed) × ¬ IsUnpaired s.pairing
 IsExcluded s rules PackedEmpty = (s.engine ≡ Packed) × HasEmptyPattern rules
 IsExcluded s rules PackedCount = (s.engine ≡ Packed) × ((length rules ≡ 0) ⊎ (most_packed < length rules))
 
--- the order in which reasons are reported
+-- the rank of a reason: of those that apply, the lowest is reported
 abbrev pub order_of : SettingError → ℕ
 order_of OverlapLeftmost = 0
 order_of PackedStandard = 1
@@ -38,7 +38,3 @@ IsAccepted s rules = (e : SettingError) → ¬ IsExcluded s rules e
 -- the first reason that excludes the settings
 abbrev pub IsFirstExclusion : Settings → List Rule → SettingError → Type 0
 IsFirstExclusion s rules e = IsExcluded s rules e × ((earlier : SettingError) → order_of earlier < order_of e → ¬ IsExcluded s rules earlier)
-
--- whether settings are accepted, with these rules, and if not why
-abbrev pub AnswersCheck : Settings → List Rule → Result (Unit {0}) SettingError → Type 0
-AnswersCheck s rules result = MatchResult result (λ _. IsAccepted s rules) (IsFirstExclusion s rules)

@@ -1,24 +1,24 @@
--- What a run that writes while it reads says of what it read and wrote.
+-- What a run that writes while it reads has read, written and returned.
+pub mod StreamList
+pub mod StreamOverlap
 use Rattle.std.specs.Prelude.{◌≡◌, ◌≢◌, ℕ, ◌+◌, ◌≤◌, ◌++◌, List, length, Option, Result, Ok, Err, IfErr, OnOk}
 use Rattle.std.specs.List.{concat}
-use Rattle.ac_input.specs.Steps.{looked_of}
 use Rattle.ac_input.specs.declared.steps.Steps.{Steps}
 use Rattle.ac_automaton.specs.Automaton.{Built}
-use Rattle.ac_automaton.specs.Moved.{AllFit, HasMoved, Moved}
+use Rattle.ac_automaton.specs.Devices.Moved.{AllFit, HasMoved, Moved}
 use Rattle.ac_automaton.specs.Replace.{matches_in}
-use Rattle.ac_automaton.specs.StreamAnswer.{AnswersWriting}
-use Rattle.ac_automaton.specs.StreamReplace.{IsAnyKindCost}
-use Rattle.ac_automaton.specs.Watched.{pieces_of}
+use Rattle.ac_automaton.specs.Stream.StreamAnswer.{AnswersWriting}
+use Rattle.ac_automaton.specs.Stream.StreamReplace.{IsStreamCost}
 use Rattle.ac_automaton.specs.declared.error.MatchErrorKind.{MatchErrorKind}
 use Rattle.ac_automaton.specs.declared.error.StreamError.{StreamError}
 use Rattle.ac_automaton.specs.declared.error.StreamError.TheVariants as stream
 use Rattle.ac_automaton.specs.declared.watched.Watched.{Watched}
 use Rattle.acsub.specs.Plan.{Plan}
-use Rattle.acsub.specs.Transformed.{IsOutputFront, output_of, stream_room}
+use Rattle.acsub.specs.Run.Transformed.{IsOutputFront, output_of, stream_room}
 use Rattle.acsub.specs.declared.error.RunError.{RunError}
 use Rattle.acsub.specs.declared.error.RunError.TheVariants as errors
 
--- A run returns the result of a search of a stream as it is. No run returns a refusal of the search.
+-- A run returns the result of a stream's search unchanged. No run returns a refusal of the search.
 abbrev pub IsReturnedAs : Result (Unit {0}) StreamError → Result (Unit {0}) RunError → Type 0
 IsReturnedAs (Ok done) result = result ≡ Ok done
 IsReturnedAs (Err (stream.Config error)) result = ⊥
@@ -28,28 +28,28 @@ IsReturnedAs (Err stream.WriteZero) result = result ≡ Err errors.WriteZero
 IsReturnedAs (Err stream.Memory) result = result ≡ Err errors.Memory
 IsReturnedAs (Err stream.Position) result = result ≡ Err errors.Position
 
--- What a run that writes while it reads has read, no piece longer than the buffer, and written. Its result is that of a search of a
--- stream which writes the run's text.
+-- What a run that writes while it reads has read and written; no piece was longer than the buffer. Its result is that of a stream's
+-- search which writes the run's text.
 abbrev pub Streams : {R W : Type 0} → (R → Option (List ℕ)) → (W → Option (List ℕ)) → Watched R → Watched R → Watched W → Watched W → Plan → Result (Unit {0}) RunError → Type 0
 Streams remaining contents reader_before reader_after writer_before writer_after plan result =
     (m : Moved) × HasMoved remaining contents reader_before reader_after writer_before writer_after m × AllFit (stream_room plan) m.pieces
     × (searched : Result (Unit {0}) StreamError) × IsReturnedAs searched result × AnswersWriting (output_of plan.settings plan.rules) (IsOutputFront plan.settings plan.rules) m searched
 
--- What that cost, by the bytes that were read and by their matches; if it reached the end, each of the bytes was looked at.
+-- What the search of a stream costs, by the bytes that were read and by their matches. If it returned Ok, it looked at each byte.
 abbrev pub CostsStreaming : {R E : Type 0} → Built → Watched R → Watched R → Steps → Steps → Result (Unit {0}) E → Type 0
 CostsStreaming b reader_before reader_after before after result =
-    (pieces : List (List ℕ)) × (pieces_of reader_after ≡ pieces_of reader_before ++ pieces)
-    × IsAnyKindCost b (length (concat pieces)) (length (matches_in b (concat pieces))) before after
-    × OnOk result (looked_of before + length (concat pieces) ≤ looked_of after)
+    (pieces : List (List ℕ)) × (reader_after.pieces.items ≡ reader_before.pieces.items ++ pieces)
+    × IsStreamCost b (length (concat pieces)) (length (matches_in b (concat pieces))) before after
+    × OnOk result (before.looked.value + length (concat pieces) ≤ after.looked.value)
 
 -- the error is no refusal of the search
 abbrev pub IsNoRefusal : StreamError → Type 0
 IsNoRefusal error = (refusal : MatchErrorKind) → error ≢ stream.Config refusal
 
--- this holds where a run is out of memory
+-- P holds if the run is out of memory
 abbrev pub IfMemory : Result (Unit {0}) RunError → Type 0 → Type 0
 IfMemory result P = IfErr result (λ error. error ≡ errors.Memory → P)
 
--- the same of a search of a stream
+-- P holds if the search of a stream is out of memory
 abbrev pub IfStreamMemory : Result (Unit {0}) StreamError → Type 0 → Type 0
 IfStreamMemory result P = IfErr result (λ error. error ≡ stream.Memory → P)

@@ -1,4 +1,4 @@
--- The lines that the program writes where something is wrong, and the statuses with which it ends.
+-- The lines that report faults, and the exit statuses of the program.
 use Rattle.std.specs.Prelude.{◌≡◌, ℕ, List, ◌++◌, OnOk, Option, Result, Ok, Err, codes, decimal}
 use Rattle.std.specs.Io.KnownBytes.{Appends}
 use Rattle.std.specs.declared.io.ErrorKind.{ErrorKind}
@@ -22,12 +22,12 @@ setting_text PackedFold = codes "packed keeps case"
 setting_text PackedEmpty = codes "packed takes no empty pattern"
 setting_text PackedCount = codes "packed takes 1 to 128 patterns"
 
--- a run returns `Line` alone, so the other text is never printed
+-- A run returns only `Line` of these, so the other text is never printed.
 abbrev pub rule_text : RuleError → List ℕ
 rule_text (rule_errors.Line n) = codes "line " ++ decimal n
 rule_text rule_errors.Memory = codes "out of memory"
 
--- a run returns no `Memory` here, so that text is never printed
+-- A run returns out of memory as an error of its own, so that text is never printed here.
 abbrev pub build_text : BuildErrorKind → List ℕ
 build_text (limits.StateIDOverflow max requested) = codes "too many states"
 build_text (limits.PatternIDOverflow max requested) = codes "too many patterns"
@@ -44,7 +44,7 @@ run_text errors.WriteZero = codes "write took no byte"
 run_text errors.Memory = codes "out of memory"
 run_text errors.Position = codes "input too long"
 
--- what is said of a fault, after the program's name
+-- the message of a fault, after the program's name
 abbrev pub fault_text : Fault → List ℕ
 fault_text faults.Words = codes "bad words"
 fault_text (faults.Pairs e) = codes "setting: " ++ (codes "byte " ++ decimal (twice_of e) ++ codes " is named twice")
@@ -62,7 +62,7 @@ run_status errors.WriteZero = 6
 run_status errors.Memory = 7
 run_status errors.Position = 8
 
--- the status with which the program ends
+-- the exit status for a fault
 abbrev pub status_of : Fault → ℕ
 status_of faults.Words = 2
 status_of (faults.Pairs e) = 2
@@ -70,20 +70,20 @@ status_of faults.RuleFile = 3
 status_of (faults.Run e) = run_status e
 status_of faults.Flush = 6
 
--- the line of a fault
+-- the line that reports a fault
 abbrev pub line_of : Fault → List ℕ
 line_of fault = codes "acsub: " ++ fault_text fault ++ codes "\n"
 
--- The line of a fault was written, where the write succeeded: what is written to in memory grew by it.
+-- If the write succeeded, the contents of a writer in memory grew by the fault's line.
 abbrev pub WritesLine : {E F : Type 0} → (E → Option (List ℕ)) → E → E → Fault → Result (Unit {0}) F → Type 0
 WritesLine contents before after fault result = OnOk result (Appends (contents before) (contents after) (line_of fault))
 
--- the status with which the program ends, by its outcome
+-- the exit status for an outcome
 abbrev pub exit_of : Result (Unit {0}) Fault → ℕ
 exit_of (Ok done) = 0
 exit_of (Err fault) = status_of fault
 
--- the fault that an error of the system gives: out of memory, or this
+-- the fault for a system error: out of memory where the error is that, and otherwise the given one
 abbrev pub IsFaultOf : ErrorKind → Fault → Fault → Type 0
 IsFaultOf kind.OutOfMemory other fault = fault ≡ faults.Run errors.Memory
 IsFaultOf _ other fault = fault ≡ other

@@ -1,5 +1,6 @@
 -- What the words of a command line ask for.
-use Rattle.std.specs.Prelude.{◌++◌, ◌<◌, MatchResult, length, ◌≡◌, ◌≢◌, ◌⊎◌, ℕ, Bool, true, false, not, if◌then◌else◌, List, [], Option, Some, None, Result, Ok, Err, codes, option_map, option_and_then, is_some}
+pub mod Command
+use Rattle.std.specs.Prelude.{◌++◌, ◌<◌, length, ◌≡◌, ◌≢◌, ◌⊎◌, ℕ, Bool, true, false, not, if◌then◌else◌, List, [], Option, Some, None, Result, Ok, Err, codes, option_map, option_and_then, is_some}
 use Rattle.std.specs.Option.{option_map_or}
 use Rattle.std.specs.Str.{bytes_eq}
 use Rattle.std.specs.Str.Parse.{digits_value, without_leading_plus}
@@ -17,7 +18,7 @@ use Rattle.ac_input.specs.declared.pairing.PairingError.{PairingError}
 use Rattle.ac_input.specs.declared.pairing.PairingError.TheVariants.{Twice}
 use Rattle.ac_input.specs.declared.search.MatchKind.{MatchKind}
 use Rattle.ac_input.specs.declared.search.MatchKind.TheVariants.{Standard, LeftmostFirst, LeftmostLongest}
-use Rattle.acsub.specs.Command.{command, greatest_depth}
+use Rattle.acsub.specs.Words.Command.{command, greatest_depth}
 use Rattle.acsub.specs.declared.settings.Mode.{Mode}
 use Rattle.acsub.specs.declared.settings.Mode.TheVariants as mode
 use Rattle.acsub.specs.declared.settings.Engine.{Engine}
@@ -48,7 +49,7 @@ engine_named word =
     else (if bytes_eq word (codes "dfa") then Some engine.Dfa
     else (if bytes_eq word (codes "packed") then Some engine.Packed else None))))
 
--- the number that decimal digits spell, after a `+` or without
+-- the number that decimal digits spell, with or without a leading `+`
 abbrev pub number_of : Text → ℕ
 number_of digits = digits_value 10 (without_leading_plus digits)
 
@@ -56,7 +57,7 @@ number_of digits = digits_value 10 (without_leading_plus digits)
 abbrev pub SpellsPairs : Text → List (ℕ × ℕ) → Type 0
 SpellsPairs hex pairs = (pairs ≢ []) × Spells hex (named pairs)
 
--- what each argument was given
+-- the values that each argument was given
 abbrev pub rows_in : ArgMatches → List Row
 rows_in matches = rows_of (found_of matches)
 
@@ -74,9 +75,6 @@ match_kind_of rows = option_and_then kind_named (first_of (codes "kind") rows)
 abbrev pub engine_of : List Row → Option Engine
 engine_of rows = option_and_then engine_named (first_of (codes "engine") rows)
 
-abbrev pub dense_depth_of : List Row → Option ℕ
-dense_depth_of rows = option_map number_of (one_of (codes "dense-depth") rows)
-
 abbrev pub pairs_text : List Row → Option Text
 pairs_text rows = first_of (codes "pairs") rows
 
@@ -89,20 +87,20 @@ folds rows = is_given (codes "fold") rows
 
 -- ---- the pairing, by whether `--fold` is there and the value of `--pairs`
 
--- this is its table
+-- this is the table of the pairing that `--fold` or `--pairs` asks for
 abbrev pub PairsAs : Bool → Option Text → List ℕ → Type 0
 PairsAs true None table = (b : ℕ) → other table b ≡ other_case b
 PairsAs false None table = (b : ℕ) → other table b ≡ b
 PairsAs true (Some hex) table = ⊥
 PairsAs false (Some hex) table = (pairs : List (ℕ × ℕ)) × SpellsPairs hex pairs × IsDistinct (named pairs) × ((b : ℕ) → other table b ≡ partner pairs b)
 
--- the value spells no pairs, or `--fold` is there too
+-- `--pairs` has a value that spells no pairs, or stands beside `--fold`
 abbrev pub PairsBadly : Bool → Option Text → Type 0
 PairsBadly fold None = ⊥
 PairsBadly true (Some hex) = Unit {0}
 PairsBadly false (Some hex) = (pairs : List (ℕ × ℕ)) → ¬ SpellsPairs hex pairs
 
--- the value spells pairs that name a byte twice, the first such byte
+-- the value spells pairs that name a byte twice; this is the first such byte
 abbrev pub PairsTwice : Bool → Option Text → PairingError → Type 0
 PairsTwice fold None error = ⊥
 PairsTwice true (Some hex) error = ⊥
@@ -118,11 +116,7 @@ Unpairs rows Bad = PairsBadly (folds rows) (pairs_text rows)
 Unpairs rows Memory = Unit {0}
 Unpairs rows (Pairing e) = PairsTwice (folds rows) (pairs_text rows) e
 
--- the pairing of the matches, or why they give none
-abbrev pub Pairs : List Row → Result (List ℕ) WordsFault → Type 0
-Pairs rows result = MatchResult result (IsPairedBy rows) (Unpairs rows)
-
--- the pairs name the bytes two by two, but for one that may be left over
+-- the pairs take the bytes two at a time, and at most one byte is left over
 abbrev pub AreTwoByTwo : List ℕ → List (ℕ × ℕ) → Type 0
 AreTwoByTwo bytes pairs = (rest : List ℕ) × (bytes ≡ named pairs ++ rest) × (length rest < 2)
 
@@ -135,7 +129,7 @@ Misspells hex (Pairing e) = ⊥
 
 -- ---- the result
 
--- the settings, the path and the form of the rule file, and the wish for a stream are those that the matches give
+-- the settings, the rule file's path and form, and whether to stream, are those that the matches give
 pub record AsksFor (rows : List Row) (w : Words) : Type 0 where
   pub mode : mode_of rows ≡ Some w.settings.mode
   pub rules : rules_path rows ≡ Some w.rules.now
@@ -145,10 +139,10 @@ pub record AsksFor (rows : List Row) (w : Words) : Type 0 where
   pub pairing : IsPairedBy rows w.settings.pairing
   pub engine : engine_of rows ≡ Some w.settings.engine
   pub prefilter : w.settings.prefilter ≡ not (is_given (codes "no-prefilter") rows)
-  pub dense_depth : dense_depth_of rows ≡ w.settings.dense_depth
+  pub dense_depth : option_map number_of (one_of (codes "dense-depth") rows) ≡ w.settings.dense_depth
   pub byte_classes : w.settings.byte_classes ≡ not (is_given (codes "no-byte-classes") rows)
 
--- each value names what its argument asks for, as clap saw to
+-- each value is one that its argument takes, as clap has checked
 pub record IsTyped (rows : List Row) : Type 0 where
   pub mode : is_some (mode_of rows) ≡ true
   pub rules : is_some (rules_path rows) ≡ true
@@ -156,7 +150,7 @@ pub record IsTyped (rows : List Row) : Type 0 where
   pub engine : is_some (engine_of rows) ≡ true
   pub dense_depth : (text : Text) → one_of (codes "dense-depth") rows ≡ Some text → IsUnsignedIn 0 greatest_depth text
 
--- the result where these are the matches
+-- the words that these matches ask for, or the fault in their pairing
 abbrev pub ReadsMatches : List Row → Result Words WordsFault → Type 0
 ReadsMatches rows (Ok w) = AsksFor rows w
 ReadsMatches rows (Err fault) = Unpairs rows fault
@@ -165,12 +159,12 @@ ReadsMatches rows (Err fault) = Unpairs rows fault
 abbrev pub IsShown : ErrorKind → Type 0
 IsShown k = (k ≡ kind.DisplayHelp) ⊎ (k ≡ kind.DisplayVersion)
 
--- clap finds a fault with the words, and it is no text to show
+-- clap finds a fault with the words that is neither a request for help nor one for the version
 abbrev pub IsRefused : Kinds → Type 0
 IsRefused kinds = (k : ErrorKind) × IsAmong k kinds × ¬ IsShown k
 
--- What the program returns for the words. clap takes them exactly where it finds no fault with them; then the result is
--- that of their matches. There may be too little memory for any words.
+-- What the program returns for the words. Clap takes them exactly if it finds no fault with them; then their matches give the
+-- result. Memory may run out for any words.
 abbrev pub Reads : List Text → Result Words WordsFault → Type 0
 Reads words (Ok w) = (fault_of command words ≡ []) × AsksFor (matches_of command words) w
 Reads words (Err (Help e)) = IsShown (kind_of e) × IsAmong (kind_of e) (fault_of command words)
@@ -178,7 +172,7 @@ Reads words (Err Bad) = IsRefused (fault_of command words) ⊎ ((fault_of comman
 Reads words (Err Memory) = Unit {0}
 Reads words (Err (Pairing e)) = (fault_of command words ≡ []) × Unpairs (matches_of command words) (Pairing e)
 
--- the same of clap's part
+-- what clap's parser returns for the words
 abbrev pub Parses : List Text → Result ArgMatches WordsFault → Type 0
 Parses words (Ok m) = (fault_of command words ≡ []) × (rows_of (found_of m) ≡ matches_of command words) × IsTyped (matches_of command words)
 Parses words (Err (Help e)) = IsShown (kind_of e) × IsAmong (kind_of e) (fault_of command words)
@@ -186,7 +180,7 @@ Parses words (Err Bad) = IsRefused (fault_of command words)
 Parses words (Err Memory) = Unit {0}
 Parses words (Err (Pairing e)) = ⊥
 
--- ---- what the program makes of the errors of the libraries
+-- ---- the faults that errors of the libraries become
 
 abbrev pub hex_fault : FromHexError → WordsFault
 hex_fault OutOfMemory = Memory

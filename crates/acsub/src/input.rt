@@ -1,6 +1,5 @@
 //! The whole input in memory.
 ghost use Rattle.std.specs.Prelude.{◌≡◌, ◌+◌, ◌≤◌, false, take, vec_len, OnOk};
-ghost use Rattle.ac_automaton.specs.Watched.{has_ended};
 ghost use Rattle.acsub.specs.Input.{ReadsWhole};
 ghost use Rattle.acsub.specs.declared.input.TheConstants.{PIECE};
 
@@ -18,7 +17,7 @@ const PIECE: usize = ac_automaton::stream::LEAST_ROOM;
 /// The vector grows by doubling, so each byte is moved a few times at most. Of the room that is taken only the next piece is
 /// written to, so no more memory is touched than the input and a piece.
 pub fn read_whole<R: Read>(alloc: Global, reader: &mut Watched<R>) -> Result<Vec<u8>, RunError>
-    requires { has_ended reader.old ≡ false }
+    requires { reader.old.ended ≡ false }
     ensures { ReadsWhole R.remaining reader.old reader.new result }
 {
     let mut input = Vec::new(alloc);

@@ -2,39 +2,35 @@
 //!
 //! A [`Prepared`] holds the settings, the rules, which suit them, and what finds the matches of the rules' patterns. It is built
 //! before the input is read, and allocates all its memory then. Packed search serves if the engine's word names it; otherwise an
-//! [`AhoCorasick`] does, by the automaton that the word names, or by the one that its builder chooses. Only the build knows which;
-//! everything else is proved for any automaton.
-ghost use Rattle.std.specs.Prelude.{◌≡◌, ◌≢◌, ◌↔◌, IfOk, IfSome, IsSome, length};
+//! [`AhoCorasick`] does, by the automaton that the word names, or by the one that its builder chooses. Only the build knows which.
+ghost use Rattle.std.specs.Prelude.{◌≡◌, ◌≢◌, ◌↔◌, IfErr, IfOk, IfSome, IsSome, length};
 ghost use Rattle.ac_input.specs.declared.search.MatchKind.TheVariants.{Standard};
-ghost use Rattle.ac_literal.specs.Packed.{AreServed, bytes_of, search_kind};
-ghost use Rattle.acsub.specs.Finder.{Builds, BuildsAutomaton, IsFinderOf, IsPackedFor, IsServing, whole_listing, whole_walk};
+ghost use Rattle.ac_literal.specs.Packed.{AreServed, search_kind};
+ghost use Rattle.acsub.specs.Finder.{FailsToBuild, IsFinderOf, IsPackedFor, IsServing, whole_listing, whole_walk};
 ghost use Rattle.acsub.specs.Matches.{IsUncounted, left_in};
 ghost use Rattle.acsub.specs.Plan.{plan_of};
+ghost use Rattle.acsub.specs.Run.{Prepares};
 ghost use Rattle.acsub.specs.Served.{automaton_named, builder_settings};
 ghost use Rattle.acsub.specs.Settings.{IsAccepted};
-ghost use Rattle.acsub.specs.Sides.{rule_patterns};
-ghost use Rattle.acsub.specs.Transformed.{IsStreamed};
+ghost use Rattle.acsub.specs.Rules.Sides.{rule_patterns};
+ghost use Rattle.acsub.specs.Run.Transformed.{IsStreamed};
 ghost use Rattle.acsub.specs.declared.settings.Engine.TheVariants.{Packed};
 
 use crate::error::RunError;
 use crate::matches::Matches;
 use crate::rules::Rules;
-use crate::settings::{Engine, Mode, Settings, is_streamed};
-use ac_automaton::search::Search;
+use crate::settings::{Engine, Mode, Settings, check, is_streamed};
 use ac_input::search::{Input, MatchKind};
 use ac_literal::packed::{self, Config, Searcher};
 use aho_corasick::{AhoCorasick, AhoCorasickBuilder, AhoCorasickKind};
 use std::alloc::{AllocError, Global};
 use std::marker::Model;
 
-/// What serves all engines but packed search.
-pub type Chosen = AhoCorasick;
-
 /// What finds matches.
 #[derive(Drop)]
-enum Finder<A> {
-    /// An automaton.
-    Automaton(A),
+enum Finder {
+    /// An automaton: the one that the engine's word names, or that the builder chooses.
+    Automaton(AhoCorasick),
     /// Packed search.
     Packed(Searcher),
 }
@@ -42,14 +38,14 @@ enum Finder<A> {
 /// What is settled before the input is read. A contract sees the settings, the rules, and whether the text was asked for while the
 /// input is read.
 #[derive(Drop)]
-pub struct Prepared<'r, A: Search> {
+pub struct Prepared<'r> {
     settings: Settings,
     rules: &'r Rules,
     stream: bool,
-    finder: Finder<A>,
+    finder: Finder,
 }
 
-impl<'r, A: Search> Model for Prepared<'r, A> {
+impl<'r> Model for Prepared<'r> {
     ghost use Rattle.acsub.specs.Finder.{IsFinderOf};
     ghost use Rattle.acsub.specs.Plan.{Plan, plan_of};
 
@@ -57,28 +53,10 @@ impl<'r, A: Search> Model for Prepared<'r, A> {
 
     ghost view = { λ p. plan_of p.stream p.settings p.rules.now };
 
-    ghost invariant = { λ p. IsFinderOf A.built A.supports p.settings p.rules.now p.finder };
+    ghost invariant = { λ p. IsFinderOf p.settings p.rules.now p.finder };
 }
 
-impl<'r, A: Search> Prepared<'r, A> {
-    /// The settings and rules, and what was made for them.
-    fn new(
-        settings: &Settings,
-        stream: bool,
-        rules: &'r Rules,
-        finder: Finder<A>,
-    ) -> Prepared<'r, A>
-        requires { IsFinderOf A.built A.supports settings.now rules.now finder }
-        ensures { result ≡ plan_of stream settings.now rules.entry.now }
-    {
-        Prepared {
-            settings: *settings,
-            rules,
-            stream,
-            finder,
-        }
-    }
-
+impl<'r> Prepared<'r> {
     /// What is written.
     pub fn mode(&self) -> Mode
         ensures { result ≡ self.now.settings.mode }
@@ -94,10 +72,9 @@ impl<'r, A: Search> Prepared<'r, A> {
     }
 
     /// The automaton that finds the matches of what is read, where the text is written while the input is read.
-    pub fn streamed(&self) -> Option<&A>
+    pub fn streamed(&self) -> Option<&AhoCorasick>
         ensures some { IsSome result ↔ IsStreamed self.now }
-        ensures serves { IfSome result (λ a. IsServing self.now.settings self.now.rules
-            (A.built a.now) (A.supports a.now)) }
+        ensures serves { IfSome result (λ a. IsServing self.now.settings self.now.rules a.now) }
     {
         match &self.finder {
             Finder::Automaton(automaton) => {
@@ -112,7 +89,7 @@ impl<'r, A: Search> Prepared<'r, A> {
     }
 
     /// The matches of an input, one after another.
-    pub fn picks<'a>(&'a self, input: &'a [u8]) -> Matches<'a, A>
+    pub fn picks<'a>(&'a self, input: &'a [u8]) -> Matches<'a>
         ensures walk { left_in result ≡ whole_walk self.now input.now }
         ensures fresh { IsUncounted self.now (length input.now) result }
     {
@@ -125,7 +102,7 @@ impl<'r, A: Search> Prepared<'r, A> {
     }
 
     /// All occurrences in an input, one after another, which are found under the standard kind alone.
-    pub fn overlapping<'a>(&'a self, input: &'a [u8]) -> Matches<'a, A>
+    pub fn overlapping<'a>(&'a self, input: &'a [u8]) -> Matches<'a>
         requires { self.now.settings.kind ≡ Standard }
         ensures listing { left_in result ≡ whole_listing self.now input.now }
         ensures fresh { IsUncounted self.now (length input.now) result }
@@ -141,31 +118,49 @@ impl<'r, A: Search> Prepared<'r, A> {
     }
 }
 
-/// Makes all that a run has before it reads, of rules that go with the settings.
-pub fn build<'r>(
+/// Makes all that a run has before it reads, if the settings and the rules go together.
+pub fn prepare<'r>(
     alloc: Global,
     settings: &Settings,
     stream: bool,
     rules: &'r Rules,
-) -> Result<Prepared<'r, Chosen>, RunError>
+) -> Result<Prepared<'r>, RunError>
+    ensures { Prepares (plan_of stream settings.now rules.entry.now) result }
+{
+    match check(settings, rules) {
+        Ok(()) => {
+            let finder = finder_for(alloc, settings, rules)?;
+            Ok(Prepared {
+                settings: *settings,
+                rules,
+                stream,
+                finder,
+            })
+        }
+        Err(error) => Err(RunError::Setting(error)),
+    }
+}
+
+/// What finds the matches of the rules' patterns, by settings that go with them.
+fn finder_for(alloc: Global, settings: &Settings, rules: &Rules) -> Result<Finder, RunError>
     requires { IsAccepted settings.now rules.now }
-    ensures { Builds (plan_of stream settings.now rules.entry.now) result }
+    ensures finds { IfOk result (IsFinderOf settings.now rules.now) }
+    ensures fails { IfErr result (FailsToBuild settings.now rules.now) }
 {
     if settings.engine == Engine::Packed {
         let searcher = packed_for(alloc, settings.kind, rules)?;
-        let finder = Finder::Packed(searcher);
-        Ok(Prepared::new(settings, stream, rules, finder))
+        Ok(Finder::Packed(searcher))
     } else {
         let automaton = automaton_for(alloc, settings, rules)?;
-        let finder = Finder::Automaton(automaton);
-        Ok(Prepared::new(settings, stream, rules, finder))
+        Ok(Finder::Automaton(automaton))
     }
 }
 
 /// An automaton for the rules' patterns, by settings that ask for one.
-fn automaton_for(alloc: Global, settings: &Settings, rules: &Rules) -> Result<Chosen, RunError>
+fn automaton_for(alloc: Global, settings: &Settings, rules: &Rules) -> Result<AhoCorasick, RunError>
     requires { settings.now.engine ≢ Packed }
-    ensures { BuildsAutomaton settings.now rules.now result }
+    ensures serves { IfOk result (IsServing settings.now rules.now) }
+    ensures fails { IfErr result (FailsToBuild settings.now rules.now) }
 {
     let patterns = rules.patterns(alloc)?;
     Ok(builder_for(settings).build(alloc, patterns.as_slice())?)
@@ -207,18 +202,9 @@ fn packed_for(alloc: Global, kind: MatchKind, rules: &Rules) -> Result<Searcher,
     ensures { IfOk result (IsPackedFor kind (rule_patterns rules.now)) }
 {
     let patterns = rules.patterns(alloc)?;
-    build_packed(alloc, kind, patterns.as_slice())
-}
-
-/// A packed search for the patterns, which it serves.
-fn build_packed(alloc: Global, kind: MatchKind, patterns: &[&[u8]]) -> Result<Searcher, AllocError>
-    requires kind { kind ≢ Standard }
-    requires served { AreServed (bytes_of patterns.now) }
-    ensures { IfOk result (IsPackedFor kind (bytes_of patterns.now)) }
-{
     let mut config = Config::new();
     let mut builder = config.match_kind(packed_kind(kind)).builder(alloc);
-    builder.try_extend(patterns)?;
+    builder.try_extend(patterns.as_slice())?;
     let made = builder.build()?;
     Ok(made.unwrap())
 }

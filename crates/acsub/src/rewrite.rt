@@ -5,21 +5,20 @@
 ghost use Rattle.std.specs.Prelude.{length};
 ghost use Rattle.ac_automaton.specs.Replace.{LieInOrder};
 ghost use Rattle.acsub.specs.Matches.{KeepsCount, left_in};
-ghost use Rattle.acsub.specs.Sending.{SendsList, SendsReplaced};
+ghost use Rattle.acsub.specs.Run.Sending.{SendsList, SendsReplaced};
 
 use crate::line::Line;
 use crate::matches::Matches;
 use crate::rules::Rules;
 use ac_automaton::error::StreamError;
 use ac_automaton::output::Output;
-use ac_automaton::search::Search;
 use ac_automaton::watched::Watched;
 use ac_input::steps::Steps;
 use std::io::Write;
 
 /// Sends the input with each pick replaced.
-pub fn send_replaced<A: Search, W: Write>(
-    picks: &mut Matches<'_, A>,
+pub fn send_replaced<W: Write>(
+    picks: &mut Matches<'_>,
     input: &[u8],
     rules: &Rules,
     output: &mut Output,
@@ -44,8 +43,8 @@ pub fn send_replaced<A: Search, W: Write>(
 }
 
 /// Sends a line for each match.
-pub fn send_list<A: Search, W: Write>(
-    matches: &mut Matches<'_, A>,
+pub fn send_list<W: Write>(
+    matches: &mut Matches<'_>,
     output: &mut Output,
     writer: &mut Watched<W>,
     steps: &mut Steps,

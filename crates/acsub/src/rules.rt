@@ -8,12 +8,12 @@
 //! reported never depends on memory. The second pass runs only over a rule file. It decodes the sides, and fails only where
 //! it is out of memory. Each pass looks at each byte a few times and never goes back.
 
-ghost use Rattle.std.specs.Prelude.{◌≡◌, ◌↔◌, ◌==◌, ◌<◌, ℕ, length, Contains, IsTrue, IfNone, IfOk, IfErr, IfSome, MatchOption, MatchResult};
-ghost use Rattle.ac_input.specs.Rules.{Spells, IsRuleFile, FirstBadLine, BeginsWithNoRule};
-ghost use Rattle.acsub.specs.File.{ReadsRules};
-ghost use Rattle.acsub.specs.Lines.{HasCount, HasRules, IsFirstLine, IsSpelling, IsSplitAt, rule_at};
+ghost use Rattle.std.specs.Prelude.{◌≡◌, ◌↔◌, ◌==◌, ◌<◌, ℕ, List, length, Contains, IsTrue, IfNone, IfOk, IfErr, IfSome, MatchOption, MatchResult};
+ghost use Rattle.ac_input.specs.Rules.{BeginsWithNoRule, FirstBadLine, IsRuleFile, Rule, Spells};
+ghost use Rattle.acsub.specs.Rules.File.{ReadsRules};
+ghost use Rattle.acsub.specs.Rules.Lines.{HasCount, IsFirstLine, IsSpelling, IsSplitAt, rule_at};
 ghost use Rattle.ac_literal.specs.Packed.{bytes_of};
-ghost use Rattle.acsub.specs.Sides.{rule_patterns, replacements_of};
+ghost use Rattle.acsub.specs.Rules.Sides.{rule_patterns, replacements_of};
 ghost use Rattle.acsub.specs.declared.rules.RuleError.TheVariants.{Memory};
 
 use memchr::memchr;
@@ -82,7 +82,7 @@ pub struct Rules {
 
 impl Model for Rules {
     ghost use Rattle.std.specs.Prelude.{ℕ, List};
-    ghost use Rattle.acsub.specs.Sides.{rules_of};
+    ghost use Rattle.acsub.specs.Rules.Sides.{rules_of};
 
     ghost Value = { List (List ℕ × List ℕ) };
 
@@ -149,7 +149,7 @@ impl Rules {
 pub fn read_rules(alloc: Global, bytes: &[u8]) -> Result<Rules, RuleError>
     ensures rules { IfOk result (λ rules. IsRuleFile bytes.now rules) }
     ensures bad { (n : ℕ) → (result ≡ Err (RuleError.Line n)) ↔ FirstBadLine bytes.now n }
-    ensures memory { result ≡ Err RuleError.Memory → HasRules bytes.now }
+    ensures memory { result ≡ Err Memory → (rules : List Rule) × IsRuleFile bytes.now rules }
 {
     match count_rules(bytes) {
         Ok(count) => decode_rules(alloc, bytes, count),
@@ -202,20 +202,20 @@ fn decode_rules(alloc: Global, bytes: &[u8], count: usize) -> Result<Rules, Rule
 
 /// A rule as it is written, and what follows its line.
 #[derive(Clone, Copy)]
-struct Line<'a> {
+struct RuleLine<'a> {
     pattern: &'a [u8],
     replacement: &'a [u8],
     rest: &'a [u8],
 }
 
 /// The rule that the bytes begin with.
-fn first_line(bytes: &[u8]) -> Option<Line<'_>>
+fn first_line(bytes: &[u8]) -> Option<RuleLine<'_>>
     ensures { MatchOption result (BeginsWithNoRule bytes.now) (IsFirstLine bytes.now) }
 {
     let (pattern, after) = split_at_byte(bytes, b'\t')?;
     let (replacement, rest) = split_at_byte(after, b'\n')?;
     if is_spelling(pattern) && is_spelling(replacement) {
-        Some(Line {
+        Some(RuleLine {
             pattern,
             replacement,
             rest,
@@ -242,7 +242,7 @@ fn is_spelling(text: &[u8]) -> bool
 }
 
 /// Both sides of a line, decoded.
-fn decode_line(alloc: Global, line: &Line<'_>) -> Result<Sides, RuleError>
+fn decode_line(alloc: Global, line: &RuleLine<'_>) -> Result<Sides, RuleError>
     requires pattern { IsSpelling line.now.pattern.now }
     requires replacement { IsSpelling line.now.replacement.now }
     ensures pattern { IfOk result (λ s. Spells line.now.pattern.now s.pattern.items) }

@@ -17,25 +17,24 @@
 //! Either way a run that is out of memory stops before anything is written. The engine and its settings change nothing of the
 //! text, which [`runs_write_alike`] states.
 ghost use Rattle.std.specs.Prelude.{◌≡◌, List, [], false, length, OnOk};
-ghost use Rattle.ac_automaton.specs.Watched.{has_ended};
 ghost use Rattle.acsub.specs.Matches.{IsHeldCost};
 ghost use Rattle.acsub.specs.Plan.{plan_for, plan_of, streaming_plan_for};
-ghost use Rattle.acsub.specs.Run.{CostsFile, CostsIn, CostsRun, IsReadByBuffer, Prepares, Ran, RanIn, RanPrepared, RanRules, ReadsByBuffer, Refuses, RefusesIn, RefusesRules, RunsOutFirst, WroteText, WroteTextBy, not_read};
-ghost use Rattle.acsub.specs.RunLaws.{RunsWriteAlike};
-ghost use Rattle.acsub.specs.Sending.{SendsText};
+ghost use Rattle.acsub.specs.Rules.File.{grammar_of, hex_rules};
+ghost use Rattle.acsub.specs.Run.{CostsFile, CostsIn, CostsRun, IsReadByBuffer, Ran, RanIn, RanPrepared, RanRules, ReadsByBuffer, Refuses, RefusesIn, RefusesRules, RunsOutFirst, WroteText, WroteTextBy, not_read};
+ghost use Rattle.acsub.specs.Run.RunLaws.{RunsWriteAlike};
+ghost use Rattle.acsub.specs.Run.Sending.{SendsText};
 ghost use Rattle.acsub.specs.Settings.{IsAccepted};
-ghost use Rattle.acsub.specs.Transformed.{IsStreamed};
+ghost use Rattle.acsub.specs.Run.Transformed.{IsStreamed};
 
 use crate::error::RunError;
 use crate::input::read_whole;
-use crate::prepared::{Chosen, Prepared, build};
+use crate::prepared::{Prepared, prepare};
 use crate::rewrite::{send_list, send_replaced};
 use crate::rules::{RuleError, Rules, read_rules_in};
-use crate::settings::{Mode, Settings, check};
+use crate::settings::{Mode, Settings};
 use crate::stream::{stream_text, told};
 use ac_automaton::error::StreamError;
 use ac_automaton::output::Output;
-use ac_automaton::search::Search;
 use ac_automaton::watched::Watched;
 use ac_input::steps::Steps;
 use std::alloc::Global;
@@ -53,7 +52,7 @@ pub fn run<R: Read, W: Write>(
     reader: &mut Watched<R>,
     writer: &mut Watched<W>,
 ) -> Result<(), RunError>
-    requires { has_ended reader.old ≡ false }
+    requires { reader.old.ended ≡ false }
     // Ok has written the text of all that was read.
     ensures written { OnOk result (WroteTextBy settings.now rules.now
         reader.old reader.new writer.old writer.new) }
@@ -64,7 +63,7 @@ pub fn run<R: Read, W: Write>(
     ensures fault { Refuses settings.now rules.now
         reader.old reader.new writer.old writer.new result }
     // While the text is written, no read gives more bytes than the buffer has room for.
-    ensures short { IsReadByBuffer settings.now rules.now reader.old reader.new }
+    ensures short { IsReadByBuffer hex_rules (plan_for settings.now) rules.now reader.old reader.new }
 {
     let mut steps = Steps::new();
     run_counted(alloc, settings, rules, reader, writer, &mut steps)
@@ -79,7 +78,7 @@ pub fn run_counted<R: Read, W: Write>(
     writer: &mut Watched<W>,
     steps: &mut Steps,
 ) -> Result<(), RunError>
-    requires { has_ended reader.old ≡ false }
+    requires { reader.old.ended ≡ false }
     ensures written { OnOk result (WroteTextBy settings.now rules.now
         reader.old reader.new writer.old writer.new) }
     ensures answered { Ran R.remaining W.contents reader.old reader.new writer.old writer.new
@@ -103,12 +102,12 @@ pub fn run_in<R: Read, W: Write>(
     writer: &mut Watched<W>,
     steps: &mut Steps,
 ) -> Result<(), RunError>
-    requires { has_ended reader.old ≡ false }
-    ensures answered { RanIn text R.remaining W.contents reader.old reader.new
+    requires { reader.old.ended ≡ false }
+    ensures answered { RanIn (grammar_of text) R.remaining W.contents reader.old reader.new
         writer.old writer.new (plan_of stream settings.now) file.now result }
-    ensures fault { RefusesIn text (plan_of stream settings.now) file.now
+    ensures fault { RefusesIn (grammar_of text) (plan_of stream settings.now) file.now
         reader.old reader.new writer.old writer.new result }
-    ensures cost { CostsIn text (plan_of stream settings.now) file.now reader.old reader.new
+    ensures cost { CostsIn (grammar_of text) (plan_of stream settings.now) file.now reader.old reader.new
         steps.old steps.new result }
 {
     match read_rules_in(alloc, text, file) {
@@ -125,7 +124,7 @@ pub fn run_rules<R: Read, W: Write>(
     reader: &mut Watched<R>,
     writer: &mut Watched<W>,
 ) -> Result<(), RunError>
-    requires { has_ended reader.old ≡ false }
+    requires { reader.old.ended ≡ false }
     ensures written { OnOk result (WroteText settings.now rules.now
         reader.old reader.new writer.old writer.new) }
     ensures answered { RanRules R.remaining W.contents reader.old reader.new writer.old writer.new
@@ -147,7 +146,7 @@ pub fn run_rules_counted<R: Read, W: Write>(
     writer: &mut Watched<W>,
     steps: &mut Steps,
 ) -> Result<(), RunError>
-    requires { has_ended reader.old ≡ false }
+    requires { reader.old.ended ≡ false }
     ensures written { OnOk result (WroteText settings.now rules.now
         reader.old reader.new writer.old writer.new) }
     ensures answered { RanRules R.remaining W.contents reader.old reader.new writer.old writer.new
@@ -173,7 +172,7 @@ pub fn run_rules_streaming<R: Read, W: Write>(
     reader: &mut Watched<R>,
     writer: &mut Watched<W>,
 ) -> Result<(), RunError>
-    requires { has_ended reader.old ≡ false }
+    requires { reader.old.ended ≡ false }
     ensures written { OnOk result (WroteText settings.now rules.now
         reader.old reader.new writer.old writer.new) }
     ensures answered { RanRules R.remaining W.contents reader.old reader.new writer.old writer.new
@@ -196,7 +195,7 @@ pub fn run_rules_streaming_counted<R: Read, W: Write>(
     writer: &mut Watched<W>,
     steps: &mut Steps,
 ) -> Result<(), RunError>
-    requires { has_ended reader.old ≡ false }
+    requires { reader.old.ended ≡ false }
     ensures written { OnOk result (WroteText settings.now rules.now
         reader.old reader.new writer.old writer.new) }
     ensures answered { RanRules R.remaining W.contents reader.old reader.new writer.old writer.new
@@ -221,7 +220,7 @@ fn run_plan<R: Read, W: Write>(
     writer: &mut Watched<W>,
     steps: &mut Steps,
 ) -> Result<(), RunError>
-    requires { has_ended reader.old ≡ false }
+    requires { reader.old.ended ≡ false }
     ensures answered { RanRules R.remaining W.contents reader.old reader.new writer.old writer.new
         (plan_of stream settings.now rules.now) result }
     ensures fault { RefusesRules (plan_of stream settings.now rules.now)
@@ -252,30 +251,15 @@ fn unread(error: RuleError) -> RunError
     }
 }
 
-/// All that is settled before the input is read.
-fn prepare<'r>(
-    alloc: Global,
-    settings: &Settings,
-    stream: bool,
-    rules: &'r Rules,
-) -> Result<Prepared<'r, Chosen>, RunError>
-    ensures { Prepares (plan_of stream settings.now rules.entry.now) result }
-{
-    match check(settings, rules) {
-        Ok(()) => build(alloc, settings, stream, rules),
-        Err(error) => Err(RunError::Setting(error)),
-    }
-}
-
 /// Reads the input, and writes its text, while it reads where that may be.
-fn transform<A: Search, R: Read, W: Write>(
+fn transform<R: Read, W: Write>(
     alloc: Global,
-    prepared: &Prepared<'_, A>,
+    prepared: &Prepared<'_>,
     reader: &mut Watched<R>,
     writer: &mut Watched<W>,
     steps: &mut Steps,
 ) -> Result<(), RunError>
-    requires open { has_ended reader.old ≡ false }
+    requires open { reader.old.ended ≡ false }
     requires accepted { IsAccepted prepared.now.settings prepared.now.rules }
     ensures ran { RanPrepared R.remaining W.contents reader.old reader.new writer.old writer.new
         prepared.now result }
@@ -290,14 +274,14 @@ fn transform<A: Search, R: Read, W: Write>(
 }
 
 /// Reads the whole input, and writes its text then.
-fn transform_held<A: Search, R: Read, W: Write>(
+fn transform_held<R: Read, W: Write>(
     alloc: Global,
-    prepared: &Prepared<'_, A>,
+    prepared: &Prepared<'_>,
     reader: &mut Watched<R>,
     writer: &mut Watched<W>,
     steps: &mut Steps,
 ) -> Result<(), RunError>
-    requires open { has_ended reader.old ≡ false }
+    requires open { reader.old.ended ≡ false }
     requires accepted { IsAccepted prepared.now.settings prepared.now.rules }
     requires held { ¬ IsStreamed prepared.now }
     ensures ran { RanPrepared R.remaining W.contents reader.old reader.new writer.old writer.new
@@ -313,8 +297,8 @@ fn transform_held<A: Search, R: Read, W: Write>(
 }
 
 /// Writes the text of an input.
-fn write_text<A: Search, W: Write>(
-    prepared: &Prepared<'_, A>,
+fn write_text<W: Write>(
+    prepared: &Prepared<'_>,
     input: &[u8],
     output: &mut Output,
     writer: &mut Watched<W>,
@@ -330,8 +314,8 @@ fn write_text<A: Search, W: Write>(
 }
 
 /// Sends the text that a mode makes of the whole input.
-fn send_text<A: Search, W: Write>(
-    prepared: &Prepared<'_, A>,
+fn send_text<W: Write>(
+    prepared: &Prepared<'_>,
     input: &[u8],
     output: &mut Output,
     writer: &mut Watched<W>,

@@ -2,10 +2,10 @@
 //!
 //! The settings say which text is written, what counts as a match, and by which engine matches are found. The engine and its
 //! own settings never change the text. Some settings exclude one another; [`check`] says which, before anything is read.
-ghost use Rattle.std.specs.Prelude.{◌↔◌, IsTrue};
+ghost use Rattle.std.specs.Prelude.{◌↔◌, IfErr, IsTrue, OnOk};
 ghost use Rattle.acsub.specs.Plan.{plan_of};
-ghost use Rattle.acsub.specs.Settings.{AnswersCheck, HasEmptyPattern};
-ghost use Rattle.acsub.specs.Transformed.{FindsEarly, IsStreamed};
+ghost use Rattle.acsub.specs.Settings.{HasEmptyPattern, IsAccepted, IsFirstExclusion};
+ghost use Rattle.acsub.specs.Run.Transformed.{FindsEarly, IsStreamed};
 
 use crate::rules::Rules;
 use ac_input::pairing::Pairing;
@@ -98,7 +98,8 @@ impl Error for SettingError {}
 /// Whether the settings go together, with these rules. Of several reasons against it, the first in the order of [`SettingError`]
 /// is returned.
 pub fn check(settings: &Settings, rules: &Rules) -> Result<(), SettingError>
-    ensures { AnswersCheck settings.now rules.now result }
+    ensures accepted { OnOk result (IsAccepted settings.now rules.now) }
+    ensures excluded { IfErr result (IsFirstExclusion settings.now rules.now) }
 {
     if settings.mode == Mode::Overlap && settings.kind != MatchKind::Standard {
         return Err(SettingError::OverlapLeftmost);

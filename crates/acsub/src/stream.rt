@@ -4,22 +4,21 @@
 //! it is decided. All that is decided is written before the next read, so a run over a pipe writes as soon as it can. It holds no more than one buffer of the input and one of the text,
 //! and takes both before the first read. All that overlap in what was read can't be changed by what is read later, either.
 ghost use Rattle.std.specs.Prelude.{◌≡◌, Err, false};
-ghost use Rattle.ac_input.specs.declared.search.Anchored.TheVariants.{No};
-ghost use Rattle.ac_automaton.specs.Moved.{NoneTouched};
-ghost use Rattle.ac_automaton.specs.Watched.{has_ended};
-ghost use Rattle.acsub.specs.Finder.{IsBuiltFor};
+ghost use Rattle.ac_automaton.specs.Devices.Moved.{NoneTouched};
+ghost use Rattle.aho_corasick.specs.AhoCorasick.{as_built};
+ghost use Rattle.acsub.specs.Finder.{IsServing};
 ghost use Rattle.acsub.specs.Settings.{IsAccepted};
 ghost use Rattle.acsub.specs.Stream.{CostsStreaming, IfMemory, IsNoRefusal, IsReturnedAs, Streams};
-ghost use Rattle.acsub.specs.Transformed.{IsStreamed};
+ghost use Rattle.acsub.specs.Run.Transformed.{IsStreamed};
 ghost use Rattle.acsub.specs.declared.settings.Mode.TheVariants.{Replace};
 
 use crate::error::RunError;
 use crate::prepared::Prepared;
 use crate::settings::Mode;
 use ac_automaton::error::StreamError;
-use ac_automaton::search::Search;
 use ac_automaton::watched::Watched;
 use ac_input::steps::Steps;
+use aho_corasick::AhoCorasick;
 use std::alloc::Global;
 use std::io::{Read, Write};
 
@@ -30,22 +29,21 @@ use list::stream_list;
 use overlap::stream_overlapping;
 
 /// Reads the input, and writes its text while it reads.
-pub fn stream_text<A: Search, R: Read, W: Write>(
+pub fn stream_text<R: Read, W: Write>(
     alloc: Global,
-    prepared: &Prepared<'_, A>,
-    engine: &A,
+    prepared: &Prepared<'_>,
+    engine: &AhoCorasick,
     reader: &mut Watched<R>,
     writer: &mut Watched<W>,
     steps: &mut Steps,
 ) -> Result<(), RunError>
-    requires open { has_ended reader.old ≡ false }
+    requires open { reader.old.ended ≡ false }
     requires accepted { IsAccepted prepared.now.settings prepared.now.rules }
-    requires built { IsBuiltFor prepared.now (A.built engine.now) }
-    requires supports { A.supports engine.now No }
+    requires serves { IsServing prepared.now.settings prepared.now.rules engine.now }
     requires streamed { IsStreamed prepared.now }
     ensures streams { Streams R.remaining W.contents reader.old reader.new writer.old writer.new
         prepared.now result }
-    ensures costs { CostsStreaming (A.built engine.now) reader.old reader.new
+    ensures costs { CostsStreaming (as_built engine.now) reader.old reader.new
         steps.old steps.new result }
     ensures memory { IfMemory result (NoneTouched reader.old reader.new writer.old writer.new) }
 {
@@ -57,22 +55,21 @@ pub fn stream_text<A: Search, R: Read, W: Write>(
 }
 
 /// Writes the input with each match replaced.
-pub(crate) fn stream_replaced<A: Search, R: Read, W: Write>(
+fn stream_replaced<R: Read, W: Write>(
     alloc: Global,
-    prepared: &Prepared<'_, A>,
-    engine: &A,
+    prepared: &Prepared<'_>,
+    engine: &AhoCorasick,
     reader: &mut Watched<R>,
     writer: &mut Watched<W>,
     steps: &mut Steps,
 ) -> Result<(), RunError>
-    requires open { has_ended reader.old ≡ false }
-    requires built { IsBuiltFor prepared.now (A.built engine.now) }
-    requires supports { A.supports engine.now No }
+    requires open { reader.old.ended ≡ false }
+    requires serves { IsServing prepared.now.settings prepared.now.rules engine.now }
     requires streamed { IsStreamed prepared.now }
     requires mode { prepared.now.settings.mode ≡ Replace }
     ensures streams { Streams R.remaining W.contents reader.old reader.new writer.old writer.new
         prepared.now result }
-    ensures costs { CostsStreaming (A.built engine.now) reader.old reader.new
+    ensures costs { CostsStreaming (as_built engine.now) reader.old reader.new
         steps.old steps.new result }
     ensures memory { IfMemory result (NoneTouched reader.old reader.new writer.old writer.new) }
 {

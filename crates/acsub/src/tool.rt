@@ -8,7 +8,6 @@
 ghost use Rattle.std.specs.Prelude.{◌≡◌, false, map, string_bytes};
 ghost use Rattle.std.specs.IoError.{error_kind};
 ghost use Rattle.std.specs.Process.{exit_status};
-ghost use Rattle.ac_automaton.specs.Watched.{has_ended};
 ghost use Rattle.acsub.specs.Outcome.{AnswersFile, AnswersHelp, AnswersTool, Collects, EndsProgram, EndsTool, Finishes, ReadsFile, WritesText};
 ghost use Rattle.acsub.specs.Tool.{IsFaultOf, WritesLine, status_of};
 
@@ -90,7 +89,7 @@ pub fn program<F: Files, R: Read, W: Write, E: Write>(
     writer: &mut Watched<W>,
     errors: &mut E,
 ) -> ExitCode
-    requires { has_ended reader.old ≡ false }
+    requires { reader.old.ended ≡ false }
     ensures ended { EndsProgram F.File.remaining R.remaining W.contents words
         reader.old reader.new writer.old writer.new (exit_status result) }
     ensures quiet { exit_status result ≡ 0 → errors.new ≡ errors.old }
@@ -131,7 +130,7 @@ pub fn tool<F: Files, R: Read, W: Write, E: Write>(
     writer: &mut Watched<W>,
     errors: &mut E,
 ) -> u8
-    requires { has_ended reader.old ≡ false }
+    requires { reader.old.ended ≡ false }
     // The status is that of an outcome, which goes with the words, with what was read and written, and with the flush.
     ensures ended { EndsTool F.File.remaining R.remaining W.contents words.now
         reader.old reader.new writer.old writer.new result }
@@ -168,7 +167,7 @@ fn work<F: Files, R: Read, W: Write>(
     reader: &mut Watched<R>,
     writer: &mut Watched<W>,
 ) -> Result<(), Fault>
-    requires { has_ended reader.old ≡ false }
+    requires { reader.old.ended ≡ false }
     ensures { AnswersTool F.File.remaining R.remaining W.contents (map string_bytes words.now)
         reader.old reader.new writer.old writer.new result }
 {
@@ -189,7 +188,7 @@ fn run_file<F: Files, R: Read, W: Write>(
     reader: &mut Watched<R>,
     writer: &mut Watched<W>,
 ) -> Result<(), Fault>
-    requires { has_ended reader.old ≡ false }
+    requires { reader.old.ended ≡ false }
     ensures { AnswersFile F.File.remaining R.remaining W.contents words.now
         reader.old reader.new writer.old writer.new result }
 {

@@ -5,10 +5,10 @@
 //! clap splits the words, names the values that an argument takes and writes the help; what a value means is said here. The
 //! command stands as data in `specs/Command.antt`. So the contract of `read_words` says of all words what comes of them. It goes
 //! by clap's own account of which words such a command takes, and which value each argument then has.
-ghost use Rattle.std.specs.Prelude.{◌≡◌, ◌∷◌, [], ◌++◌, ◌<◌, ℕ, List, Some, IfOk, MatchResult, false, length, map, option_map, string_bytes};
+ghost use Rattle.std.specs.Prelude.{◌≡◌, ◌<◌, List, Some, IfOk, MatchResult, false, map, option_map, string_bytes};
 ghost use Rattle.clap.specs.Words.{first_of, rule_of};
-ghost use Rattle.acsub.specs.Command.{AddsEngine, AddsMatching, IsCommand, Shows, choice, flag, option, placed};
-ghost use Rattle.acsub.specs.Words.{AreTwoByTwo, ReadsMatches, IsWordsFault, IsTyped, Misspells, Pairs, Parses, Reads, SpellsPairs, rows_in};
+ghost use Rattle.acsub.specs.Words.Command.{AddsEngine, AddsMatching, IsCommand, Shows, choice, flag, option, placed};
+ghost use Rattle.acsub.specs.Words.{AreTwoByTwo, IsPairedBy, IsTyped, IsWordsFault, Misspells, Parses, Reads, ReadsMatches, SpellsPairs, Unpairs, rows_in};
 ghost use Rattle.acsub.specs.Words.{engine_named, engine_of, hex_fault, is_given, kind_named, match_kind_of, mode_named, mode_of};
 
 use crate::settings::{Engine, Mode, Settings};
@@ -365,7 +365,7 @@ fn is_given(matches: &ArgMatches<'_>, id: &str) -> bool
 }
 
 fn pairing_of(alloc: Global, matches: &ArgMatches<'_>) -> Result<Pairing, WordsFault>
-    ensures { Pairs (rows_in matches.now) result }
+    ensures { MatchResult result (IsPairedBy (rows_in matches.now)) (Unpairs (rows_in matches.now)) }
 {
     match (is_given(matches, "fold"), text_of(matches, "pairs")) {
         (false, None) => Ok(Pairing::none()),

@@ -1,4 +1,4 @@
--- What an automaton of the front was built as, and what its searches return when they can't fail.
+-- What an `AhoCorasick` was built as, and what its searches return when they can't fail.
 use Rattle.std.specs.Prelude.{◌≡◌, ℕ, List, length}
 use Rattle.ac_input.specs.declared.search.Anchored.{Anchored}
 use Rattle.ac_input.specs.declared.search.MatchKind.{MatchKind}
@@ -10,20 +10,24 @@ use Rattle.ac_automaton.specs.Automaton.{Built, walk_in, listing_in}
 use Rattle.ac_automaton.specs.Iter.{Walk, fresh_walk, left_of}
 use Rattle.ac_automaton.specs.Overlapping as overlapping
 use Rattle.ac_automaton.specs.declared.overlapping.OverlappingState.{OverlappingState}
-use Rattle.ac_automaton.specs.OverlappingIter.{Run, fresh_run, rest_of}
+use Rattle.ac_automaton.specs.Overlapping.OverlappingIter.{Run, fresh_run, rest_of}
 use Rattle.aho_corasick.specs.declared.ahocorasick.AhoCorasick.{AhoCorasick}
 use Rattle.aho_corasick.specs.declared.engine.Engine.{Engine}
-use Rattle.aho_corasick.specs.Engine.{engine_built_as, IsEngineRead, engine_matches_at}
+use Rattle.aho_corasick.specs.Builder.{FrontSettings}
+use Rattle.aho_corasick.specs.Engine.{IsEngineRead, engine_matches_at}
 
 -- the automaton that serves
 abbrev pub serving_engine : AhoCorasick → Engine
-serving_engine ac = ac.engine.value
+serving_engine ac = ac.shared.value.engine
 
--- what it was built as
+-- what it was built as, and by which settings
 abbrev pub as_built : AhoCorasick → Built
-as_built ac = engine_built_as (serving_engine ac)
+as_built ac = ac.shared.value.built.value
 
--- its patterns, by number, and how many there are
+abbrev pub settings_of : AhoCorasick → FrontSettings
+settings_of ac = ac.shared.value.settings.value
+
+-- the automaton's patterns, by number, and how many there are
 abbrev pub patterns_of : AhoCorasick → List (List ℕ)
 patterns_of ac = (as_built ac).dictionary.patterns
 
@@ -38,7 +42,7 @@ kind_of ac = (as_built ac).dictionary.kind
 abbrev pub pairing_of : AhoCorasick → List ℕ
 pairing_of ac = (as_built ac).dictionary.pairing
 
--- the start kind that was set, whichever automaton serves; and for which searches that gives a start
+-- the start kind that was set, whichever automaton serves, and the searches that have a start by it
 abbrev pub start_kind_of : AhoCorasick → StartKind
 start_kind_of ac = ac.start_kind
 
@@ -49,9 +53,9 @@ supported_by ac anchored = Serves (start_kind_of ac) anchored
 abbrev pub CameFromCalls : AhoCorasick → Asked → OverlappingState → Type 0
 CameFromCalls ac asked state = overlapping.CameFrom (as_built ac) (λ anchored text sid. IsEngineRead (serving_engine ac) anchored text sid) (λ sid. engine_matches_at (serving_engine ac) sid) asked state
 
--- one means the same as another: the same automaton serves both, for the same searches
+-- one means the same as another: they share the automaton that serves, with what it was built as and by, for the same searches
 pub record MeansSame (ac other : AhoCorasick) : Type 0 where
-  pub engine : serving_engine other ≡ serving_engine ac
+  pub shared : other.shared.value ≡ ac.shared.value
   pub starts : start_kind_of other ≡ start_kind_of ac
 
 -- some pattern occurs in the search

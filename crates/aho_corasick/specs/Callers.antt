@@ -1,4 +1,4 @@
--- What callers conclude of an automaton: what it finds, and what it makes of a text.
+-- What callers conclude about an automaton: what it finds, and what it makes of a text.
 use Rattle.std.specs.Prelude.{◌≡◌, ℕ, ◌+◌, ◌≤◌, true, false, List, length, Option, Some, None}
 use Rattle.ac_input.specs.declared.search.MatchKind.{MatchKind}
 use Rattle.ac_input.specs.declared.search.MatchKind.TheVariants.{Standard, LeftmostFirst}
@@ -18,11 +18,11 @@ FindsBytes patterns m = (m.patterns ≡ patterns) × (m.kind ≡ Standard) × Is
 abbrev pub FindsFolded : List (List ℕ) → Dictionary → Type 0
 FindsFolded patterns m = (m.patterns ≡ patterns) × (m.kind ≡ LeftmostFirst) × IsFolded true m.pairing
 
--- these patterns are found by matches of this kind, with these bytes the same, and without a prefilter
+-- these patterns are found by matches of this kind, with these bytes paired, and without a prefilter
 abbrev pub IsPlain : List (List ℕ) → List ℕ → MatchKind → Built → Type 0
 IsPlain patterns pairing kind b = (b.dictionary ≡ dictionary_of patterns pairing kind) × (b.prefilter ≡ None)
 
--- the match of a text
+-- the first match in a text
 abbrev pub first_in : Dictionary → List ℕ → Option Occurrence
 first_in m text = best_of m.kind (whole m text false)
 
@@ -38,7 +38,7 @@ BeginsWithPattern m text = (n : ℕ) × (p : List ℕ) × IsPattern m n p × Beg
 abbrev pub EndsWithPattern : Dictionary → List ℕ → Type 0
 EndsWithPattern m text = (o : Occurrence) × Occurs (whole m text false) o × (o.end ≡ length text)
 
--- an occurrence ends at the place, and none before it; none where there is no occurrence
+-- the place where an occurrence ends first; none if nothing occurs
 abbrev pub IsFirstEnd : Search → Option ℕ → Type 0
 IsFirstEnd s None = ¬ HasOccurrence s
 IsFirstEnd s (Some end) = ((o : Occurrence) × Occurs s o × (o.end ≡ end)) × ((o : Occurrence) → Occurs s o → end ≤ o.end)

@@ -16,13 +16,13 @@ pub use Rattle.ac_automaton.specs.Automaton
 pub use Rattle.ac_automaton.specs.Items
 pub use Rattle.ac_automaton.specs.Iter
 pub use Rattle.ac_automaton.specs.Overlapping
-pub use Rattle.ac_automaton.specs.OverlappingIter
+pub use Rattle.ac_automaton.specs.Overlapping.OverlappingIter
 pub use Rattle.ac_automaton.specs.Replace
 pub use Rattle.ac_automaton.specs.Stream
-pub use Rattle.ac_automaton.specs.StreamIter
-pub use Rattle.ac_automaton.specs.StreamReplace
-pub use Rattle.ac_automaton.specs.StreamReplaceWith
-pub use Rattle.ac_automaton.specs.Watched
+pub use Rattle.ac_automaton.specs.Stream.StreamIter
+pub use Rattle.ac_automaton.specs.Stream.StreamReplace
+pub use Rattle.ac_automaton.specs.Stream.StreamReplaceWith
+pub use Rattle.ac_automaton.specs.Devices.Watched
 pub mod Engine
 pub mod EngineLaws
 pub mod AhoCorasick
@@ -30,5 +30,6 @@ pub mod Callers
 pub mod Replaced
 pub mod Streamed
 pub mod Builder
+pub mod Made
 pub mod Served
 pub mod Laws

@@ -12,6 +12,7 @@ ghost use Rattle.ac_input.specs.declared.search.Anchored.{Anchored};
 ghost use Rattle.ac_input.specs.Dfa.{Serves};
 
 use crate::engine::Engine;
+use crate::shared::Shared;
 use ac_automaton::automaton::Automaton;
 use ac_automaton::{iter, overlapping, stream as streams};
 use ac_input::search::{MatchKind, StartKind};
@@ -59,11 +60,11 @@ pub enum AhoCorasickKind {
 /// A clone shares the automaton, and takes no memory for another. Its `Debug` shows the kinds and how many patterns there are.
 #[derive(Drop)]
 pub struct AhoCorasick {
-    engine: Arc<Engine>,
+    shared: Arc<Shared>,
     /// The start kind that was set. An NFA has a start for all searches, but runs only these, so that the same searches return an
     /// error whichever automaton serves.
     start_kind: StartKind,
-    ghost starts: { (anchored : Anchored) → Serves start_kind anchored → ∥ engine_supported_by engine.value anchored ∥₁ },
+    ghost starts: { (anchored : Anchored) → Serves start_kind anchored → ∥ engine_supported_by shared.value.engine anchored ∥₁ },
 }
 
 /// The remaining matches of an input. From [`AhoCorasick::find_iter`].
@@ -98,29 +99,37 @@ impl Debug for AhoCorasick {
 
 impl AhoCorasick {
     ghost use Rattle.aho_corasick.specs.AhoCorasick.{MeansSame, serving_engine, as_built, kind_of, start_kind_of, patterns_of, pattern_count};
+    ghost use Rattle.aho_corasick.specs.Engine.{engine_built_as};
 
     /// Another that means the same. They share one automaton.
-    ///
-    /// A caller: `uses::callers::front::copy`.
     pub fn clone(&self, _alloc: Global) -> Result<AhoCorasick, AllocError>
         ensures { IfOk result (MeansSame self.now) }
     {
         Ok(AhoCorasick {
-            engine: self.engine.clone()?,
+            shared: self.shared.clone()?,
             start_kind: self.start_kind,
         })
+    }
+
+    /// The automaton that serves.
+    #[inline]
+    fn serving(&self) -> &Engine
+        ensures engine { result.now ≡ serving_engine self.now }
+        ensures built { as_built self.now ≡ engine_built_as result.now }
+    {
+        &self.shared.engine
     }
 
     /// Which automaton serves: the one that was named, or the one that the builder took. It changes time and memory, and no
     /// result. For a byte a DFA looks at one state, and an NFA at two at most. A DFA takes 4 bytes for each class of bytes in each
     /// state; a contiguous NFA takes the least memory.
     ///
-    /// A caller: `uses::callers::front::named`. An example: `uses::examples::build::summary_of`.
+    /// An example: `uses::examples::build::summary_of`.
     pub fn kind(&self) -> AhoCorasickKind
         ensures kind { result ≡ kind_served (serving_engine self.now) }
         ensures looks { IsTrue (as_built self.now).deterministic ↔ (result ≡ AhoCorasickKind.DFA) }
     {
-        match &*self.engine {
+        match self.serving() {
             Engine::Noncontiguous(_) => AhoCorasickKind::NoncontiguousNFA,
             Engine::Contiguous(_) => AhoCorasickKind::ContiguousNFA,
             Engine::Dfa(_) => AhoCorasickKind::DFA,
@@ -129,7 +138,7 @@ impl AhoCorasick {
 
     /// Which searches it serves.
     ///
-    /// A caller: `uses::callers::front::serves`. An example: `uses::examples::build::summary_of`.
+    /// An example: `uses::examples::build::summary_of`.
     pub fn start_kind(&self) -> StartKind
         ensures { result ≡ start_kind_of self.now }
     {
@@ -138,7 +147,7 @@ impl AhoCorasick {
 
     /// Which of several overlapping occurrences is the match.
     ///
-    /// A caller: `uses::callers::front::can_list`. An example: `uses::examples::build::summary_of`.
+    /// An example: `uses::examples::build::summary_of`.
     pub fn match_kind(&self) -> MatchKind
         ensures { result ≡ kind_of self.now }
     {
@@ -147,7 +156,7 @@ impl AhoCorasick {
 
     /// How many bytes the shortest pattern has; `usize::MAX` where there is none.
     ///
-    /// A caller: `uses::callers::front::may_match`. An example: `uses::examples::build::summary_of`.
+    /// An example: `uses::examples::build::summary_of`.
     pub fn min_pattern_len(&self) -> usize
         ensures { result ≡ shortest (patterns_of self.now) }
     {
@@ -156,7 +165,7 @@ impl AhoCorasick {
 
     /// How many bytes the longest pattern has; 0 where there is none.
     ///
-    /// A caller: `uses::callers::front::most_bytes`. An example: `uses::examples::build::summary_of`.
+    /// An example: `uses::examples::build::summary_of`.
     pub fn max_pattern_len(&self) -> usize
         ensures { result ≡ longest (patterns_of self.now) }
     {
@@ -165,7 +174,7 @@ impl AhoCorasick {
 
     /// How many patterns it was made from. Those that can't match count too.
     ///
-    /// A caller: `uses::callers::front::numbered`. An example: `uses::examples::build::summary_of`.
+    /// An example: `uses::examples::build::summary_of`.
     pub fn patterns_len(&self) -> usize
         ensures { result ≡ pattern_count self.now }
     {

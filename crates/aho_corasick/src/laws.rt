@@ -6,8 +6,6 @@ ghost use Rattle.aho_corasick.specs.Laws.{PackedWalksAlike};
 
 /// Packed search gives the matches that an automaton of its patterns gives by the same leftmost kind, where no byte is paired: over
 /// each whole text one list. A searcher is made of 1 to 128 patterns of which none is empty.
-///
-/// A caller: `uses::callers::front_find::count_by_both`.
 pub fn packed_walks_alike()
     ensures { PackedWalksAlike }
 {}

@@ -19,6 +19,7 @@ mod engine;
 pub mod laws;
 pub mod nfa;
 pub mod packed;
+mod shared;
 
 pub use ac_automaton::error::{MatchError, MatchErrorKind, ReplaceError, StreamError};
 pub use ac_automaton::iter::WalkPlace;

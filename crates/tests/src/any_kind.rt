@@ -3,7 +3,6 @@
 //! Under a leftmost kind a match is given after the first byte with which nothing is live any more that began no later, or at the end
 //! of the input. All these texts are cut at many places, and end in a failed read at each of them.
 ghost use Rattle.std.specs.Prelude.{◌≡◌, false};
-ghost use Rattle.ac_automaton.specs.Watched.{has_ended};
 
 use crate::answers::Asks::Walk;
 use crate::answers::Text::Whole;
@@ -396,7 +395,7 @@ fn write_by_closure<A: Search, R: Read, W: Write>(
     writer: &mut Watched<W>,
     replacements: &[&[u8]],
 ) -> Result<(), StreamError>
-    requires { has_ended reader.old ≡ false }
+    requires { reader.old.ended ≡ false }
 {
     automaton.try_stream_replace_all_any_kind_with(
         alloc,
@@ -683,7 +682,7 @@ fn try_stream<'a, A: Search, R: Read>(
     automaton: &'a A,
     reader: &'a mut Watched<R>,
 ) -> Result<(), StreamError>
-    requires { has_ended reader.old ≡ false }
+    requires { reader.old.ended ≡ false }
 {
     automaton.try_stream_find_iter_any_kind(alloc, reader)?;
     Ok(())

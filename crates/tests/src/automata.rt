@@ -1,6 +1,6 @@
 //! What the noncontiguous automaton keeps of its states: their order, their transitions, their failure links and their patterns.
 ghost use Rattle.std.specs.Prelude.{◌<◌};
-ghost use Rattle.ac_noncontiguous.specs.ReadCalls.{state_len};
+ghost use Rattle.ac_noncontiguous.specs.Nfa.ReadCalls.{state_len};
 
 use crate::answers::same;
 use crate::engines::{Asked, Letters, Prefiltering, noncontiguous};

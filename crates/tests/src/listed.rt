@@ -1,6 +1,5 @@
 //! Streams of every occurrence: what is listed, by which read, and what is refused.
 ghost use Rattle.std.specs.Prelude.{◌≡◌, false};
-ghost use Rattle.ac_automaton.specs.Watched.{has_ended};
 
 use crate::answers::Asks::List;
 use crate::answers::Text::Whole;
@@ -153,7 +152,7 @@ fn try_list<'a, A: Search, R: Read>(
     automaton: &'a A,
     reader: &'a mut Watched<R>,
 ) -> Result<(), StreamError>
-    requires { has_ended reader.old ≡ false }
+    requires { reader.old.ended ≡ false }
 {
     automaton.try_stream_find_overlapping_iter(alloc, reader)?;
     Ok(())

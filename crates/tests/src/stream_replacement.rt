@@ -4,7 +4,6 @@
 //! else what is kept back is not longer than the longest pattern. So where a read or a write fails, one of several fronts of the text
 //! was written, and a row names them.
 ghost use Rattle.std.specs.Prelude.{◌≡◌, false};
-ghost use Rattle.ac_automaton.specs.Watched.{has_ended};
 
 use crate::devices::{AMPLE, Given, Outcome, Room, Sink, Source, Tally};
 use crate::engines::Letters::{Cased, Folded, Paired};
@@ -75,7 +74,7 @@ pub fn write_by_closure<A: Search, R: Read, W: Write>(
     replacements: &[&[u8]],
     fails: Option<Fault>,
 ) -> Result<(), StreamError>
-    requires { has_ended reader.old ≡ false }
+    requires { reader.old.ended ≡ false }
 {
     let Fault { at, after, outcome } = fails.unwrap_or(NONE);
     automaton.try_stream_replace_all_with(

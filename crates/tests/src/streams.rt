@@ -3,7 +3,6 @@
 //! The matches are those of the whole text, whatever the pieces are. Each piece is searched before the next one is read: so a match
 //! is given after the read that gave its last byte, and a test counts the reads at each match.
 ghost use Rattle.std.specs.Prelude.{◌≡◌, false};
-ghost use Rattle.ac_automaton.specs.Watched.{has_ended};
 
 use crate::devices::{AMPLE, Given, Outcome, Sink, Source, Tally};
 use crate::engines::Letters::{Cased, Folded, Paired};
@@ -498,7 +497,7 @@ fn try_stream<'a, A: Search, R: Read>(
     automaton: &'a A,
     reader: &'a mut Watched<R>,
 ) -> Result<(), StreamError>
-    requires { has_ended reader.old ≡ false }
+    requires { reader.old.ended ≡ false }
 {
     automaton.try_stream_find_iter(alloc, reader)?;
     Ok(())

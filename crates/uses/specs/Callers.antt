@@ -1,16 +1,15 @@
--- What the callers conclude.
+-- What the callers can conclude from the library's contracts.
 use Rattle.std.specs.Prelude.{◌≡◌, ℕ, ◌+◌, ◌-◌, ◌≤◌, List, [], ◌∷◌, ◌++◌, map, take, drop, slice_range, option_map, Option, Some, None, String}
 use Rattle.std.specs.Borrow.{Bor}
 use Rattle.std.specs.Global.{Global, Vec}
 use Rattle.std.specs.String.{string_bytes}
 use Rattle.ac_input.specs.declared.search.Span.{Span}
 use Rattle.ac_input.specs.Dictionary.{Dictionary}
-use Rattle.ac_input.specs.Utf8Laws.{AreFullTexts, KeepsChars}
+use Rattle.ac_input.specs.Laws.Utf8Laws.{AreFullTexts, KeepsChars}
 use Rattle.ac_input.specs.Occurrence.{Search, Occurrence, Occurs}
 use Rattle.ac_automaton.specs.Automaton.{Built}
 use Rattle.ac_automaton.specs.Replace.{text_matches_in}
-use Rattle.ac_automaton.specs.StreamReplace.{replaced_in}
-use Rattle.ac_automaton.specs.Watched.{inner_of}
+use Rattle.ac_automaton.specs.Stream.StreamReplace.{replaced_in}
 use Rattle.ac_automaton.specs.declared.watched.Watched.{Watched}
 use Rattle.aho_corasick.specs.AhoCorasick.{HasOccurrence}
 use Rattle.aho_corasick.specs.Callers.{first_in}
@@ -19,7 +18,7 @@ use Rattle.aho_corasick.specs.Callers.{first_in}
 abbrev pub LiesIn : Span → Occurrence → Type 0
 LiesIn span o = (span.start ≤ o.start) × (o.end ≤ span.end)
 
--- the patterns are texts of which none is empty, and a character is paired with characters of as many bytes
+-- no pattern is empty, each is a text, and a character is paired only with characters of as many bytes
 pub record FindsTexts (m : Dictionary) : Type 0 where
   pub patterns : AreFullTexts m.patterns
   pub pairing : KeepsChars m.pairing
@@ -28,25 +27,25 @@ pub record FindsTexts (m : Dictionary) : Type 0 where
 abbrev pub IsFirstPart : Dictionary → List ℕ → Option (Bor (List ℕ)) → Type 0
 IsFirstPart m text part = option_map (λ p. p.now) part ≡ option_map (λ o. slice_range text o.start o.end) (first_in m text)
 
--- how many bytes lie in these occurrences
+-- how many bytes these occurrences cover, each counted by itself
 abbrev pub bytes_in : List Occurrence → ℕ
 bytes_in [] = 0
 bytes_in (o ∷ os) = (o.end - o.start) + bytes_in os
 
--- the text with the first of its matches exchanged for the replacement
+-- the text with its first match replaced
 abbrev pub with_first : List ℕ → List ℕ → List Occurrence → List ℕ
 with_first text replacement [] = text
 with_first text replacement (o ∷ os) = take o.start text ++ replacement ++ drop o.end text
 
--- the destination has gained the text, with the first of its matches exchanged for the replacement
+-- the destination gained the text, with its first match replaced
 abbrev pub AppendsOne : Built → List ℕ → List ℕ → String Global → String Global → Type 0
 AppendsOne b text replacement old new = string_bytes new ≡ string_bytes old ++ with_first text replacement (text_matches_in b text)
 
 -- the writer has taken the text, with each match replaced
 abbrev pub WritesReplaced : Built → List (Bor (List ℕ)) → List ℕ → Watched (Vec ℕ) → Watched (Vec ℕ) → Type 0
-WritesReplaced b replacements text old new = (inner_of new).items ≡ (inner_of old).items ++ replaced_in b (map (λ r. r.now) replacements) text
+WritesReplaced b replacements text old new = new.inner.items ≡ old.inner.items ++ replaced_in b (map (λ r. r.now) replacements) text
 
--- no occurrence begins before the place, and there is none where there is no place
+-- No occurrence begins before the place. Where there is no place, there is no occurrence.
 abbrev pub IsSkip : Search → Option ℕ → Type 0
 IsSkip s None = ¬ HasOccurrence s
 IsSkip s (Some place) = (o : Occurrence) → Occurs s o → place ≤ o.start

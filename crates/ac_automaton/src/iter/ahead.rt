@@ -11,11 +11,11 @@
 //!
 //! Only an automaton of the standard kind with no empty pattern and no prefilter reads ahead, and only where the input isn't anchored
 //! and has 1 KiB to be searched. Elsewhere this iterator goes on as `FindIter` does.
-ghost use Rattle.std.specs.Prelude.{◌≡◌, ◌≤◌, [], length, IfOk, IfSome};
+ghost use Rattle.std.specs.Prelude.{◌≡◌, ◌≤◌, [], length, IfOk, IfSome, ◌+◌};
 ghost use Rattle.std.specs.Iterator.{YieldsFirst, item_count};
 ghost use Rattle.ac_automaton.specs.FindAhead.{AreNotesOf, MayReadAhead};
-ghost use Rattle.ac_automaton.specs.Iter.{AnswersFindIter, AnswersFindIterFrom, GivesPick, CostsPick, left_of, place_of, IsPickOf, IsPickCost, IsPlaceIn, IsRestOf, IsOnItsWay, CountsPick, PickCounts};
-ghost use Rattle.ac_automaton.specs.Items.{AreFewMatches, MatchesAreInOrder};
+ghost use Rattle.ac_automaton.specs.Iter.{AnswersFindIter, AnswersFindIterFrom, GivesPick, CostsPick, left_of, IsPickOf, IsPickCost, IsPlaceIn, IsRestOf, IsOnItsWay, CountsPick, PickCounts};
+ghost use Rattle.ac_automaton.specs.Items.{MatchesAreInOrder};
 
 use crate::ahead::{Ahead, LEAST};
 use crate::error::MatchError;
@@ -31,7 +31,6 @@ use std::marker::Model;
 /// [`Automaton::try_find_iter_ahead`](crate::automaton::Automaton::try_find_iter_ahead).
 ///
 /// After its first `None` it always returns `None`, and does nothing.
-/// A caller: `uses::callers::iterate::all_matches_ahead`.
 #[derive(Drop)]
 pub struct FindIterAhead<'a, 'h, A: Search> {
     automaton: &'a A,
@@ -114,7 +113,7 @@ pub fn find_iter_ahead<'a, 'h, A: Search>(
 ) -> Result<FindIterAhead<'a, 'h, A>, MatchError>
     ensures answer { AnswersFindIter (A.built automaton.now) (A.supports automaton.now) input.entry
         result }
-    ensures few { IfOk result (AreFewMatches input.entry) }
+    ensures few { IfOk result (λ w. length (left_of w) ≤ length input.entry.haystack + 1) }
     ensures lie { IfOk result (MatchesAreInOrder (A.built automaton.now) input.entry) }
 {
     let start = input.start();
@@ -152,7 +151,7 @@ fn next_pick_ahead<A: Search>(
 impl<'a, 'h, A: Search> FindIterAhead<'a, 'h, A> {
     /// Where the walk stands. [`find_iter_ahead_from`] goes on from there.
     pub fn place(&self) -> WalkPlace
-        ensures value { result ≡ place_of self.now }
+        ensures value { result ≡ (record { start = self.now.at; last = self.now.last }) }
         ensures within { IsPlaceIn self.now.asked result }
     {
         WalkPlace {
@@ -162,7 +161,6 @@ impl<'a, 'h, A: Search> FindIterAhead<'a, 'h, A> {
     }
 
     /// The next match, as `next` returns it; counts what it does.
-    /// A caller: `uses::callers::iterate::pass_matches_ahead`.
     pub fn next_counted(&mut self, steps: &mut Steps) -> Option<Match>
         ensures gives { GivesPick self.old result self.new }
         ensures cost { CostsPick self.old self.new steps.old steps.new result }

@@ -9,7 +9,7 @@ ghost use Rattle.ac_input.specs.declared.search.Anchored.TheVariants.{No};
 ghost use Rattle.ac_input.specs.declared.search.MatchKind.TheVariants.{Standard};
 ghost use Rattle.ac_automaton.specs.Cursor.{ReadsFurther, StandsIn};
 ghost use Rattle.ac_automaton.specs.FindAhead.{AreNotesOf};
-ghost use Rattle.ac_automaton.specs.OverlappingSearch.{CountsFrom, CountsOn, HasLeft, KeepsPaying, MayShow, PaysAt, ShowsAfter, ShowsNextAt, ShowsRest};
+ghost use Rattle.ac_automaton.specs.Overlapping.OverlappingSearch.{CountsFrom, CountsOn, HasLeft, KeepsPaying, MayShow, PaysAt, ShowsAfter, ShowsNextAt, ShowsRest};
 
 use crate::ahead::{Ahead, advance_to_match};
 use crate::automaton::Automaton;

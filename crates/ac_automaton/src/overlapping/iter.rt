@@ -11,7 +11,7 @@
 ghost use Rattle.std.specs.Prelude.{IfOk};
 ghost use Rattle.std.specs.Iterator.{YieldsFirst, item_count};
 ghost use Rattle.ac_automaton.specs.Items.{AreFewForEach, EachLiesWithin};
-ghost use Rattle.ac_automaton.specs.OverlappingIter.{AnswersOverlappingIter, CountsRun, RunCounts, IsWithinOneWalk, rest_of, IsRunAfter};
+ghost use Rattle.ac_automaton.specs.Overlapping.OverlappingIter.{AnswersOverlappingIter, CountsRun, RunCounts, IsWithinOneWalk, rest_of, IsRunAfter};
 
 use crate::ahead::Ahead;
 use crate::error::MatchError;
@@ -30,7 +30,6 @@ use std::marker::Model;
 /// A call may read up to 8 KiB past the match that it returns, and the iterator is some 3 KiB large; see [`iter`](self).
 ///
 /// After its first `None` it always returns `None`, and does nothing.
-/// A caller: `uses::callers::overlap::all_occurrences`.
 #[derive(Drop)]
 pub struct FindOverlappingIter<'a, 'h, A: Search> {
     automaton: &'a A,
@@ -47,12 +46,12 @@ impl<'a, 'h, A: Search> Model for FindOverlappingIter<'a, 'h, A> {
     ghost use Rattle.ac_input.specs.declared.search.MatchKind.TheVariants.{Standard};
     ghost use Rattle.ac_automaton.specs.Automaton.{searched};
     ghost use Rattle.ac_automaton.specs.FindAhead.{AreNotesOf};
-    ghost use Rattle.ac_automaton.specs.Overlapping.{IsPlaceCounted, StandsAt};
-    ghost use Rattle.ac_automaton.specs.OverlappingIter.{Run, run_at};
+    ghost use Rattle.ac_automaton.specs.Overlapping.{StandsAt, IsCountedTo, stands_at_least};
+    ghost use Rattle.ac_automaton.specs.Overlapping.OverlappingIter.{Run};
 
     ghost Value = { Run };
 
-    ghost view = { λ i. run_at (A.built i.automaton.now) i.input i.shown.value i.sums };
+    ghost view = { λ i. (record { built = (A.built i.automaton.now); asked = i.input; shown = i.shown.value; looked = i.sums.looked.value; scanned = i.sums.scanned.value; moved = i.sums.moved.value }) };
 
     ghost invariant = { λ i.
         ((A.built i.automaton.now).dictionary.kind ≡ Standard)
@@ -60,7 +59,7 @@ impl<'a, 'h, A: Search> Model for FindOverlappingIter<'a, 'h, A> {
         × StandsAt (A.Reaches i.automaton.now i.input.anchored) (A.matches i.automaton.now)
         (A.built i.automaton.now).dictionary (A.built i.automaton.now).deterministic
         (searched (A.built i.automaton.now) i.input) i.place i.shown.value i.sums
-        × IsPlaceCounted (A.built i.automaton.now) i.input i.place i.sums
+        × IsCountedTo (A.built i.automaton.now) i.input (stands_at_least (searched (A.built i.automaton.now) i.input) i.place) i.sums
         × AreNotesOf A.Automaton i.automaton.now i.input i.ahead.notes };
 }
 
@@ -93,7 +92,6 @@ pub fn find_overlapping_iter<'a, 'h, A: Search>(
 
 impl<'a, 'h, A: Search> FindOverlappingIter<'a, 'h, A> {
     /// The next match, as `next` returns it; counts what it does.
-    /// A caller: `uses::callers::overlap::pass_occurrences`.
     pub fn next_counted(&mut self, steps: &mut Steps) -> Option<Match>
         ensures gives { YieldsFirst rest_of self.old result self.new × IsRunAfter self.old result self.new }
         ensures sums { RunCounts self.old self.new steps.old steps.new }

@@ -6,11 +6,10 @@ ghost use Rattle.std.specs.Prelude.{◌≡◌, ℕ, ◌<◌, ◌≤◌, List, No
 ghost use Rattle.ac_input.specs.declared.search.Anchored.TheVariants.{No};
 ghost use Rattle.ac_input.specs.declared.search.MatchKind.TheVariants.{Standard};
 ghost use Rattle.ac_input.specs.Input.{is_anchored};
-ghost use Rattle.ac_input.specs.Occurrence.{Occurrence};
 ghost use Rattle.ac_automaton.specs.declared.overlapping.Position.TheVariants.{Over};
 ghost use Rattle.ac_automaton.specs.declared.cursor.End.TheVariants.{Found};
 ghost use Rattle.ac_automaton.specs.Overlapping.{OnlyLooked};
-ghost use Rattle.ac_automaton.specs.OverlappingSearch.{AnswersBegin, BeginsWith, CountsFrom, CountsOn, EndsHere, HasLeft, IsNextEntry, IsScanFor, KeepsPaying, LooksOn, MayShow, MaySkip, PaysAt, PaysOn, ScanCounts, ShowsAfter, ShowsAt, ShowsFrom, ShowsHere, ShowsLater, ShowsNextAt, ShowsRest, SkipCounts, SkipsAtCost};
+ghost use Rattle.ac_automaton.specs.Overlapping.OverlappingSearch.{AnswersBegin, BeginsWith, CountsFrom, CountsOn, EndsHere, HasLeft, IsNextEntry, IsScanFor, KeepsPaying, LooksOn, MayShow, MaySkip, PaysAt, PaysOn, ScanCounts, ShowsAfter, ShowsAt, ShowsFrom, ShowsHere, ShowsLater, ShowsNextAt, ShowsRest, SkipCounts, SkipsAtCost};
 ghost use Rattle.ac_input.specs.Tells.{ending_at};
 ghost use Rattle.ac_automaton.specs.Cursor.{counts};
 

@@ -12,9 +12,8 @@
 //! and so does the first error.
 ghost use Rattle.std.specs.Prelude.{◌≡◌, false};
 ghost use Rattle.std.specs.Borrow.{sem};
-ghost use Rattle.ac_automaton.specs.StreamListing.{ListsHeld, ListsOnCourse};
-ghost use Rattle.ac_automaton.specs.StreamOverlappingIter.{AnswersStreamListing, KeepsListedReader, ListsItem, RestsIfListingRefused, listing_of_stream, reader_listed, reader_listed_name};
-ghost use Rattle.ac_automaton.specs.Watched.{has_ended};
+ghost use Rattle.ac_automaton.specs.Stream.StreamListing.{ListsHeld, ListsOnCourse};
+ghost use Rattle.ac_automaton.specs.Stream.StreamOverlappingIter.{AnswersStreamListing, KeepsListedReader, ListsItem, RestsIfListingRefused, listing_of_stream, reader_listed, reader_listed_name};
 
 mod search;
 
@@ -36,7 +35,6 @@ use std::io::Read;
 ///
 /// It ends, so a `for` may go over it. Its items can be more than a `usize` counts: one for each pattern at each place. So count them
 /// in a loop, and not by `count`.
-/// A caller: `uses::callers::stream_overlap::all_occurrences`.
 #[derive(Drop)]
 pub struct StreamFindOverlappingIter<'a, A: Search, R> {
     stream: ListingSearch<'a, A>,
@@ -47,13 +45,12 @@ pub struct StreamFindOverlappingIter<'a, A: Search, R> {
 /// [`try_stream_find_overlapping_iter`](crate::automaton::Automaton::try_stream_find_overlapping_iter), but the reader is the first
 /// parameter. Call this one where your own contract speaks of the reader: it says that the reader is unchanged if the search returns
 /// an error. A contract can say what becomes of a borrowed value only for the first parameter.
-/// A caller: `uses::callers::stream_overlap::first_occurrence`.
 pub fn stream_find_overlapping_iter<'a, A: Search, R>(
     reader: &'a mut Watched<R>,
     automaton: &'a A,
     alloc: Global,
 ) -> Result<StreamFindOverlappingIter<'a, A, R>, StreamError>
-    requires { has_ended reader.old ≡ false }
+    requires { reader.old.ended ≡ false }
     ensures* rests { sem 𝓛 (RestsIfListingRefused R.row reader.entry result) }
     ensures answer { AnswersStreamListing (A.built automaton.now) (A.supports automaton.now)
         reader.entry result }
@@ -67,7 +64,6 @@ impl<'a, A: Search, R: Read> StreamFindOverlappingIter<'a, A, R> {
     ///
     /// A caller whose own contract speaks of the reader ends the search this way. If the search is dropped, the reader is the
     /// same, but no contract says so.
-    /// A caller: `uses::callers::stream_overlap::first_occurrence`.
     pub fn into_reader(self) -> &'a mut Watched<R>
         ensures reader { result.now ≡ reader_listed self.entry }
         ensures same_reference { result.ghost_name ≡ reader_listed_name self.entry }
@@ -77,7 +73,6 @@ impl<'a, A: Search, R: Read> StreamFindOverlappingIter<'a, A, R> {
 
     /// The next occurrence in the bytes that were read, without a read; counts what it does. None means that all of them were
     /// returned.
-    /// A caller: `uses::callers::stream_overlap::pass_held`.
     pub fn next_held_counted(&mut self, steps: &mut Steps) -> Option<Match>
         ensures lists { ListsHeld (listing_of_stream self.old) result (listing_of_stream self.new) }
         ensures reader { KeepsListedReader self.old self.new }
@@ -88,7 +83,6 @@ impl<'a, A: Search, R: Read> StreamFindOverlappingIter<'a, A, R> {
     }
 
     /// The next item, as `next` returns it; counts what it does.
-    /// A caller: `uses::callers::stream_overlap::all_occurrences`.
     pub fn next_counted(&mut self, steps: &mut Steps) -> Option<Result<Match, StreamError>>
         ensures lists { ListsItem R.remaining self.old self.new result }
         ensures goes { ListsOnCourse (listing_of_stream self.old) (listing_of_stream self.new)
@@ -112,8 +106,8 @@ impl<'a, A: Search, R: Read> StreamFindOverlappingIter<'a, A, R> {
 
 impl<'a, A: Search, R: Read> Iterator for StreamFindOverlappingIter<'a, A, R> {
     ghost use Rattle.std.specs.Iterator.{at_most};
-    ghost use Rattle.ac_automaton.specs.StreamListing.{IsOnListing};
-    ghost use Rattle.ac_automaton.specs.StreamOverlappingIter.{ListsItem, listing_of_stream, most_listed};
+    ghost use Rattle.ac_automaton.specs.Stream.StreamListing.{IsOnListing};
+    ghost use Rattle.ac_automaton.specs.Stream.StreamOverlappingIter.{ListsItem, listing_of_stream, most_listed};
 
     type Item = Result<Match, StreamError>;
 

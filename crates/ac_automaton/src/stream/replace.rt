@@ -7,10 +7,9 @@
 //! one write a read.
 //!
 //! Nothing is tried again, and nothing is flushed. Both buffers are allocated before the first read, and no memory after that.
-ghost use Rattle.std.specs.Prelude.{◌≡◌, ◌+◌, ◌-◌, ◌≤◌, [], drop, false, length, map, slice_range, IfErr, IfOk, OnErr, OnOk};
+ghost use Rattle.std.specs.Prelude.{◌≡◌, ◌+◌, ◌-◌, ◌≤◌, [], drop, false, length, map, slice_range, IfErr};
 ghost use Rattle.ac_automaton.specs.Stream.{GoesOn, IsOnCourse, fresh_progress};
-ghost use Rattle.ac_automaton.specs.StreamReplace.{AcceptsReplacing, AcceptsReplacingAnyKind, AnswersDecided, AnswersMatch, CostsAnyKind, CostsStream, HasSearched, IsBegun, IsPlaced, ReplacesStream};
-ghost use Rattle.ac_automaton.specs.Watched.{has_ended};
+ghost use Rattle.ac_automaton.specs.Stream.StreamReplace.{AcceptsReplacing, AcceptsReplacingAnyKind, AnswersDecided, AnswersMatch, CostsStream, HasSearched, IsBegun, IsPlaced, ReplacesStream};
 
 use super::search::StreamSearch;
 use crate::error::StreamError;
@@ -104,7 +103,7 @@ fn replace_read<A: Search, R: Read, W: Write>(
     requires fresh { stream.old ≡ fresh_progress stream.old.built }
     requires course { IsOnCourse stream.old }
     requires none { output.old ≡ [] }
-    requires open { has_ended reader.old ≡ false }
+    requires open { reader.old.ended ≡ false }
     requires one_each { length replacements.now ≡ length stream.old.built.dictionary.patterns }
     ensures replaced { ReplacesStream R.remaining W.contents stream.old.built
         (map (λ r. r.now) replacements.now) reader.old reader.new writer.old writer.new result }
@@ -131,7 +130,7 @@ pub fn replace_all_counted<A: Search, R: Read, W: Write>(
     replacements: &[&[u8]],
     steps: &mut Steps,
 ) -> Result<(), StreamError>
-    requires open { has_ended reader.old ≡ false }
+    requires open { reader.old.ended ≡ false }
     requires one_each { length replacements.now
         ≡ length (A.built automaton.now).dictionary.patterns }
     ensures replaced { ReplacesStream R.remaining W.contents (A.built automaton.now)
@@ -162,14 +161,14 @@ pub fn replace_all_any_kind_counted<A: Search, R: Read, W: Write>(
     replacements: &[&[u8]],
     steps: &mut Steps,
 ) -> Result<(), StreamError>
-    requires open { has_ended reader.old ≡ false }
+    requires open { reader.old.ended ≡ false }
     requires one_each { length replacements.now
         ≡ length (A.built automaton.now).dictionary.patterns }
     ensures replaced { ReplacesStream R.remaining W.contents (A.built automaton.now)
         (map (λ r. r.now) replacements.now) reader.old reader.new writer.old writer.new result }
     ensures accepted { AcceptsReplacingAnyKind (A.built automaton.now) (A.supports automaton.now)
         reader.old reader.new writer.old writer.new result }
-    ensures cost { CostsAnyKind (A.built automaton.now) reader.old reader.new
+    ensures cost { CostsStream (A.built automaton.now) reader.old reader.new
         steps.old steps.new result }
 {
     let mut stream = StreamSearch::any_kind(automaton, alloc)?;

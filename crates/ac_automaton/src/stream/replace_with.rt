@@ -9,9 +9,8 @@
 ghost use Rattle.std.specs.Prelude.{◌≡◌, ◌+◌, false, length, IfErr, IfOk};
 ghost use Rattle.ac_automaton.specs.Replace.{IsForMatches, RepliesAt, TakesMatches};
 ghost use Rattle.ac_automaton.specs.Stream.{IsOnCourse, fresh_progress};
-ghost use Rattle.ac_automaton.specs.StreamReplace.{IsAtCut, IsPlaced};
-ghost use Rattle.ac_automaton.specs.StreamReplaceWith.{ReplacesAnyKindWith, ContinuesChain, PassesMatch, ReadsAndReplaces, ReplacesStreamWith, StopsChain};
-ghost use Rattle.ac_automaton.specs.Watched.{has_ended};
+ghost use Rattle.ac_automaton.specs.Stream.StreamReplace.{IsAtCut, IsPlaced};
+ghost use Rattle.ac_automaton.specs.Stream.StreamReplaceWith.{ReplacesAnyKindWith, ContinuesChain, PassesMatch, ReadsAndReplaces, ReplacesStreamWith, StopsChain};
 
 use super::replace::{part, rest};
 use super::search::StreamSearch;
@@ -112,7 +111,7 @@ where
     F: FnMut(&Match, &[u8], &mut Watched<W>) -> Result<(), StreamError>,
     requires fresh { stream.old ≡ fresh_progress stream.old.built }
     requires course { IsOnCourse stream.old }
-    requires open { has_ended reader.old ≡ false }
+    requires open { reader.old.ended ≡ false }
     requires ready { IsForMatches F.FnMut (length stream.old.built.dictionary.patterns)
         f.old }
     ensures { ReadsAndReplaces W.contents F.FnMut R.remaining stream.old.built f.old
@@ -139,7 +138,7 @@ pub fn replace_all_with<A: Search, R: Read, W: Write, F>(
 ) -> Result<(), StreamError>
 where
     F: FnMut(&Match, &[u8], &mut Watched<W>) -> Result<(), StreamError>,
-    requires open { has_ended reader.old ≡ false }
+    requires open { reader.old.ended ≡ false }
     requires ready { IsForMatches F.FnMut (length (A.built automaton.now).dictionary.patterns)
         replace_with }
     ensures { ReplacesStreamWith W.contents F.FnMut R.remaining (A.built automaton.now)
@@ -160,7 +159,7 @@ pub fn replace_all_any_kind_with<A: Search, R: Read, W: Write, F>(
 ) -> Result<(), StreamError>
 where
     F: FnMut(&Match, &[u8], &mut Watched<W>) -> Result<(), StreamError>,
-    requires open { has_ended reader.old ≡ false }
+    requires open { reader.old.ended ≡ false }
     requires ready { IsForMatches F.FnMut (length (A.built automaton.now).dictionary.patterns)
         replace_with }
     ensures { ReplacesAnyKindWith W.contents F.FnMut R.remaining (A.built automaton.now)

@@ -4,10 +4,10 @@
 //! decided, in slices: of the bytes that it holds, and of the replacements. So no byte of the text is copied again, and nothing is
 //! allocated. What it keeps back between two pushes is what a match may still need: at most as many bytes as the longest pattern has,
 //! or one, and none where nothing is live.
-ghost use Rattle.std.specs.Prelude.{◌≡◌, ◌-◌, ◌≤◌, ◌<◌, ◌↔◌, None, Some, false, true, length, map, IsTrue};
+ghost use Rattle.std.specs.Prelude.{◌≡◌, ◌-◌, ◌<◌, None, Some, false, true, length, map};
 ghost use Rattle.std.specs.Borrow.{sem};
-ghost use Rattle.ac_automaton.specs.Stream.{AreAllGiven, CanBeCounted, StreamCounts, cut_of, read_by};
-ghost use Rattle.ac_automaton.specs.StreamReplacer.{FindsPart, AnswersReplacer, CanBeLent, GivesText, IsHandedOut, IsReady, LooksForMatch, TakesPart, PushesText, ends_there, told_the_end, part_bytes, decided_to};
+ghost use Rattle.ac_automaton.specs.Stream.{AreAllGiven, CanBeCounted, StreamCounts, cut_of, read_by, closed_by};
+ghost use Rattle.ac_automaton.specs.Stream.StreamReplacer.{FindsPart, AnswersReplacer, CanBeLent, IsReady, LooksForMatch, TakesPart, PushesText, ends_there, part_bytes, decided_to};
 
 use super::StreamSearch;
 use super::replace::part;
@@ -48,7 +48,7 @@ pub struct StreamReplacer<A: Search> {
 }
 
 impl<A: Search> Model for StreamReplacer<A> {
-    ghost use Rattle.ac_automaton.specs.StreamReplacer.{IsReplacing, ReplacerProgress};
+    ghost use Rattle.ac_automaton.specs.Stream.StreamReplacer.{IsReplacing, ReplacerProgress};
 
     ghost Value = { ReplacerProgress };
 
@@ -132,7 +132,7 @@ impl<A: Search> StreamReplacer<A> {
 
     /// Tells the replacement that nothing more comes: [`StreamReplacer::next`] hands out the text to its end.
     pub fn finish(&mut self)
-        ensures { self.new ≡ told_the_end self.old }
+        ensures { self.new ≡ (record self.old { search = closed_by self.old.search; finished = true }) }
     {
         self.search.finish();
         self.finished = true;
@@ -243,7 +243,7 @@ impl<A: Search> StreamReplacer<A> {
 }
 
 impl<A: Search> StreamReplacer<A> {
-    ghost use Rattle.ac_automaton.specs.StreamReplacerNext.{EndsCounted, EndsGiving};
+    ghost use Rattle.ac_automaton.specs.Stream.StreamReplacerNext.{EndsCounted, EndsGiving};
 
     /// The next slice of the replaced text, as far as it is decided: bytes that are held, or the replacement of a match, which may be
     /// empty; what was read between two matches is handed out only if there is some. None means that all that is decided was handed

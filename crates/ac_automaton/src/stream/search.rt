@@ -14,15 +14,14 @@
 //! The hot path is [`Automaton::advance_to_match`] over the bytes of a read. Between two matches nothing else is done for a byte,
 //! even if the automaton has a prefilter, which a stream doesn't use. An automaton that can walk over several parts of these bytes
 //! side by side reads ahead of the search: see [`ahead`](crate::ahead).
-ghost use Rattle.std.specs.Prelude.{◌≡◌, ◌≢◌, ◌↔◌, ◌+◌, ◌-◌, ◌≤◌, ◌<◌, ℕ, List, [], None, false, true, length, IfErr, IfOk, OnOk, IsTrue};
+ghost use Rattle.std.specs.Prelude.{◌≡◌, ◌≢◌, ◌↔◌, ◌+◌, ◌-◌, ◌≤◌, ◌<◌, [], None, false, true, length, IfErr, IfOk, OnOk, IsTrue, drop};
 ghost use Rattle.ac_input.specs.declared.search.Anchored.TheVariants.{No};
 ghost use Rattle.ac_automaton.specs.Ahead.{AreNotes};
-ghost use Rattle.ac_automaton.specs.StreamPush.{Pushes};
-ghost use Rattle.ac_automaton.specs.StreamSearch.{searched_anew, some_of};
-ghost use Rattle.ac_automaton.specs.StreamWalk.{MayWalk, WalksOn};
+ghost use Rattle.ac_automaton.specs.Stream.StreamPush.{Pushes};
+ghost use Rattle.ac_automaton.specs.Stream.StreamSearch.{searched_anew, some_of};
+ghost use Rattle.ac_automaton.specs.Stream.StreamWalk.{MayWalk, WalksOn};
 ghost use Rattle.ac_input.specs.Work.{shortest};
-ghost use Rattle.ac_automaton.specs.Stream.{AnswersNew, AnswersNewAnyKind, CanBeCounted, CanStreamAnyKind, IsAnyKindConfigRefusal, IsMemory, closed_by, fresh_progress, may_wait, CanStream, CountsNothing, FindsHeld, GoesOn, IsConfigRefusal, IsOnCourse, IsRolled, IsSearched, ReadsMore, StreamCounts, StreamProgress, cut_of, held_by, read_by, room_of};
-ghost use Rattle.ac_automaton.specs.Watched.{has_ended};
+ghost use Rattle.ac_automaton.specs.Stream.{AnswersNew, AnswersNewAnyKind, CanBeCounted, CanStreamAnyKind, IsAnyKindConfigRefusal, IsOutOfMemory, closed_by, fresh_progress, may_wait, CanStream, CountsNothing, FindsHeld, GoesOn, IsConfigRefusal, IsOnCourse, IsRolled, IsSearched, ReadsMore, StreamCounts, StreamProgress, cut_of, read_by, room_of};
 
 mod decide;
 
@@ -103,7 +102,7 @@ impl<A: Search> Model for StreamSearch<A> {
     ghost Value = { StreamProgress };
 
     ghost use Rattle.ac_automaton.specs.Ahead.{AreNotes};
-    ghost use Rattle.ac_automaton.specs.StreamSearch.{IsStreamSearch, progress_at};
+    ghost use Rattle.ac_automaton.specs.Stream.StreamSearch.{IsStreamSearch, progress_at};
 
     ghost view = { λ i. progress_at (A.built i.automaton) i.pieces.items i.given.value
         i.progress i.buffer i.sums };
@@ -284,7 +283,7 @@ impl<A: Search + Drop> StreamSearch<A> {
         requires filled { 1 ≤ shortest (A.built automaton).dictionary.patterns }
         ensures fresh { IfOk result (λ s. s ≡ fresh_progress (A.built automaton)) }
         ensures kept { IfOk result IsOnCourse }
-        ensures error { IfErr result IsMemory }
+        ensures error { IfErr result IsOutOfMemory }
     {
         let buffer = Buffer::new(alloc, automaton.max_pattern_len())?;
         Ok(StreamSearch {
@@ -328,7 +327,7 @@ impl<A: Search + Drop> StreamSearch<A> {
 impl<A: Search> StreamSearch<A> {
     /// The held bytes: the last ones of those that were read or pushed. A match that was returned is among them until the next push.
     pub fn held(&self) -> &[u8]
-        ensures held { result.now ≡ held_by self.now }
+        ensures held { result.now ≡ drop self.now.from (read_by self.now) }
         ensures kept { IsOnCourse self.now }
     {
         self.buffer.held()
@@ -512,7 +511,7 @@ impl<A: Search> StreamSearch<A> {
         reader: &mut Watched<R>,
         steps: &mut Steps,
     ) -> Result<usize, StreamError>
-        requires open { has_ended reader.old ≡ false }
+        requires open { reader.old.ended ≡ false }
         requires unclosed { self.old.closed ≡ false }
         requires searched { IsSearched self.old }
         ensures read { ReadsMore R.remaining self.old self.new reader.old reader.new result }
@@ -525,7 +524,7 @@ impl<A: Search> StreamSearch<A> {
 
     /// One read; there is room.
     fn fill<R: Read>(&mut self, reader: &mut Watched<R>) -> Result<usize, StreamError>
-        requires open { has_ended reader.old ≡ false }
+        requires open { reader.old.ended ≡ false }
         requires unclosed { self.old.closed ≡ false }
         requires searched { IsSearched self.old }
         requires room { length (read_by self.old) < self.old.from + room_of self.old.built }

@@ -23,8 +23,8 @@ pub struct Fingerprints {
 }
 
 impl Fingerprints {
-    ghost use Rattle.ac_input.specs.LiveLaws.{canonical};
-    ghost use Rattle.ac_literal.specs.Fingerprints.{print_of, IsPrinted, KeepsPrints};
+    ghost use Rattle.ac_input.specs.Laws.LiveLaws.{canonical};
+    ghost use Rattle.ac_literal.specs.Openings.Fingerprints.{print_of, IsPrinted, KeepsPrints};
 
     /// No bytes yet.
     pub fn new(pairing: &Pairing) -> Fingerprints

@@ -59,7 +59,6 @@ impl Default for Config {
 
 impl Config {
     /// Leftmost-first matches.
-    /// A caller: `uses::callers::packed::longest_match`.
     pub fn new() -> Config
         ensures { result ≡ MatchKind.LeftmostFirst }
     {
@@ -69,7 +68,6 @@ impl Config {
     }
 
     /// A builder of such searchers. It takes no memory yet, and takes it from `alloc` later.
-    /// A caller: `uses::callers::packed::longest_match`.
     pub fn builder(&self, alloc: Global) -> Builder
         ensures { result ≡ fresh self.now }
     {
@@ -81,7 +79,6 @@ impl Config {
     }
 
     /// Sets which occurrence is the match.
-    /// A caller: `uses::callers::packed::longest_match`.
     pub fn match_kind(&mut self, kind: MatchKind) -> &mut Config
         ensures same { result.ghost_name ≡ self.entry.ghost_name }
         ensures value { result.now ≡ kind }
@@ -91,7 +88,6 @@ impl Config {
     }
 
     /// Forces the rolling hash alone. Marks and hash are one search, and no result depends on it, so this changes nothing.
-    /// A caller: `uses::callers::packed::longest_config`.
     pub fn only_rabin_karp(&mut self, _yes: bool) -> &mut Config
         ensures same { result.ghost_name ≡ self.entry.ghost_name }
         ensures value { result.now ≡ self.old }
@@ -125,7 +121,6 @@ impl Model for Builder {
 
 impl Builder {
     /// A builder of leftmost-first searchers. It takes no memory yet, and takes it from `alloc` later.
-    /// A caller: `uses::callers::packed::of_two`.
     pub fn new(alloc: Global) -> Builder
         ensures { result ≡ fresh MatchKind.LeftmostFirst }
     {
@@ -133,7 +128,6 @@ impl Builder {
     }
 
     /// A copy of the builder, with copies of the patterns.
-    /// A caller: `uses::callers::packed::and`.
     pub fn clone(&self) -> Result<Builder, AllocError>
         ensures { IfOk result (λ copy. copy ≡ self.now) }
     {
@@ -147,7 +141,6 @@ impl Builder {
     }
 
     /// Adds a pattern. If memory runs out, the builder is unchanged.
-    /// A caller: `uses::callers::packed::of_one`.
     pub fn add(&mut self, pattern: &[u8]) -> Result<&mut Builder, AllocError>
         ensures same { IfOk result (λ builder. builder.ghost_name ≡ self.entry.ghost_name) }
         ensures value { IfOk result (λ builder. builder.now ≡ added self.old pattern.now) }
@@ -157,7 +150,6 @@ impl Builder {
     }
 
     /// Adds patterns in their order. If memory runs out, those before stay added.
-    /// A caller: `uses::callers::packed::and_all`.
     pub fn extend(&mut self, patterns: &[&[u8]]) -> Result<&mut Builder, AllocError>
         ensures same { IfOk result (λ builder. builder.ghost_name ≡ self.entry.ghost_name) }
         ensures value { IfOk result (λ b. b.now ≡ added_all self.old (bytes_of patterns.now)) }
@@ -167,7 +159,6 @@ impl Builder {
     }
 
     /// The same as [`Builder::add`], for a caller that goes on when memory has run out.
-    /// A caller: `uses::callers::packed::and`.
     pub fn try_add(&mut self, pattern: &[u8]) -> Result<(), AllocError>
         ensures ok { OnOk result (self.new ≡ added self.old pattern.now) }
         ensures err { OnErr result (self.new ≡ self.old) }
@@ -184,7 +175,6 @@ impl Builder {
     }
 
     /// The same as [`Builder::extend`], for a caller that goes on when memory has run out.
-    /// A caller: `uses::callers::packed::longest_match`.
     pub fn try_extend(&mut self, patterns: &[&[u8]]) -> Result<(), AllocError>
         ensures ok { OnOk result (self.new ≡ added_all self.old (bytes_of patterns.now)) }
         ensures err { OnErr result (HasBeginning self.old (bytes_of patterns.now) self.new) }
@@ -196,7 +186,6 @@ impl Builder {
     }
 
     /// How many patterns it has.
-    /// A caller: `uses::callers::packed::holds_some`.
     pub fn len(&self) -> usize
         ensures { result ≡ length self.now.patterns }
     {
@@ -204,7 +193,6 @@ impl Builder {
     }
 
     /// The length of the shortest pattern; `usize::MAX` where it has none.
-    /// A caller: `uses::callers::packed::is_long_enough`.
     pub fn minimum_len(&self) -> usize
         ensures { result ≡ shortest self.now.patterns }
     {
@@ -212,7 +200,6 @@ impl Builder {
     }
 
     /// A searcher for the patterns, with copies of them; none where there is no pattern.
-    /// A caller: `uses::callers::packed::longest_match`.
     pub fn build(&self) -> Result<Option<Searcher>, AllocError>
         ensures value { IfOk result (λ made. made ≡ built self.now.kind self.now.patterns) }
         ensures served { IfOk result (λ made. IfSome made (λ s. AreServed s.patterns)) }
@@ -237,7 +224,7 @@ pub struct Searcher {
 
 impl Model for Searcher {
     ghost use Rattle.ac_literal.specs.Packed.{Packed, AreServed};
-    ghost use Rattle.ac_literal.specs.Scanner.{IsScanner};
+    ghost use Rattle.ac_literal.specs.Packed.Scanner.{IsScanner};
 
     ghost Value = { Packed };
 
@@ -248,7 +235,6 @@ impl Model for Searcher {
 
 impl Searcher {
     /// A leftmost-first searcher for the patterns, with copies of them; none where they are not 1 to 128, or one is empty.
-    /// A caller: `uses::callers::packed::can_serve`.
     pub fn new(alloc: Global, patterns: &[&[u8]]) -> Result<Option<Searcher>, AllocError>
         ensures served { IfOk result (λ made. IsSome made ↔ AreServed (bytes_of patterns.now)) }
         ensures value { IfOk result
@@ -260,7 +246,6 @@ impl Searcher {
     }
 
     /// The settings of a searcher, to be changed and then built from.
-    /// A caller: `uses::callers::packed::longest_config`.
     pub fn config() -> Config
         ensures { result ≡ MatchKind.LeftmostFirst }
     {
@@ -268,7 +253,6 @@ impl Searcher {
     }
 
     /// A builder of leftmost-first searchers. It takes no memory yet, and takes it from `alloc` later.
-    /// A caller: `uses::callers::packed::of_one`.
     pub fn builder(alloc: Global) -> Builder
         ensures { result ≡ fresh MatchKind.LeftmostFirst }
     {
@@ -276,7 +260,6 @@ impl Searcher {
     }
 
     /// A copy of the searcher, in memory from `alloc`.
-    /// A caller: `uses::callers::packed::copy_searcher`.
     pub fn clone(&self, alloc: Global) -> Result<Searcher, AllocError>
         ensures { IfOk result (λ copy. copy ≡ self.now) }
     {
@@ -287,7 +270,6 @@ impl Searcher {
     }
 
     /// The first match in the haystack, if it has one. It takes no memory.
-    /// A caller: `uses::callers::packed::first_match`.
     pub fn find(&self, haystack: &[u8]) -> Option<Match>
         ensures best { IsBest (search_kind self.now.kind) (in_whole self.now.patterns haystack.now) result }
         ensures served { AreServed self.now.patterns }
@@ -302,7 +284,6 @@ impl Searcher {
     }
 
     /// The first match of those that lie in the span, if there is one. It looks at nothing outside the span.
-    /// A caller: `uses::callers::packed::match_in`.
     pub fn find_in(&self, haystack: &[u8], span: Span) -> Option<Match>
         requires order { span.start ≤ span.end }
         requires within { span.end ≤ length haystack.now }
@@ -325,7 +306,6 @@ impl Searcher {
     /// All matches that don't overlap, from the first to the last.
     ///
     /// Iterating over all of them looks at each byte once, not counting comparisons.
-    /// A caller: `uses::callers::packed::all_matches`.
     pub fn find_iter<'s, 'h>(&'s self, haystack: &'h [u8]) -> FindIter<'s, 'h>
         ensures { result ≡ matches_of self.now haystack.now }
     {
@@ -338,7 +318,6 @@ impl Searcher {
     }
 
     /// Which occurrence is the match.
-    /// A caller: `uses::callers::packed::prefers_longest`.
     pub fn match_kind(&self) -> &MatchKind
         ensures value { result.now ≡ self.now.kind }
         ensures served { AreServed self.now.patterns }
@@ -347,7 +326,6 @@ impl Searcher {
     }
 
     /// The length from which a haystack is searched fast: any.
-    /// A caller: `uses::callers::packed::is_searched`.
     pub fn minimum_len(&self) -> usize
         ensures { result ≡ 0 }
     {

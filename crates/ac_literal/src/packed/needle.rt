@@ -6,7 +6,7 @@ ghost use Rattle.std.specs.Prelude.{◌≡◌, ◌<◌, ◌≤◌, [], ◌∷◌
 ghost use Rattle.ac_input.specs.Best.{IsBest};
 ghost use Rattle.ac_literal.specs.declared.packed.api.MatchKind.{MatchKind as Kind};
 ghost use Rattle.ac_literal.specs.Packed.{search_kind, in_span};
-ghost use Rattle.ac_literal.specs.Scanner.{IsOnlyPattern};
+ghost use Rattle.ac_literal.specs.Packed.Scanner.{IsOnlyPattern};
 
 use crate::packed::pattern::Patterns;
 use ac_input::primitives::PatternID;

@@ -3,11 +3,11 @@
 //! A pattern's number counts from 0 in the order in which the patterns were added. At one place of a haystack several patterns may
 //! lie. Which of them is the match depends only on the kind and on the patterns, so their order is computed once, when a searcher
 //! is built.
-ghost use Rattle.std.specs.Prelude.{◌≡◌, ℕ, ◌<◌, ◌≤◌, [], ◌∷◌, ◌++◌, ◌==◌, length, IfOk, OnOk, OnErr};
+ghost use Rattle.std.specs.Prelude.{◌≡◌, ℕ, ◌<◌, ◌≤◌, [], ◌∷◌, ◌++◌, ◌==◌, length, IfOk, OnOk, OnErr, get_or};
 ghost use Rattle.ac_input.specs.Best.{preference};
 ghost use Rattle.ac_input.specs.Work.{shortest};
-ghost use Rattle.ac_literal.specs.Packed.{search_kind, most_packed, pattern_at};
-ghost use Rattle.ac_literal.specs.RabinKarp.{lying, IsOrder, IsPlace};
+ghost use Rattle.ac_literal.specs.Packed.{search_kind, most_packed};
+ghost use Rattle.ac_literal.specs.Packed.RabinKarp.{lying, IsOrder, IsPlace};
 
 use crate::packed::api::MatchKind;
 use ac_input::primitives::PatternID;
@@ -61,7 +61,7 @@ impl Patterns {
     /// The bytes of the pattern of this number.
     pub fn get(&self, number: PatternID) -> &[u8]
         requires { number < length self.now }
-        ensures { result.now ≡ pattern_at self.now number }
+        ensures { result.now ≡ get_or self.now number [] }
     {
         self.by_id[number.as_usize()].as_slice()
     }

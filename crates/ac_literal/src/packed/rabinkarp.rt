@@ -14,7 +14,7 @@
 ghost use Rattle.std.specs.Prelude.{◌≡◌, ◌+◌, ◌-◌, ◌*◌, ◌%◌, ◌^◌, ◌<◌, ◌≤◌, length, slice_range, IfOk, MatchOption};
 ghost use Rattle.ac_input.specs.Occurrence.{Occurs};
 ghost use Rattle.ac_literal.specs.Packed.{AreServed, in_span};
-ghost use Rattle.ac_literal.specs.RabinKarp.{hash_of, bucket_of, lying, entry_at, IsTable, IsTableOf, IsSameTable, NoneBefore, IsMatchAt, IsMatchBefore};
+ghost use Rattle.ac_literal.specs.Packed.RabinKarp.{hash_of, bucket_of, lying, entry_at, IsTable, IsTableOf, IsSameTable, NoneBefore, IsMatchAt, IsMatchBefore};
 
 use crate::packed::api::MatchKind;
 use crate::packed::pattern::Patterns;

@@ -14,9 +14,9 @@
 //! that many short searches don't each try anew.
 ghost use Rattle.std.specs.Prelude.{◌≡◌, ◌+◌, ◌<◌, ◌≤◌, length, IfOk};
 ghost use Rattle.ac_literal.specs.Packed.{AreServed, in_span, search_kind};
-ghost use Rattle.ac_literal.specs.RabinKarp.{NoneBefore, IsMatchBefore};
-ghost use Rattle.ac_literal.specs.Teddy.{HasMarks};
-ghost use Rattle.ac_literal.specs.Scanner.{IsScanner, IsScannerOf, IsSameScanner};
+ghost use Rattle.ac_literal.specs.Packed.RabinKarp.{NoneBefore, IsMatchBefore};
+ghost use Rattle.ac_literal.specs.Packed.Teddy.{HasMarks};
+ghost use Rattle.ac_literal.specs.Packed.Scanner.{IsScanner, IsScannerOf, IsSameScanner};
 ghost use Rattle.ac_input.specs.Best.{IsBest};
 
 use crate::packed::api::MatchKind;

@@ -15,7 +15,7 @@
 ghost use Rattle.std.specs.Prelude.{◌≡◌, ◌≢◌, IsFalse, ℕ, ◌+◌, ◌/◌, ◌%◌, ◌<◌, ◌≤◌, length, slice_index, bit_and};
 ghost use Rattle.std.specs.Int.{bit_at};
 ghost use Rattle.ac_literal.specs.Packed.{AreServed, AreAsLong};
-ghost use Rattle.ac_literal.specs.Teddy.{HasLanes, HasBucket, KeepsBuckets, LooksBefore, HasPattern, KeepsPatterns, IsTeddy, IsNextMarks, low_at, left_at, two_at, three_at, four_at, four_low_at, marked_at};
+ghost use Rattle.ac_literal.specs.Packed.Teddy.{HasLanes, HasBucket, KeepsBuckets, LooksBefore, HasPattern, KeepsPatterns, IsTeddy, IsNextMarks, low_at, left_at, two_at, three_at, four_at, four_low_at, marked_at};
 
 use crate::packed::pattern::Patterns;
 use ac_input::primitives::PatternID;

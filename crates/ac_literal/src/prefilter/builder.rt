@@ -9,9 +9,9 @@ ghost use Rattle.ac_input.specs.Pairing.{IsFolded};
 ghost use Rattle.ac_input.specs.Dictionary.{Dictionary};
 ghost use Rattle.ac_literal.specs.Packed.{search_kind, added};
 ghost use Rattle.ac_literal.specs.Prefilter.{IsDemanded, IsPrefilterOf, MemmemServes};
-ghost use Rattle.ac_literal.specs.Builder.{IsPackedSoFar, IsCollected, AddsMemmem, AddsStart, AddsPattern, BuildsWhere, BuildsPacked, BuildsStartBytes, TakesOne};
+ghost use Rattle.ac_literal.specs.Prefilter.Builder.{IsPackedSoFar, IsCollected, AddsMemmem, AddsStart, AddsPattern, BuildsWhere, BuildsPacked, BuildsStartBytes, TakesOne};
 ghost use Rattle.ac_input.specs.Limits.{with_pattern};
-ghost use Rattle.ac_literal.specs.Strategy.{AreRareOf};
+ghost use Rattle.ac_literal.specs.Prefilter.Strategies.{AreRareOf};
 
 use crate::packed;
 use crate::prefilter::Prefilter;
@@ -115,7 +115,6 @@ impl Builders {
     }
 
     /// With one more pattern. If memory runs out, nothing changes.
-    /// A caller: `uses::callers::packed::folded_prefilter`.
     fn add(&mut self, alloc: Global, pairing: &Pairing, pattern: &[u8]) -> Result<(), AllocError>
         requires { 0 < length pattern.now }
         ensures ok { OnOk result (AddsPattern pairing.now self.old pattern.now self.new) }
@@ -268,7 +267,7 @@ pub struct PrefilterBuilder {
 
 impl Model for PrefilterBuilder {
     ghost use Rattle.ac_input.specs.Dictionary.{Dictionary};
-    ghost use Rattle.ac_literal.specs.Builder.{IsBuilder};
+    ghost use Rattle.ac_literal.specs.Prefilter.Builder.{IsBuilder};
 
     ghost Value = { Dictionary };
 
@@ -284,7 +283,6 @@ impl Model for PrefilterBuilder {
 impl PrefilterBuilder {
     /// A builder with no pattern, for searches of this kind, where no byte is paired. It takes no memory yet, and takes it from
     /// `alloc` later.
-    /// A caller: `uses::callers::packed::prefilter_of`.
     pub fn new(alloc: Global, kind: MatchKind) -> PrefilterBuilder
         ensures kind { result.kind ≡ kind }
         ensures patterns { result.patterns ≡ [] }
@@ -309,7 +307,6 @@ impl PrefilterBuilder {
 
     /// Whether ASCII letters count as the same in their two cases. It sets the whole pairing: the last call of this or of
     /// [`PrefilterBuilder::pairing`] decides.
-    /// A caller: `uses::callers::packed::folded_prefilter`.
     pub fn ascii_case_insensitive(&mut self, yes: bool) -> &mut PrefilterBuilder
         requires { self.old.patterns ≡ [] }
         ensures same { result.ghost_name ≡ self.entry.ghost_name }
@@ -325,7 +322,6 @@ impl PrefilterBuilder {
     }
 
     /// Which bytes stand for one another. At first none does.
-    /// A caller: `uses::callers::packed::paired_prefilter`.
     pub fn pairing(&mut self, pairing: Pairing) -> &mut PrefilterBuilder
         requires { self.old.patterns ≡ [] }
         ensures same { result.ghost_name ≡ self.entry.ghost_name }
@@ -336,7 +332,6 @@ impl PrefilterBuilder {
     }
 
     /// Adds a pattern. If memory runs out, the builder is unchanged.
-    /// A caller: `uses::callers::packed::folded_prefilter`.
     pub fn add(&mut self, pattern: &[u8]) -> Result<&mut PrefilterBuilder, AllocError>
         ensures same { IfOk result (λ b. b.ghost_name ≡ self.entry.ghost_name) }
         ensures value { IfOk result (λ b. b.now ≡ with_pattern self.old pattern.now) }
@@ -346,7 +341,6 @@ impl PrefilterBuilder {
     }
 
     /// The same as [`PrefilterBuilder::add`], for a caller that goes on when memory has run out.
-    /// A caller: `uses::callers::packed::prefilter_of`.
     pub fn try_add(&mut self, pattern: &[u8]) -> Result<(), AllocError>
         ensures ok { OnOk result (self.new ≡ with_pattern self.old pattern.now) }
         ensures err { OnErr result (self.new ≡ self.old) }
@@ -363,7 +357,6 @@ impl PrefilterBuilder {
     /// The prefilter of the patterns, if one serves.
     ///
     /// It takes memory for a copy of the patterns that the prefilter searches for, and none where it scans for bytes.
-    /// A caller: `uses::callers::packed::prefilter_of`.
     pub fn build(&self) -> Result<Option<Prefilter>, AllocError>
         ensures made { IfOk result (λ made. IfSome made (IsPrefilterOf self.now)) }
         ensures demanded { IfOk result (λ made. IsDemanded self.now → IsSome made) }

@@ -5,7 +5,7 @@
 ghost use Rattle.std.specs.Prelude.{◌≡◌, ℕ, ◌≤◌, Bool, length, IfSome};
 ghost use Rattle.memchr.specs.Find.{IsFirstByte, Passes, IsFirst};
 ghost use Rattle.ac_input.specs.Steps.{Done};
-ghost use Rattle.ac_literal.specs.Needles.{is_needle, all_ascii, covered, with_byte, AddsNeedle, few_has, AreFew, AddsByte};
+ghost use Rattle.ac_literal.specs.Prefilter.Needles.{is_needle, all_ascii, covered, with_byte, AddsNeedle, few_has, AreFew, AddsByte};
 
 use ac_input::search::Span;
 use ac_input::steps::Steps;

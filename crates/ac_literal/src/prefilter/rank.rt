@@ -3,8 +3,7 @@
 //! A scan for bytes costs next to nothing until it stops; each stop costs a run of the automaton and a new start of the scan. So a
 //! prefilter is only as good as its bytes are rare. The ranks are a rough estimate, for text in the Latin alphabet and for formats
 //! that are made of text; how often a byte comes in a thousand bytes is an estimate as rough. No result depends on either.
-ghost use Rattle.std.specs.Prelude.{◌≡◌, ◌≤◌, ◌*◌};
-ghost use Rattle.ac_literal.specs.RareBytes.{rank_of, paired_rank_of};
+ghost use Rattle.std.specs.Prelude.{◌≤◌, ◌*◌};
 ghost use Rattle.ac_literal.specs.declared.prefilter.rank.TheConstants.{COMMON_STOPS};
 
 use crate::prefilter::needles::{ASCII_LIMIT, Needles};
@@ -33,9 +32,7 @@ pub const STOPS_BESIDE_PACKED: u32 = 1;
 pub const STOPS_ALONE: u32 = 50;
 
 /// How common a byte is estimated to be: the greater, the more common.
-pub fn rank(byte: u8) -> u8
-    ensures { result ≡ rank_of byte }
-{
+pub fn rank(byte: u8) -> u8 {
     match byte {
         0 | b'\n' | b' ' | b'a'..=b'z' => COMMON,
         b'0'..=b'9' | b'A'..=b'Z' => CAPITAL,
@@ -45,9 +42,7 @@ pub fn rank(byte: u8) -> u8
 }
 
 /// The rank of a byte that is looked for together with its partner: that of the more common of the two.
-pub fn paired_rank(pairing: &Pairing, byte: u8) -> u8
-    ensures { result ≡ paired_rank_of pairing.now byte }
-{
+pub fn paired_rank(pairing: &Pairing, byte: u8) -> u8 {
     rank(byte).max(rank(pairing.other(byte)))
 }
 

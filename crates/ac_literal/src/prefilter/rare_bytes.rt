@@ -8,8 +8,8 @@
 //! pattern, not only of the pattern for which it was chosen. So the place of each byte of each pattern is recorded.
 ghost use Rattle.std.specs.Prelude.{◌≡◌, ℕ, ◌<◌, [], List, length, slice_index, slice_set, max, IsTrue};
 ghost use Rattle.std.specs.List.{Contains};
-ghost use Rattle.ac_literal.specs.Strategy.{rare_len_limit};
-ghost use Rattle.ac_literal.specs.RareBytes.{IsRarest, HoldsOne, IsClosed, IsChosen, AreReached, IsRareSoFar, AddsRare};
+ghost use Rattle.ac_literal.specs.Prefilter.Strategies.{rare_len_limit};
+ghost use Rattle.ac_literal.specs.Prefilter.Rare.{HoldsOne, IsClosed, IsChosen, AreReached, IsRareSoFar, AddsRare};
 
 use crate::prefilter::needles::FewBytes;
 use crate::prefilter::rank::paired_rank;
@@ -18,11 +18,11 @@ use ac_input::pairing::Pairing;
 /// Rare bytes serve patterns that are shorter than this: then the place of each byte fits a `u8`.
 const LEN_LIMIT: usize = 256;
 
-/// The byte of the pattern that is the least common, together with its partner; of several, the first.
+/// The byte of the pattern that is the least common, together with its partner; of several, the first. The contract says only that
+/// the pattern has it: which one is taken changes how long a search takes, and no result.
 fn rarest(pairing: &Pairing, pattern: &[u8]) -> u8
     requires { 0 < length pattern.now }
     ensures held { Contains pattern.now result }
-    ensures least { IsRarest pairing.now pattern.now result }
 {
     let mut best = pattern[0];
     for byte in pattern {

@@ -4,7 +4,7 @@
 //! place where a match may begin. Each is right for patterns of its own sort; the builder makes sure of that.
 ghost use Rattle.std.specs.Prelude.{◌≡◌, ◌≤◌, length, IfOk};
 ghost use Rattle.ac_input.specs.Dictionary.{Dictionary};
-ghost use Rattle.ac_literal.specs.Strategy.{IsMemmem, IsPacked, IsAnswer, ScansStarts, ScansRare};
+ghost use Rattle.ac_literal.specs.Prefilter.Strategies.{IsMemmem, IsPacked, IsAnswer, ScansStarts, ScansRare};
 
 use crate::packed::Searcher;
 use crate::prefilter::needles::Needles;

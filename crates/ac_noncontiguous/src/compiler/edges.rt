@@ -4,9 +4,9 @@
 //! state after another is laid out without a look back into the trie. The array of a state takes 1 kilobyte, and is reused for the
 //! next.
 ghost use Rattle.std.specs.Prelude.{◌≡◌, ℕ, ◌<◌, length, slice_index};
-ghost use Rattle.ac_input.specs.LiveLaws.{canonical};
-ghost use Rattle.ac_noncontiguous.specs.Numbering.{IsNumbering};
-ghost use Rattle.ac_noncontiguous.specs.Edges.{AreTargets, IsEdgeTo};
+ghost use Rattle.ac_input.specs.Laws.LiveLaws.{canonical};
+ghost use Rattle.ac_noncontiguous.specs.Compiler.Numbering.{IsNumbering};
+ghost use Rattle.ac_noncontiguous.specs.Compiler.Edges.{AreTargets, IsEdgeTo};
 
 use crate::compiler::numbering::Numbering;
 use crate::trie::Trie;

@@ -6,8 +6,8 @@
 ghost use Rattle.std.specs.Prelude.{◌≡◌, ◌+◌, ◌<◌, ◌≤◌, ◌++◌, length, true, false, slice_index, EachIndex, IfOk};
 ghost use Rattle.std.specs.List.{filter};
 ghost use Rattle.ac_input.specs.Number.{greatest_number};
-ghost use Rattle.ac_noncontiguous.specs.Order.{IsBreadthFirst};
-ghost use Rattle.ac_noncontiguous.specs.Numbering.{is_chosen, AreListed, AreFirstNumbers, FitsTrie, IsNumbering, AreInRuns, IsLastMatch};
+ghost use Rattle.ac_noncontiguous.specs.Links.Order.{IsBreadthFirst};
+ghost use Rattle.ac_noncontiguous.specs.Compiler.Numbering.{is_chosen, AreListed, AreFirstNumbers, FitsTrie, IsNumbering, AreInRuns, IsLastMatch};
 
 use crate::links::Links;
 use crate::trie::Trie;

@@ -7,10 +7,10 @@
 //! A failure is less deep than its state, so the rows are made in order of depth: then that of the failure is there before.
 ghost use Rattle.std.specs.Prelude.{◌≡◌, ℕ, ◌+◌, ◌<◌, ◌||◌, length, true, slice_index, IfOk};
 ghost use Rattle.ac_input.specs.Alphabet.{has, class, is_edge, alphabet_len};
-ghost use Rattle.ac_noncontiguous.specs.Numbering.{FitsTrie, IsNumbering};
-ghost use Rattle.ac_noncontiguous.specs.Order.{IsBreadthFirst};
-ghost use Rattle.ac_input.specs.Classes.{IsParted};
-ghost use Rattle.ac_noncontiguous.specs.Layout.{AreAlone, AreClassesOfTrie, LeadAlike, KeepsRows, IsRowAppended, or_failure, AreWithFailures, AreOfDead, HaveRows, AreRowsOf};
+ghost use Rattle.ac_noncontiguous.specs.Compiler.Numbering.{FitsTrie, IsNumbering};
+ghost use Rattle.ac_noncontiguous.specs.Links.Order.{IsBreadthFirst};
+ghost use Rattle.ac_input.specs.Alphabet.Classes.{IsParted};
+ghost use Rattle.ac_noncontiguous.specs.Compiler.Layout.{AreAlone, AreClassesOfTrie, LeadAlike, KeepsRows, IsRowAppended, or_failure, AreWithFailures, AreOfDead, HaveRows, AreRowsOf};
 
 use crate::compiler::edges::{edges, filled};
 use crate::compiler::numbering::Numbering;

@@ -1,7 +1,7 @@
 //! What is stored for each state.
 ghost use Rattle.std.specs.Prelude.{◌≡◌, ◌+◌, ◌<◌, length, IfOk};
-ghost use Rattle.ac_noncontiguous.specs.Numbering.{FitsTrie, IsNumbering};
-ghost use Rattle.ac_noncontiguous.specs.Assembly.{IsFailureOf, IsKeptOf, AreKept};
+ghost use Rattle.ac_noncontiguous.specs.Compiler.Numbering.{FitsTrie, IsNumbering};
+ghost use Rattle.ac_noncontiguous.specs.Compiler.Assembly.{IsFailureOf, IsKeptOf, AreKept};
 
 use crate::compiler::numbering::Numbering;
 use crate::links::Links;

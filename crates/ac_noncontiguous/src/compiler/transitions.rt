@@ -4,10 +4,10 @@
 //! state and both starts store all 256: they are reached last or most often, and have no failure.
 //!
 //! Most states have one child or none, and then need no look at each of the 256 bytes.
-ghost use Rattle.std.specs.Prelude.{◌≡◌, ◌+◌, ◌<◌, ◌++◌, length, true, false, IsTrue, IfOk};
-ghost use Rattle.ac_noncontiguous.specs.Numbering.{IsNumbering};
-ghost use Rattle.ac_noncontiguous.specs.Only.{HasOneAtMost, AppendsOnly};
-ghost use Rattle.ac_noncontiguous.specs.Layout.{AreAppended, HasAll, IsAppended, AreLaidOut};
+ghost use Rattle.std.specs.Prelude.{◌≡◌, ◌+◌, ◌<◌, length, true, false, IsTrue, IfOk};
+ghost use Rattle.ac_noncontiguous.specs.Compiler.Numbering.{IsNumbering};
+ghost use Rattle.ac_noncontiguous.specs.Compiler.Only.{HasOneAtMost, AppendsOnly};
+ghost use Rattle.ac_noncontiguous.specs.Compiler.Layout.{AreAppended, HasAll, IsAppended, AreLaidOut};
 
 use crate::compiler::edges::edges;
 use crate::compiler::numbering::Numbering;

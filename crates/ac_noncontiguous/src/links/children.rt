@@ -3,9 +3,9 @@
 //! The states of a large trie lie far apart in memory, and so do the children of one state. Where children are looked up often, as
 //! for the failures, they are put side by side: 13 bytes a state, which are freed afterwards.
 ghost use Rattle.std.specs.Prelude.{◌≡◌, ◌+◌, ◌<◌, map, length, IfOk};
-ghost use Rattle.ac_noncontiguous.specs.Tree.{byte as byte_of};
-ghost use Rattle.ac_noncontiguous.specs.Children.{AppendsChildren, AreChildrenOfAll};
-ghost use Rattle.ac_noncontiguous.specs.Failures.{IsChildOf};
+ghost use Rattle.ac_noncontiguous.specs.Trie.Tree.{byte as byte_of};
+ghost use Rattle.ac_noncontiguous.specs.Links.Children.{AppendsChildren, AreChildrenOfAll};
+ghost use Rattle.ac_noncontiguous.specs.Links.Failures.{IsChildOf};
 
 use crate::trie::Trie;
 use ac_input::primitives::StateID;

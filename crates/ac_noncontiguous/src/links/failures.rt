@@ -7,14 +7,11 @@
 //! Each step from a failure to the next one is paid for by a byte of the pattern by which the states were added: the time is in
 //! proportion to the bytes of the patterns.
 ghost use Rattle.std.specs.Prelude.{◌≡◌, ℕ, ◌+◌, ◌<◌, length, Some, IfOk};
-ghost use Rattle.ac_input.specs.Dictionary.{Dictionary};
-ghost use Rattle.ac_noncontiguous.specs.Tree.{depth};
-ghost use Rattle.ac_noncontiguous.specs.Kept.{IsTrieOf};
-ghost use Rattle.ac_noncontiguous.specs.Links.{AreFails};
-ghost use Rattle.ac_noncontiguous.specs.Assembly.{AreFailsFor};
-ghost use Rattle.ac_noncontiguous.specs.Order.{IsBreadthFirst};
-ghost use Rattle.ac_noncontiguous.specs.Children.{AreChildrenOfAll};
-ghost use Rattle.ac_noncontiguous.specs.Failures.{IsChildOf, IsToldBy, AreShallower, IsWithinDepth, IsNextByFails, IsFailureByFails, IsFinalIn};
+ghost use Rattle.ac_noncontiguous.specs.Trie.Tree.{depth};
+ghost use Rattle.ac_noncontiguous.specs.Compiler.Assembly.{AreFailsFor};
+ghost use Rattle.ac_noncontiguous.specs.Links.Order.{IsBreadthFirst};
+ghost use Rattle.ac_noncontiguous.specs.Links.Children.{AreChildrenOfAll};
+ghost use Rattle.ac_noncontiguous.specs.Links.Failures.{IsToldBy, AreShallower, IsWithinDepth, IsNextByFails, IsFailureByFails, IsFinalIn};
 
 use crate::links::children::Children;
 use crate::trie::Trie;

@@ -5,7 +5,7 @@
 //! the states of each depth, and the lists are read one after another. The time is in proportion to the states; the memory besides
 //! the order, eight bytes a state, is freed.
 ghost use Rattle.std.specs.Prelude.{◌+◌, ◌<◌, length, IfOk};
-ghost use Rattle.ac_noncontiguous.specs.Order.{AreLevels, AreInOrder, IsBreadthFirst};
+ghost use Rattle.ac_noncontiguous.specs.Links.Order.{AreLevels, AreInOrder, IsBreadthFirst};
 
 use crate::trie::Trie;
 use ac_input::primitives::StateID;

@@ -3,8 +3,8 @@
 //! A trie stores for each pattern the state in which it ends. A pass from the last pattern back makes a list for each state, in
 //! rising order of number; it takes four bytes a state and four a pattern, and time in proportion to both.
 ghost use Rattle.std.specs.Prelude.{◌<◌, length, IfOk};
-ghost use Rattle.ac_noncontiguous.specs.Assembly.{AreOwnOf};
-ghost use Rattle.ac_noncontiguous.specs.Own.{AppendsOwn};
+ghost use Rattle.ac_noncontiguous.specs.Compiler.Assembly.{AreOwnOf};
+ghost use Rattle.ac_noncontiguous.specs.Links.Own.{AppendsOwn};
 
 use crate::trie::Trie;
 use ac_input::primitives::{PatternID, StateID};

@@ -15,7 +15,7 @@ use ac_input::steps::Steps;
 use ac_literal::prefilter::Prefilter;
 
 impl LookUp for NFA {
-    ghost use Rattle.ac_noncontiguous.specs.Reads.{built_as, IsRead, matches_at};
+    ghost use Rattle.ac_noncontiguous.specs.Nfa.Reads.{built_as, IsRead, matches_at};
 
     ghost built = { built_as };
 
@@ -36,7 +36,7 @@ impl LookUp for NFA {
 }
 
 impl Automaton for NFA {
-    ghost use Rattle.ac_noncontiguous.specs.Reads.{built_as, IsRead, matches_at, is_start_at, is_special_at};
+    ghost use Rattle.ac_noncontiguous.specs.Nfa.Reads.{built_as, IsRead, matches_at, is_start_at, is_special_at};
 
     ghost built = { built_as };
 

@@ -6,7 +6,7 @@ ghost use Rattle.std.specs.Prelude.{◌≡◌, ◌++◌, [], ◌∷◌, ◌<◌,
 ghost use Rattle.ac_input.specs.Number.{greatest_number};
 ghost use Rattle.ac_input.specs.Work.{longest, shortest};
 ghost use Rattle.ac_literal.specs.Packed.{bytes_of};
-ghost use Rattle.ac_noncontiguous.specs.PatternLens.{AreShort};
+ghost use Rattle.ac_noncontiguous.specs.Nfa.PatternLens.{AreShort};
 
 use ac_input::history::Pieces;
 use ac_input::primitives::PatternID;
@@ -24,7 +24,7 @@ pub struct PatternLens {
 
 impl Model for PatternLens {
     ghost use Rattle.std.specs.Prelude.{ℕ, List};
-    ghost use Rattle.ac_noncontiguous.specs.PatternLens.{AreLens};
+    ghost use Rattle.ac_noncontiguous.specs.Nfa.PatternLens.{AreLens};
 
     ghost Value = { List (List ℕ) };
 
@@ -71,7 +71,6 @@ impl PatternLens {
     }
 
     /// A copy, in memory from `alloc`.
-    /// A caller: `uses::callers::nfa::copy_lens`.
     pub fn clone(&self, alloc: Global) -> Result<PatternLens, AllocError>
         ensures { IfOk result (λ copy. copy ≡ self.now) }
     {
@@ -84,7 +83,6 @@ impl PatternLens {
     }
 
     /// How many patterns there are.
-    /// A caller: `uses::callers::nfa::room_for_all`.
     pub fn len(&self) -> usize
         ensures { result ≡ length self.now }
     {
@@ -92,7 +90,6 @@ impl PatternLens {
     }
 
     /// How many bytes the pattern has.
-    /// A caller: `uses::callers::nfa::len_past_shortest`.
     pub fn pattern_len(&self, pattern: PatternID) -> usize
         requires { pattern < length self.now }
         ensures { result ≡ length (get_or self.now pattern []) }
@@ -101,7 +98,6 @@ impl PatternLens {
     }
 
     /// How many bytes the shortest pattern has; `usize::MAX` where there is none.
-    /// A caller: `uses::callers::nfa::len_past_shortest`.
     pub fn shortest(&self) -> usize
         ensures { result ≡ shortest self.now }
     {
@@ -109,7 +105,6 @@ impl PatternLens {
     }
 
     /// How many bytes the longest pattern has; 0 where there is none.
-    /// A caller: `uses::callers::nfa::room_for_all`.
     pub fn longest(&self) -> usize
         ensures { result ≡ longest self.now }
     {

@@ -7,10 +7,11 @@
 //! leads to none; then come the states that match, the unanchored start and the anchored one, and all others. Where the empty
 //! pattern is there, both starts match too.
 ghost use Rattle.std.specs.Prelude.{◌≡◌, ◌<◌, IfOk};
-ghost use Rattle.ac_input.specs.Classes.{ClassesLeadAlike};
-ghost use Rattle.ac_noncontiguous.specs.Reads.{dictionary};
+ghost use Rattle.ac_input.specs.Alphabet.Classes.{ClassesLeadAlike};
+ghost use Rattle.ac_noncontiguous.specs.Nfa.Reads.{dictionary};
 ghost use Rattle.ac_input.specs.Limits.{IsWithinLimits};
-ghost use Rattle.ac_noncontiguous.specs.ReadCalls.{OfTexts, AreOrdered, StandFor};
+ghost use Rattle.ac_noncontiguous.specs.Nfa.ReadCalls.{OfTexts, AreOrdered};
+ghost use Rattle.ac_noncontiguous.specs.Nfa.{AreTables};
 
 use crate::nfa::NFA;
 use crate::nfa::pattern_lens::PatternLens;
@@ -100,14 +101,14 @@ impl<'a> Iterator for TransIter<'a> {
 }
 
 impl NFA {
-    ghost use Rattle.std.specs.Prelude.{List, ℕ};
+    ghost use Rattle.std.specs.Prelude.{List, ℕ, IfSome};
     ghost use Rattle.ac_input.specs.Pairing.{IsPairing};
-    ghost use Rattle.ac_noncontiguous.specs.Reads.{built_as, matches_at};
-    ghost use Rattle.ac_automaton.specs.Passing.{AreOpenedBy};
-    ghost use Rattle.ac_noncontiguous.specs.ReadCalls.{state_len, fail_in, depth_in, edges_in, classes_in, special_in, ClassesAreThose, CountsIn, FailsIn, IsDeepIn, ListsIn, EdgesLeadIn, MayBeMet, LeadsIn, SpecialIn, TextsBegin, AreRead, IsReadable, IsCopy};
+    ghost use Rattle.ac_noncontiguous.specs.Nfa.Reads.{built_as, matches_at};
+    ghost use Rattle.ac_literal.specs.Openings.{AreOpenings};
+    ghost use Rattle.ac_noncontiguous.specs.Nfa.ReadCalls.{state_len, fail_in, depth_in, edges_in, classes_in, special_in, CountsIn, FailsIn, IsDeepIn, ListsIn, MayBeMet, LeadsIn, TextsBegin, AreRead, IsReadable, IsCopy, AreEdges, AreBounds};
+    ghost use Rattle.ac_input.specs.Alphabet.Classes.{AreByteClasses};
 
     /// How many states there are.
-    /// A caller: `uses::callers::nfa::numbered`.
     pub fn state_len(&self) -> usize
         ensures value { result ≡ state_len self.now }
         ensures counted { CountsIn self.now result }
@@ -116,7 +117,6 @@ impl NFA {
     }
 
     /// The failure of the state, where a byte is looked up that leads nowhere from the state itself.
-    /// A caller: `uses::callers::nfa::fails_upward`.
     pub fn fail(&self, sid: StateID) -> StateID
         requires { sid < state_len self.now }
         ensures value { result ≡ fail_in self.now sid }
@@ -126,7 +126,6 @@ impl NFA {
     }
 
     /// How many bytes lead to the state from a start.
-    /// A caller: `uses::callers::nfa::fails_upward`.
     pub fn depth(&self, sid: StateID) -> usize
         requires { sid < state_len self.now }
         ensures value { result ≡ depth_in self.now sid }
@@ -136,7 +135,6 @@ impl NFA {
     }
 
     /// The patterns that match at the state.
-    /// A caller: `uses::callers::states::count_by_both`.
     pub fn match_list(&self, sid: StateID) -> &[PatternID]
         requires { sid < state_len self.now }
         ensures value { result.now ≡ matches_at self.now sid }
@@ -151,7 +149,6 @@ impl NFA {
     }
 
     /// The patterns that match at the state, one after another.
-    /// A caller: `uses::callers::states::count_by_both`.
     pub fn iter_matches(&self, sid: StateID) -> MatchIter<'_>
         requires { sid < state_len self.now }
         ensures value { result ≡ matches_at self.now sid }
@@ -163,11 +160,10 @@ impl NFA {
     }
 
     /// The transitions of the state, in rising order of byte.
-    /// A caller: `uses::callers::states::transitions`.
     pub fn iter_trans(&self, sid: StateID) -> TransIter<'_>
         requires { sid < state_len self.now }
         ensures value { result ≡ edges_in self.now sid }
-        ensures lead { EdgesLeadIn self.now sid }
+        ensures lead { AreEdges self.now sid (edges_in self.now sid) }
     {
         let at = sid.as_usize();
         let from = self.tables.states[at].transitions;
@@ -179,10 +175,9 @@ impl NFA {
 
     /// The classes of the bytes: each byte of an entered pattern, and its partner, is one alone; other bytes share one with their
     /// neighbours.
-    /// A caller: `uses::callers::nfa::are_alike`.
     pub fn byte_classes(&self) -> &ByteClasses
         ensures value { result.now ≡ classes_in self.now }
-        ensures classes { ClassesAreThose self.now }
+        ensures classes { ∥ AreByteClasses (dictionary self.now) (classes_in self.now) ∥₁ }
         ensures alike { ClassesLeadAlike (dictionary self.now) (classes_in self.now) }
     {
         &self.tables.classes
@@ -191,10 +186,9 @@ impl NFA {
     /// The numbers between the parts of the states.
     ///
     /// Another automaton is made from this one by them first. So this call also promises what the others do, of every state at once.
-    /// A caller: `uses::callers::nfa::start_of`.
     pub fn special(&self) -> Special
         ensures value { result ≡ special_in self.now }
-        ensures order { SpecialIn self.now result }
+        ensures order { OfTexts self.now (λ text. AreBounds self.now text result) }
         ensures whole { IsReadable self.now }
     {
         Special {
@@ -208,7 +202,6 @@ impl NFA {
     /// The state to which a byte leads from a state, where the search began with this anchoring: all failures are followed.
     ///
     /// It gives the step of a search from any state that a search may reach, the dead one included. It counts nothing.
-    /// A caller: `uses::callers::nfa::lead_over`.
     pub fn lead(&self, anchored: Anchored, sid: StateID, byte: u8) -> StateID
         requires { MayBeMet self.now anchored sid }
         ensures { LeadsIn self.now anchored sid byte result }
@@ -218,27 +211,23 @@ impl NFA {
     }
 
     /// Each state from 2 on stands for a text: canonical bytes that begin an entered pattern. State 1 stands for none.
-    /// A caller: `uses::callers::nfa::last_pattern`.
     pub fn states_stand(&self)
-        ensures some { ∥ ((text : ℕ → List ℕ) × StandFor self.now text) ∥₁ }
+        ensures some { ∥ ((text : ℕ → List ℕ) × AreTables (dictionary self.now) text self.now.tables) ∥₁ }
         ensures begin { TextsBegin self.now }
         ensures within { ∥ IsWithinLimits (dictionary self.now) ∥₁ }
     {}
 
     /// Which states are read by searches: those from 2 on by their own texts, and the dead one by dead texts.
-    /// A caller: `uses::callers::nfa::anchored_end`.
     pub fn states_are_read(&self)
         ensures { AreRead self.now }
     {}
 
     /// In which order the states come.
-    /// A caller: `uses::callers::nfa::is_deeper`.
     pub fn states_are_ordered(&self)
         ensures { OfTexts self.now (AreOrdered self.now) }
     {}
 
     /// How long the patterns are.
-    /// A caller: `uses::callers::nfa::len_past_shortest`.
     pub fn pattern_lens(&self) -> &PatternLens
         ensures { result.now ≡ (built_as self.now).dictionary.patterns }
     {
@@ -246,7 +235,6 @@ impl NFA {
     }
 
     /// Which bytes stand for one another.
-    /// A caller: `uses::callers::nfa::partner`.
     pub fn pairing(&self) -> &Pairing
         ensures value { result.now ≡ (built_as self.now).dictionary.pairing }
         ensures paired { IsPairing result.now }
@@ -256,13 +244,12 @@ impl NFA {
 
     /// Where a pattern may begin, by its first bytes; none where the patterns are many, or one has less than two bytes.
     pub fn openings(&self) -> Option<Openings>
-        ensures { ∥ AreOpenedBy (built_as self.now).dictionary result ∥₁ }
+        ensures { ∥ IfSome result (AreOpenings (built_as self.now).dictionary) ∥₁ }
     {
         self.skips.openings
     }
 
     /// A copy of the automaton, in memory from `alloc`.
-    /// A caller: `uses::callers::build::copy`.
     pub fn clone(&self, alloc: Global) -> Result<NFA, AllocError>
         ensures { IfOk result (IsCopy self.now) }
     {

@@ -10,10 +10,10 @@
 //! one is a state's own, since a failure's next state is no deeper than the state.
 ghost use Rattle.std.specs.Prelude.{◌≡◌, ◌≤◌, ◌+◌, false, length, take, drop, IfOk, IfSome};
 ghost use Rattle.ac_automaton.specs.Named.{nowhere};
-ghost use Rattle.ac_automaton.specs.Starters.{SkipsIdle};
+ghost use Rattle.ac_automaton.specs.Starters.{SkipsBelow};
 ghost use Rattle.ac_input.specs.Input.{is_anchored};
-ghost use Rattle.ac_noncontiguous.specs.Nfa.{fail_of, depth_of};
-ghost use Rattle.ac_noncontiguous.specs.Lookups.{IsKept, IsVisited, StepsTo, StepsOver, AreRisingIn, IsNextIn, own_next, LeadsNext, IsIdle, AreSame};
+ghost use Rattle.ac_noncontiguous.specs.Nfa.{kept_of};
+ghost use Rattle.ac_noncontiguous.specs.Nfa.Lookups.{IsKept, IsVisited, StepsTo, StepsOver, AreRisingIn, IsNextIn, own_next, LeadsNext, IsIdle, AreSame};
 
 use ac_automaton::starters::Starters;
 use ac_input::alphabet::ByteClasses;
@@ -84,7 +84,7 @@ impl Tables {
     #[inline]
     pub(crate) fn fail(&self, sid: StateID) -> StateID
         requires { IsKept self.now sid }
-        ensures { result ≡ fail_of self.now.states.items sid }
+        ensures { result ≡ (kept_of self.now.states.items sid).fail }
     {
         self.states[sid.as_usize()].fail
     }
@@ -118,7 +118,7 @@ impl Tables {
     #[inline]
     fn depth(&self, sid: StateID) -> u32
         requires { IsKept self.now sid }
-        ensures { result ≡ depth_of self.now.states.items sid }
+        ensures { result ≡ (kept_of self.now.states.items sid).depth }
     {
         self.states[sid.as_usize()].depth
     }
@@ -236,7 +236,7 @@ impl Tables {
     /// The bytes that lead from the start to another state. It makes one look-up for each byte.
     pub(crate) fn starters(&self) -> Starters
         requires { IsKept self.now self.now.start }
-        ensures { SkipsIdle (IsIdle self.now) result }
+        ensures { SkipsBelow (IsIdle self.now) 256 result }
     {
         let start = self.start.as_u32();
         if start <= self.max_match.as_u32() {

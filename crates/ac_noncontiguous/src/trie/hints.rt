@@ -7,9 +7,9 @@
 //! Only children that aren't the first of their parent are recorded. The table has room for twice as many as were recorded since
 //! it grew, and at most 16 megabytes; if there is no memory to grow, it starts anew.
 ghost use Rattle.std.specs.Prelude.{◌≡◌, ℕ, ◌<◌, length, Some, IsTrue};
-ghost use Rattle.ac_noncontiguous.specs.Tree.{IsSiblingWalk, IsChildBelow};
-ghost use Rattle.ac_noncontiguous.specs.Edges.{IsChildFor};
-ghost use Rattle.ac_noncontiguous.specs.Kept.{KeepsSettings};
+ghost use Rattle.ac_noncontiguous.specs.Trie.Tree.{IsSiblingWalk, IsChildBelow};
+ghost use Rattle.ac_noncontiguous.specs.Compiler.Edges.{IsChildFor};
+ghost use Rattle.ac_noncontiguous.specs.Trie.Kept.{KeepsSettings};
 
 use super::{ChildSlot, Trie};
 use ac_input::primitives::StateID;

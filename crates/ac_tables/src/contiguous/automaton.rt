@@ -12,9 +12,9 @@ ghost use Rattle.ac_automaton.specs.Automaton.{IsReached};
 ghost use Rattle.ac_automaton.specs.Named.{nowhere};
 ghost use Rattle.ac_automaton.specs.ReadOn.{ReadsTo};
 ghost use Rattle.ac_input.specs.Input.{is_anchored};
-ghost use Rattle.ac_tables.specs.ContiguousReads.{contiguous_built_as, IsContiguousRead, IsMet, LooksUp};
-ghost use Rattle.ac_tables.specs.WordReads.{ByteLeadsTo, IsStateAt};
-ghost use Rattle.ac_tables.specs.Words.{StateParts};
+ghost use Rattle.ac_tables.specs.Contiguous.ContiguousReads.{contiguous_built_as, IsContiguousRead, IsMet, LooksUp};
+ghost use Rattle.ac_tables.specs.Contiguous.WordReads.{ByteLeadsTo, IsStateAt};
+ghost use Rattle.ac_tables.specs.Contiguous.Words.{StateParts};
 
 use crate::contiguous::NFA;
 use crate::contiguous::layout::NOWHERE;
@@ -107,7 +107,7 @@ impl NFA {
 }
 
 impl LookUp for NFA {
-    ghost use Rattle.ac_tables.specs.ContiguousReads.{contiguous_built_as, IsContiguousRead, contiguous_matches_at};
+    ghost use Rattle.ac_tables.specs.Contiguous.ContiguousReads.{contiguous_built_as, IsContiguousRead, contiguous_matches_at};
 
     ghost built = { contiguous_built_as };
 
@@ -146,7 +146,7 @@ impl LookUp for NFA {
 }
 
 impl Automaton for NFA {
-    ghost use Rattle.ac_tables.specs.ContiguousReads.{contiguous_built_as, IsContiguousRead, contiguous_matches_at, is_contiguous_start_at, is_contiguous_special_at};
+    ghost use Rattle.ac_tables.specs.Contiguous.ContiguousReads.{contiguous_built_as, IsContiguousRead, contiguous_matches_at, is_contiguous_start_at, is_contiguous_special_at};
 
     ghost built = { contiguous_built_as };
 

@@ -3,12 +3,12 @@
 //! It is made from a noncontiguous automaton, state by state: first all places are found, then the words are written with their
 //! final numbers. It takes time and memory in proportion to the transitions and lists of that automaton, and `alphabet_len` words
 //! more for each dense state. Rows beside them take what the rows of a DFA do, and are made only where that is little.
-ghost use Rattle.std.specs.Prelude.{◌≡◌, IfOk, IfErr};
+ghost use Rattle.std.specs.Prelude.{◌≡◌, IfOk, IfErr, Bool};
 ghost use Rattle.ac_input.specs.Pairing.{IsFolded};
-ghost use Rattle.ac_noncontiguous.specs.Reads.{dictionary};
-ghost use Rattle.ac_tables.specs.ContiguousBuild.{AreSomeClassesFor, IsRefusedFor};
-ghost use Rattle.ac_tables.specs.ContiguousBuilder.{AreContiguousFirst, IsLaidOf, IsMadeFrom, IsRefusedFrom, IsContiguousBuilt, IsContiguousBuildRefused, IsContiguousBuiltAtFirst, IsContiguousRefusedAtFirst, noncontiguous_of, words_in};
-ghost use Rattle.ac_tables.specs.TableClasses.{AreServing};
+ghost use Rattle.ac_noncontiguous.specs.Nfa.Reads.{dictionary};
+ghost use Rattle.ac_tables.specs.Contiguous.ContiguousBuild.{IsRefusedFor};
+ghost use Rattle.ac_tables.specs.Contiguous.ContiguousBuilder.{AreContiguousDefaults, IsLaidOf, IsMadeFrom, IsRefusedFrom, IsContiguousBuilt, IsContiguousBuildRefused, IsContiguousBuiltByDefault, IsContiguousRefusedByDefault, noncontiguous_of};
+ghost use Rattle.ac_tables.specs.TableClasses.{AreServing, AreClassesFor};
 
 use crate::contiguous::NFA;
 use crate::contiguous::filled::rows_of;
@@ -48,7 +48,7 @@ fn lay(
     row_memory: usize,
     classes: ByteClasses,
 ) -> Result<Laid, BuildError>
-    requires chosen { AreSomeClassesFor nfa.now classes }
+    requires chosen { (classed : Bool) × AreClassesFor nfa.now classed classes }
     requires serve { AreServing (dictionary nfa.now) classes }
     ensures made { IfOk result (IsLaidOf nfa.now dense_depth classes) }
     ensures refused { IfErr result (IsRefusedFor nfa.now dense_depth classes) }
@@ -96,7 +96,7 @@ pub struct Builder {
 }
 
 impl Model for Builder {
-    ghost use Rattle.ac_tables.specs.ContiguousBuilder.{ContiguousSettings};
+    ghost use Rattle.ac_tables.specs.Contiguous.ContiguousBuilder.{ContiguousSettings};
 
     ghost Value = { ContiguousSettings };
 
@@ -120,9 +120,9 @@ impl Model for Builder {
 }
 
 impl Default for Builder {
-    ghost use Rattle.ac_tables.specs.ContiguousBuilder.{AreContiguousFirst};
+    ghost use Rattle.ac_tables.specs.Contiguous.ContiguousBuilder.{AreContiguousDefaults};
 
-    ghost is_default = { AreContiguousFirst };
+    ghost is_default = { AreContiguousDefaults };
 
     fn default() -> Builder {
         Builder::new()
@@ -132,9 +132,8 @@ impl Default for Builder {
 impl Builder {
     /// Standard matches, no byte paired, a prefilter wanted, dense states of less than two bytes, and bytes put into classes. It
     /// takes no memory.
-    /// A caller: `uses::callers::tables::contiguous_plain`.
     pub fn new() -> Builder
-        ensures { AreContiguousFirst result }
+        ensures { AreContiguousDefaults result }
     {
         Builder {
             kind: MatchKind::Standard,
@@ -147,7 +146,6 @@ impl Builder {
     }
 
     /// Sets which of several overlapping occurrences is the match.
-    /// A caller: `uses::callers::tables::contiguous_plain`.
     pub fn match_kind(&mut self, kind: MatchKind) -> &mut Builder
         ensures same { result.ghost_name ≡ self.entry.ghost_name }
         ensures value { result.now ≡ record self.old { kind = kind } }
@@ -158,7 +156,6 @@ impl Builder {
 
     /// Sets whether ASCII letters count as the same in their two cases. It sets the whole pairing: of this call and
     /// [`Builder::pairing`] the last one decides.
-    /// A caller: `uses::callers::tables::contiguous_folded`.
     pub fn ascii_case_insensitive(&mut self, yes: bool) -> &mut Builder
         ensures same { result.ghost_name ≡ self.entry.ghost_name }
         ensures rest { result.now ≡ record self.old { pairing = result.now.pairing } }
@@ -173,7 +170,6 @@ impl Builder {
     }
 
     /// Sets which bytes stand for one another. At first none does.
-    /// A caller: `uses::callers::tables::contiguous_plain`.
     pub fn pairing(&mut self, pairing: Pairing) -> &mut Builder
         ensures same { result.ghost_name ≡ self.entry.ghost_name }
         ensures value { result.now ≡ record self.old { pairing = pairing } }
@@ -183,7 +179,6 @@ impl Builder {
     }
 
     /// Sets whether searches have a prefilter, if one serves. At first they have. It changes no result.
-    /// A caller: `uses::callers::tables::contiguous_plain`.
     pub fn prefilter(&mut self, yes: bool) -> &mut Builder
         ensures same { result.ghost_name ≡ self.entry.ghost_name }
         ensures value { result.now ≡ record self.old { prefilter = yes } }
@@ -197,7 +192,6 @@ impl Builder {
     /// It changes no result. A dense state has an entry of four bytes for each class of bytes, so that a look-up there takes two
     /// loads. Any depth is accepted. A great one makes nearly all states dense: then the automaton is about as large as a DFA,
     /// and its build may fail as that of a DFA does.
-    /// A caller: `uses::callers::tables::contiguous_form`.
     pub fn dense_depth(&mut self, depth: usize) -> &mut Builder
         ensures same { result.ghost_name ≡ self.entry.ghost_name }
         ensures value { result.now ≡ record self.old { dense_depth = depth } }
@@ -208,7 +202,6 @@ impl Builder {
 
     /// Sets whether bytes that no state distinguishes are put into one class. At first they are. It changes no result. Without
     /// classes a dense state has 256 entries, 1 KiB.
-    /// A caller: `uses::callers::tables::contiguous_form`.
     pub fn byte_classes(&mut self, yes: bool) -> &mut Builder
         ensures same { result.ghost_name ≡ self.entry.ghost_name }
         ensures value { result.now ≡ record self.old { byte_classes = yes } }
@@ -222,7 +215,6 @@ impl Builder {
     /// It changes no result. With rows an unanchored search looks at one state for a byte, as a DFA does, and is about as fast. There
     /// are rows if they take no more than this: four bytes for each state, and for each state and each class of bytes, rounded up to
     /// a power of two of classes. They are made for all states or for none.
-    /// A caller: `uses::callers::tables::contiguous_form`.
     pub fn row_memory(&mut self, bytes: usize) -> &mut Builder
         ensures same { result.ghost_name ≡ self.entry.ghost_name }
         ensures value { result.now ≡ record self.old { row_memory = bytes } }
@@ -245,7 +237,6 @@ impl Builder {
     /// Time and memory are in proportion to the words. A state takes two words of four bytes, and one for each pattern that
     /// matches. A sparse state takes five more bytes for each transition, rounded up to whole words; a dense one a word for each
     /// class. Before the words, the places of all states are laid out, four bytes each, and freed at the end.
-    /// A caller: `uses::callers::tables::contiguous_form`.
     pub fn build_from_noncontiguous(&self, alloc: Global, nfa: &nfa::NFA) -> Result<NFA, BuildError>
         ensures made { IfOk result (IsMadeFrom self.now nfa.now) }
         ensures refused { IfErr result (IsRefusedFrom self.now nfa.now) }
@@ -288,7 +279,6 @@ impl Builder {
     ///
     /// It makes a noncontiguous automaton without rows first, and frees it at the end: until then both take memory. So a build
     /// costs what [that one](ac_noncontiguous::builder) costs and what [`Builder::build_from_noncontiguous`] does.
-    /// A caller: `uses::callers::tables::contiguous_plain`.
     pub fn build(&self, alloc: Global, patterns: &[&[u8]]) -> Result<NFA, BuildError>
         ensures built { IfOk result (IsContiguousBuilt self.now patterns.now) }
         ensures refused { IfErr result (IsContiguousBuildRefused self.now patterns.now) }
@@ -302,26 +292,23 @@ impl NFA {
     /// Builds the automaton of the patterns by the settings that a builder has at first: standard matches, no byte paired.
     ///
     /// Its errors and its cost are those of [`Builder::build`].
-    /// A caller: `uses::callers::tables::contiguous_of_bytes`.
     pub fn new(alloc: Global, patterns: &[&[u8]]) -> Result<NFA, BuildError>
-        ensures built { IfOk result (IsContiguousBuiltAtFirst patterns.now) }
-        ensures refused { IfErr result (IsContiguousRefusedAtFirst patterns.now) }
+        ensures built { IfOk result (IsContiguousBuiltByDefault patterns.now) }
+        ensures refused { IfErr result (IsContiguousRefusedByDefault patterns.now) }
     {
         Builder::new().build(alloc, patterns)
     }
 
     /// A builder with the settings that it has at first. It takes no memory.
-    /// A caller: `uses::callers::tables::contiguous_folded`.
     pub fn builder() -> Builder
-        ensures { AreContiguousFirst result }
+        ensures { AreContiguousDefaults result }
     {
         Builder::new()
     }
 
     /// The words, one state after another. See [the module](crate::contiguous) for how they are laid out.
-    /// A caller: `uses::callers::tables::contiguous_len`.
     pub fn words(&self) -> &[u32]
-        ensures { result.now ≡ words_in self.now }
+        ensures { result.now ≡ self.now.table.words.items }
     {
         &self.table.words
     }

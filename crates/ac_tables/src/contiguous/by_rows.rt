@@ -1,6 +1,6 @@
 //! Reading on by rows, where an automaton has some: one look for a byte.
 ghost use Rattle.std.specs.Prelude.{◌≡◌, ◌≤◌, Some, IsTrue, length};
-ghost use Rattle.ac_tables.specs.DfaLookups.{ArePlain};
+ghost use Rattle.ac_tables.specs.Dfa.DfaLookups.{ArePlain};
 
 use crate::contiguous::NFA;
 use crate::contiguous::rows::Rows;
@@ -25,7 +25,9 @@ struct ByRows<'a> {
 }
 
 impl<'a> LookUp for ByRows<'a> {
-    ghost use Rattle.ac_tables.specs.ByRows.{by_rows_built_as, IsRowRead, row_matches_at};
+    ghost use Rattle.ac_tables.specs.Contiguous.ByRows.{by_rows_built_as, IsRowRead, row_matches_at};
+    ghost use Rattle.ac_tables.specs.Contiguous.ContiguousReads.{contiguous_matches_at};
+    ghost use Rattle.ac_tables.specs.Contiguous.ContiguousRows.{place_in_row};
 
     ghost built = { by_rows_built_as };
 
@@ -57,9 +59,9 @@ impl NFA {
     ghost use Rattle.ac_automaton.specs.Automaton.{IsReached};
     ghost use Rattle.ac_automaton.specs.ReadOn.{ReadsTo};
     ghost use Rattle.ac_input.specs.declared.search.Anchored.TheVariants.{No};
-    ghost use Rattle.ac_tables.specs.ByRows.{ReadsRows};
-    ghost use Rattle.ac_tables.specs.ContiguousReads.{contiguous_built_as, contiguous_matches_at, IsContiguousRead};
-    ghost use Rattle.ac_tables.specs.ContiguousRows.{IsRowIn, place_in_row};
+    ghost use Rattle.ac_tables.specs.Contiguous.ByRows.{ReadsRows};
+    ghost use Rattle.ac_tables.specs.Contiguous.ContiguousReads.{contiguous_built_as, contiguous_matches_at, IsContiguousRead};
+    ghost use Rattle.ac_tables.specs.Contiguous.ContiguousRows.{IsRowIn, place_in_row};
 
     /// Reads on to the first state between two numbers, these included, or to the last byte, by the rows of the automaton.
     #[inline(always)]

@@ -1,8 +1,8 @@
 //! Copies of a contiguous automaton.
-ghost use Rattle.std.specs.Prelude.{◌≡◌, IfOk};
-ghost use Rattle.ac_tables.specs.ContiguousBuild.{IsCopiedTable};
-ghost use Rattle.ac_tables.specs.ContiguousBuilder.{IsContiguousCopy};
-ghost use Rattle.ac_tables.specs.ContiguousRows.{AreSameIfAny};
+ghost use Rattle.std.specs.Prelude.{IfOk};
+ghost use Rattle.ac_tables.specs.Contiguous.ContiguousBuild.{IsCopiedTable};
+ghost use Rattle.ac_tables.specs.Contiguous.ContiguousBuilder.{IsContiguousCopy};
+ghost use Rattle.ac_tables.specs.Contiguous.ContiguousRows.{AreSameIfAny};
 
 use crate::contiguous::NFA;
 use crate::contiguous::rows::Rows;
@@ -36,7 +36,6 @@ fn clone_rows(alloc: Global, rows: &Option<Rows>) -> Result<Option<Rows>, AllocE
 
 impl NFA {
     /// A copy of the automaton, in memory from `alloc`.
-    /// A caller: `uses::callers::tables::contiguous_copy`.
     pub fn clone(&self, alloc: Global) -> Result<NFA, AllocError>
         ensures { IfOk result (IsContiguousCopy self.now) }
     {

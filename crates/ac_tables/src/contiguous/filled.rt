@@ -1,9 +1,10 @@
 //! How the rows of a contiguous automaton are made, if they are small enough.
-ghost use Rattle.std.specs.Prelude.{◌≡◌, ◌+◌, ◌*◌, ◌≤◌, IsTrue, length, IfOk, IfSome};
+ghost use Rattle.std.specs.Prelude.{◌≡◌, ◌+◌, ◌*◌, ◌≤◌, IsTrue, length, IfOk, IfSome, Bool};
 ghost use Rattle.ac_input.specs.Number.{greatest_number};
-ghost use Rattle.ac_noncontiguous.specs.ReadCalls.{state_len};
-ghost use Rattle.ac_tables.specs.ContiguousBuild.{AreSomeClassesFor, HasStride, AreRowsFrom};
-ghost use Rattle.ac_tables.specs.Cut.{Rise};
+ghost use Rattle.ac_noncontiguous.specs.Nfa.ReadCalls.{state_len};
+ghost use Rattle.ac_tables.specs.Contiguous.ContiguousBuild.{HasStride, AreRowsFrom};
+ghost use Rattle.ac_tables.specs.TableClasses.{AreClassesFor};
+ghost use Rattle.ac_tables.specs.Contiguous.Cut.{Rise};
 
 use crate::contiguous::rows::{Rows, index_len, index_of};
 use crate::dfa::fill::Filler;
@@ -32,7 +33,7 @@ fn fill(
     places: Vec<StateID>,
     stride: usize,
 ) -> Result<Rows, AllocError>
-    requires chosen { AreSomeClassesFor nfa.now classes.now }
+    requires chosen { (classed : Bool) × AreClassesFor nfa.now classed classes.now }
     requires places { length places.items ≡ state_len nfa.now }
     requires rise { Rise places.items }
     requires stride { HasStride classes.now stride }
@@ -70,7 +71,7 @@ pub(super) fn rows_of(
     places: Vec<StateID>,
     memory: usize,
 ) -> Result<Option<Rows>, AllocError>
-    requires chosen { AreSomeClassesFor nfa.now classes.now }
+    requires chosen { (classed : Bool) × AreClassesFor nfa.now classed classes.now }
     requires places { length places.items ≡ state_len nfa.now }
     requires rise { Rise places.items }
     ensures { IfOk result (λ rows. IfSome rows (AreRowsFrom nfa.now classes.now places.items)) }

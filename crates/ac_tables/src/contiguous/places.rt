@@ -2,12 +2,12 @@
 //!
 //! All places are known before the first word is written, so each state is written with its final numbers, and a build that would
 //! need too great a number fails before memory for the words is taken.
-ghost use Rattle.std.specs.Prelude.{◌≡◌, ◌≢◌, ℕ, ◌+◌, ◌<◌, ◌≤◌, ◌==◌, ◌++◌, ◌∷◌, [], if◌then◌else◌, length, IfOk, IfErr};
+ghost use Rattle.std.specs.Prelude.{◌≡◌, ◌+◌, ◌<◌, ◌≤◌, ◌==◌, ◌++◌, ◌∷◌, [], length, IfOk, IfErr};
 ghost use Rattle.ac_input.specs.Number.{greatest_number};
-ghost use Rattle.ac_noncontiguous.specs.ReadCalls.{state_len, edges_in};
-ghost use Rattle.ac_tables.specs.ContiguousTable.{len_at};
-ghost use Rattle.ac_tables.specs.Words.{word_count};
-ghost use Rattle.ac_tables.specs.ContiguousBuild.{ArePlacesIn, IsPlaceAfter, IsPlaceTooGreat, IsRefusedFor};
+ghost use Rattle.ac_noncontiguous.specs.Nfa.ReadCalls.{state_len, edges_in};
+ghost use Rattle.ac_tables.specs.Contiguous.ContiguousTable.{len_at};
+ghost use Rattle.ac_tables.specs.Contiguous.Words.{word_count};
+ghost use Rattle.ac_tables.specs.Contiguous.ContiguousBuild.{ArePlacesIn, IsPlaceAfter, IsPlaceTooGreat, IsRefusedFor};
 
 use crate::contiguous::layout::{HEAD, MOST_SPARSE};
 use ac_input::alphabet::ByteClasses;

@@ -1,8 +1,12 @@
 //! Look-ups in the words of a contiguous automaton.
 ghost use Rattle.std.specs.Prelude.{◌≡◌, ◌<◌, ◌≤◌, ℕ, ◌+◌, length, take, drop, slice_get, Some};
 ghost use Rattle.ac_input.specs.Number.{greatest_number};
-ghost use Rattle.ac_automaton.specs.Starters.{SkipsIdle};
-ghost use Rattle.ac_tables.specs.WordReads.{unpacked, IsFirstPlace, HoldsState, IsSparseAt, ClassLeadsTo, ByteLeadsTo, IsIdleAt, HasWordList, list_place, listed_at, transitions_len};
+ghost use Rattle.ac_automaton.specs.Starters.{SkipsBelow};
+ghost use Rattle.ac_tables.specs.Contiguous.WordReads.{IsFirstPlace, IsSparseAt, ByteLeadsTo, IsIdleAt, HasWordList, list_place, listed_at, transitions_len, IsStateAt};
+ghost use Rattle.std.specs.Int.{w32};
+ghost use Rattle.std.specs.List.{flat_map};
+ghost use Rattle.std.specs.Int.{to_le_bytes};
+ghost use Rattle.ac_tables.specs.Contiguous.Words.{StateParts, next_by};
 
 use crate::contiguous::layout::{DENSE, HEAD, KIND, NOWHERE, ONE, ONE_PATTERN};
 use crate::contiguous::table::Table;
@@ -22,7 +26,7 @@ fn part(words: &[u32], from: usize, len: usize) -> &[u32]
 /// The first place of the class among some that are packed, four in a word.
 #[inline]
 fn place_of(packed: &[u32], class: u8) -> Option<usize>
-    ensures { IsFirstPlace (unpacked packed.now) class result }
+    ensures { IsFirstPlace (flat_map (to_le_bytes w32) packed.now) class result }
 {
     for (at, word) in packed.iter().enumerate() {
         let [a, b, c, d] = word.to_le_bytes();
@@ -46,9 +50,9 @@ impl Table {
     /// Where the class leads from a state that keeps so many transitions, with their classes packed.
     #[inline]
     fn step_sparse(&self, sid: StateID, len: usize, class: u8) -> u32
-        requires place { HoldsState self.now sid }
+        requires place { ∥ ((s : StateParts) × IsStateAt self.now sid s) ∥₁ }
         requires sparse { IsSparseAt self.now sid len }
-        ensures { ClassLeadsTo self.now sid class result }
+        ensures { (s : StateParts) → IsStateAt self.now sid s → result ≡ next_by s.edges class }
     {
         let first = sid.as_usize() + HEAD;
         let packed = (len + 3) / 4;
@@ -61,7 +65,7 @@ impl Table {
     /// The word that says where the byte leads from the state by its transitions; 1 where none has it.
     #[inline]
     fn next_word(&self, sid: StateID, byte: u8) -> u32
-        requires { HoldsState self.now sid }
+        requires { ∥ ((s : StateParts) × IsStateAt self.now sid s) ∥₁ }
         ensures { ByteLeadsTo self.now sid byte result }
     {
         let at = sid.as_usize();
@@ -83,7 +87,7 @@ impl Table {
     /// Where the byte leads from the state by its transitions; 1 where none has it.
     #[inline]
     pub(super) fn step(&self, sid: StateID, byte: u8) -> StateID
-        requires { HoldsState self.now sid }
+        requires { ∥ ((s : StateParts) × IsStateAt self.now sid s) ∥₁ }
         ensures { ByteLeadsTo self.now sid byte result }
     {
         StateID::must(self.next_word(sid, byte) as usize)
@@ -93,8 +97,8 @@ impl Table {
 impl Table {
     /// The bytes that lead from the unanchored start to another state. It makes one look-up for each byte.
     pub(super) fn starters(&self) -> Starters
-        requires { HoldsState self.now self.now.start }
-        ensures { SkipsIdle (IsIdleAt self.now) result }
+        requires { ∥ ((s : StateParts) × IsStateAt self.now self.now.start s) ∥₁ }
+        ensures { SkipsBelow (IsIdleAt self.now) 256 result }
     {
         if self.start <= self.max_match {
             return Starters::Many;

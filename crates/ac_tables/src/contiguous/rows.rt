@@ -8,7 +8,7 @@
 //! Where the row of a place or the range isn't found so, the search goes on by the words.
 ghost use Rattle.std.specs.Prelude.{◌≡◌, ◌+◌, ◌*◌, ◌^◌, ◌≤◌, length};
 ghost use Rattle.ac_input.specs.Number.{greatest_number};
-ghost use Rattle.ac_tables.specs.Cut.{Rise};
+ghost use Rattle.ac_tables.specs.Contiguous.Cut.{Rise};
 
 use ac_automaton::ahead::Note;
 use ac_automaton::look::Between;
@@ -69,8 +69,8 @@ pub(super) fn index_of(alloc: Global, places: &[StateID]) -> Result<Vec<StateID>
 impl Rows {
     ghost use Rattle.std.specs.Prelude.{◌<◌, ◌⊎◌, IsTrue, IfOk, IfSome};
     ghost use Rattle.ac_automaton.specs.Ahead.{IsBlank};
-    ghost use Rattle.ac_tables.specs.Cut.{AreBelow, AreNotBelow, IsCountBelow};
-    ghost use Rattle.ac_tables.specs.ContiguousRows.{row_len, place_in_row, IsRowIn, IsLastUpTo, IsNotePlaced, AreRowsBetween, AreSameRows};
+    ghost use Rattle.ac_tables.specs.Contiguous.Cut.{AreBelow, AreNotBelow, IsCountBelow};
+    ghost use Rattle.ac_tables.specs.Contiguous.ContiguousRows.{row_len, place_in_row, IsRowIn, IsLastUpTo, IsNotePlaced, AreRowsBetween, AreSameRows};
 
     /// How many entries a row has.
     #[inline]

@@ -1,7 +1,7 @@
 //! The words of all states, one state after another.
 ghost use Rattle.std.specs.Prelude.{◌≡◌, ◌<◌, length, IfOk};
-ghost use Rattle.ac_noncontiguous.specs.ReadCalls.{state_len, EdgesLeadIn};
-ghost use Rattle.ac_tables.specs.ContiguousBuild.{ArePlacesIn, AreReadBy, IsWritten, AreAllWritten};
+ghost use Rattle.ac_noncontiguous.specs.Nfa.ReadCalls.{state_len, edges_in, AreEdges};
+ghost use Rattle.ac_tables.specs.Contiguous.ContiguousBuild.{ArePlacesIn, AreReadBy, IsWritten, AreAllWritten};
 
 use crate::contiguous::words::{Parts, push_state};
 use ac_input::alphabet::ByteClasses;
@@ -19,7 +19,7 @@ fn read_edges(
 ) -> Result<(), AllocError>
     requires within { sid < state_len nfa.now }
     requires places { length places.now ≡ state_len nfa.now }
-    ensures lead { EdgesLeadIn nfa.now sid }
+    ensures lead { AreEdges nfa.now sid (edges_in nfa.now sid) }
     ensures read { IfOk result
         (λ _. AreReadBy nfa.now classes.now places.now sid edges.new.items) }
 {

@@ -2,10 +2,10 @@
 //!
 //! Each state is written at once, with its final numbers: first its kind and its failure, then its transitions, then its patterns.
 //! Nothing is changed afterwards.
-ghost use Rattle.std.specs.Prelude.{◌≡◌, ℕ, ◌+◌, ◌<◌, ◌≤◌, ◌++◌, ◌∷◌, [], length, IfOk};
+ghost use Rattle.std.specs.Prelude.{◌≡◌, ◌+◌, ◌<◌, ◌≤◌, ◌++◌, ◌∷◌, [], length, IfOk};
 ghost use Rattle.std.specs.List.{All};
 ghost use Rattle.ac_input.specs.Number.{greatest_number};
-ghost use Rattle.ac_tables.specs.Words.{AppendsRow, packed, near, classes_of, nexts_of, match_words, words_of, leading_words, CanBeWritten};
+ghost use Rattle.ac_tables.specs.Contiguous.Words.{AppendsRow, packed, near, classes_of, match_words, words_of, leading_words, CanBeWritten, nexts_of};
 
 use crate::contiguous::layout::{DENSE, KIND, MOST_SPARSE, NOWHERE, ONE, ONE_PATTERN};
 use ac_input::primitives::{PatternID, StateID};
@@ -26,7 +26,7 @@ pub(super) struct Parts<'a> {
 }
 
 impl<'a> Model for Parts<'a> {
-    ghost use Rattle.ac_tables.specs.Words.{StateParts};
+    ghost use Rattle.ac_tables.specs.Contiguous.Words.{StateParts};
 
     ghost Value = { StateParts };
 
@@ -70,7 +70,7 @@ fn push_row(
 
 /// Four classes in a word, the first one in its lowest bits.
 fn word_of(a: u8, b: u8, c: u8, d: u8) -> u32
-    ensures { result ≡ Rattle.ac_tables.specs.Words.word_of a b c d }
+    ensures { result ≡ Rattle.ac_tables.specs.Contiguous.Words.word_of a b c d }
 {
     a as u32 + 256 * (b as u32) + 65536 * (c as u32) + 16777216 * (d as u32)
 }

@@ -7,8 +7,8 @@
 //! of a stream reads four parts of its bytes side by side.
 ghost use Rattle.std.specs.Prelude.{[], ◌∷◌, IsTrue};
 ghost use Rattle.ac_automaton.specs.Automaton.{IsReached, Leads};
-ghost use Rattle.ac_tables.specs.DfaLookups.{ArePlain};
-ghost use Rattle.ac_tables.specs.DfaReads.{dfa_built_as, IsDfaRead, CostsReading};
+ghost use Rattle.ac_tables.specs.Dfa.DfaLookups.{ArePlain};
+ghost use Rattle.ac_tables.specs.Dfa.DfaReads.{dfa_built_as, IsDfaRead, CostsReading};
 
 use crate::dfa::DFA;
 use crate::rows::is_plain;
@@ -45,7 +45,7 @@ impl DFA {
 }
 
 impl LookUp for DFA {
-    ghost use Rattle.ac_tables.specs.DfaReads.{dfa_built_as, IsDfaRead, dfa_matches_at};
+    ghost use Rattle.ac_tables.specs.Dfa.DfaReads.{dfa_built_as, IsDfaRead, dfa_matches_at};
 
     ghost built = { dfa_built_as };
 
@@ -92,7 +92,7 @@ impl LookUp for DFA {
 }
 
 impl Automaton for DFA {
-    ghost use Rattle.ac_tables.specs.DfaReads.{dfa_built_as, dfa_supported_by, IsDfaRead, dfa_matches_at, is_dfa_start_at, is_dfa_special_at};
+    ghost use Rattle.ac_tables.specs.Dfa.DfaReads.{dfa_built_as, dfa_supported_by, IsDfaRead, dfa_matches_at, is_dfa_start_at, is_dfa_special_at};
 
     ghost built = { dfa_built_as };
 

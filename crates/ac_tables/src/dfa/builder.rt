@@ -3,10 +3,11 @@
 //! A DFA is made from a noncontiguous automaton, state by state. Besides the settings of that one, a builder sets for which
 //! searches there is a start, and whether bytes that lead alike share an entry of a row. It takes time and memory in proportion to
 //! the table: the number of states times the stride, twice that with both starts.
-ghost use Rattle.std.specs.Prelude.{◌≡◌, Some, IfOk, IfErr, IfSome};
+ghost use Rattle.std.specs.Prelude.{◌≡◌, IfOk, IfErr};
 ghost use Rattle.ac_input.specs.Pairing.{IsFolded};
-ghost use Rattle.ac_tables.specs.DfaBuild.{AreDfaFirst, IsDfaOf, IsDfaRefused, IsDfaBuilt, IsDfaBuildRefused, IsDfaBuiltAtFirst, IsDfaRefusedAtFirst, parts_by};
-ghost use Rattle.ac_tables.specs.DfaMade.{IsTableFor, IsTableRefused};
+ghost use Rattle.ac_tables.specs.Dfa.DfaBuild.{AreDfaDefaults, IsDfaOf, IsDfaBuilt, IsDfaBuildRefused, IsDfaBuiltByDefault, IsDfaRefusedByDefault, parts_by, IsTooLargeOr};
+ghost use Rattle.ac_noncontiguous.specs.Nfa.Reads.{dictionary};
+ghost use Rattle.ac_tables.specs.Dfa.DfaMade.{IsTableFor, IsTableRefused};
 
 use crate::dfa::DFA;
 use crate::dfa::fill::Filler;
@@ -41,7 +42,7 @@ pub struct Builder {
 }
 
 impl Model for Builder {
-    ghost use Rattle.ac_tables.specs.DfaBuild.{DfaSettings};
+    ghost use Rattle.ac_tables.specs.Dfa.DfaBuild.{DfaSettings};
 
     ghost Value = { DfaSettings };
 
@@ -63,9 +64,9 @@ impl Model for Builder {
 }
 
 impl Default for Builder {
-    ghost use Rattle.ac_tables.specs.DfaBuild.{AreDfaFirst};
+    ghost use Rattle.ac_tables.specs.Dfa.DfaBuild.{AreDfaDefaults};
 
-    ghost is_default = { AreDfaFirst };
+    ghost is_default = { AreDfaDefaults };
 
     fn default() -> Builder {
         Builder::new()
@@ -111,9 +112,8 @@ impl Table {
 impl Builder {
     /// Standard matches, no byte paired, a prefilter wanted, a start for unanchored searches alone, and bytes in classes. It takes
     /// no memory.
-    /// A caller: `uses::callers::tables::dfa_plain`.
     pub fn new() -> Builder
-        ensures { AreDfaFirst result }
+        ensures { AreDfaDefaults result }
     {
         Builder {
             kind: MatchKind::Standard,
@@ -125,7 +125,6 @@ impl Builder {
     }
 
     /// Sets which of several overlapping occurrences is the match.
-    /// A caller: `uses::callers::tables::dfa_plain`.
     pub fn match_kind(&mut self, kind: MatchKind) -> &mut Builder
         ensures same { result.ghost_name ≡ self.entry.ghost_name }
         ensures value { result.now ≡ record self.old { kind = kind } }
@@ -136,7 +135,6 @@ impl Builder {
 
     /// Sets whether ASCII letters count as the same in their two cases. It sets the whole pairing: of this call and
     /// [`Builder::pairing`] the last one decides.
-    /// A caller: `uses::callers::tables::dfa_folded`.
     pub fn ascii_case_insensitive(&mut self, yes: bool) -> &mut Builder
         ensures same { result.ghost_name ≡ self.entry.ghost_name }
         ensures rest { result.now ≡ record self.old { pairing = result.now.pairing } }
@@ -151,7 +149,6 @@ impl Builder {
     }
 
     /// Sets which bytes stand for one another. At first none does.
-    /// A caller: `uses::callers::tables::dfa_plain`.
     pub fn pairing(&mut self, pairing: Pairing) -> &mut Builder
         ensures same { result.ghost_name ≡ self.entry.ghost_name }
         ensures value { result.now ≡ record self.old { pairing = pairing } }
@@ -161,7 +158,6 @@ impl Builder {
     }
 
     /// Sets whether searches have a prefilter, if one serves. At first they have. It changes no result.
-    /// A caller: `uses::callers::tables::dfa_plain`.
     pub fn prefilter(&mut self, yes: bool) -> &mut Builder
         ensures same { result.ghost_name ≡ self.entry.ghost_name }
         ensures value { result.now ≡ record self.old { prefilter = yes } }
@@ -172,7 +168,6 @@ impl Builder {
 
     /// Sets for which searches there is a start. At first it is unanchored ones alone. A search of the other anchoring is refused.
     /// With both the table is about twice as large.
-    /// A caller: `uses::callers::tables::dfa_plain`.
     pub fn start_kind(&mut self, kind: StartKind) -> &mut Builder
         ensures same { result.ghost_name ≡ self.entry.ghost_name }
         ensures value { result.now ≡ record self.old { start_kind = kind } }
@@ -183,7 +178,6 @@ impl Builder {
 
     /// Sets whether bytes that lead alike share an entry of each row. At first they do. It changes no result. Without classes a row
     /// has 256 entries, 1 KiB, and a look-up doesn't load the byte's class.
-    /// A caller: `uses::callers::tables::dfa_form`.
     pub fn byte_classes(&mut self, yes: bool) -> &mut Builder
         ensures same { result.ghost_name ≡ self.entry.ghost_name }
         ensures value { result.now ≡ record self.old { byte_classes = yes } }
@@ -207,10 +201,9 @@ impl Builder {
     /// a state for each byte of the patterns that doesn't stand in a beginning which they share. So a hundred patterns of a
     /// thousand bytes may take 100,000 rows, some 100 MB. The limit alone allows a table of 8 GiB: bound the bytes of patterns that
     /// come from a stranger, or take a contiguous automaton.
-    /// A caller: `uses::callers::tables::dfa_form`.
     pub fn build_from_noncontiguous(&self, alloc: Global, nfa: &NFA) -> Result<DFA, BuildError>
         ensures built { IfOk result (IsDfaOf self.now nfa.now) }
-        ensures refused { IfErr result (IsDfaRefused self.now nfa.now) }
+        ensures refused { IfErr result (IsTooLargeOr self.now (dictionary nfa.now) (λ _. ⊥)) }
     {
         let table = Table::of(alloc, nfa, self.start_kind, self.byte_classes)?;
         let lens = nfa.pattern_lens().clone(alloc)?;
@@ -253,7 +246,6 @@ impl Builder {
     /// It makes a noncontiguous automaton without rows first, and frees it at the end: until then both take memory. So a build
     /// costs what [that one](ac_noncontiguous::builder) costs and what [`Builder::build_from_noncontiguous`] does, which is far more
     /// where the patterns are long.
-    /// A caller: `uses::callers::tables::dfa_plain`.
     pub fn build(&self, alloc: Global, patterns: &[&[u8]]) -> Result<DFA, BuildError>
         ensures built { IfOk result (IsDfaBuilt self.now patterns.now) }
         ensures refused { IfErr result (IsDfaBuildRefused self.now patterns.now) }
@@ -268,18 +260,16 @@ impl DFA {
     /// searches.
     ///
     /// Its errors and its cost are those of [`Builder::build`].
-    /// A caller: `uses::callers::tables::dfa_of_bytes`.
     pub fn new(alloc: Global, patterns: &[&[u8]]) -> Result<DFA, BuildError>
-        ensures built { IfOk result (IsDfaBuiltAtFirst patterns.now) }
-        ensures refused { IfErr result (IsDfaRefusedAtFirst patterns.now) }
+        ensures built { IfOk result (IsDfaBuiltByDefault patterns.now) }
+        ensures refused { IfErr result (IsDfaRefusedByDefault patterns.now) }
     {
         Builder::new().build(alloc, patterns)
     }
 
     /// A builder with the settings that it has at first. It takes no memory.
-    /// A caller: `uses::callers::tables::dfa_folded`.
     pub fn builder() -> Builder
-        ensures { AreDfaFirst result }
+        ensures { AreDfaDefaults result }
     {
         Builder::new()
     }

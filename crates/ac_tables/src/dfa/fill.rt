@@ -7,8 +7,8 @@
 //! A failure is less deep than its state, so rows are filled in order of depth. The states come in two runs, before the starts and
 //! after them, in each of which depth never falls; so the runs are merged. It takes time in proportion to the table.
 ghost use Rattle.std.specs.Prelude.{◌≡◌};
-ghost use Rattle.ac_noncontiguous.specs.ReadCalls.{special_in};
-ghost use Rattle.ac_tables.specs.Filling.{IsFit};
+ghost use Rattle.ac_noncontiguous.specs.Nfa.ReadCalls.{special_in};
+ghost use Rattle.ac_tables.specs.Dfa.Filling.{IsFit};
 
 use crate::dfa::numbers::Numbers;
 use ac_input::alphabet::ByteClasses;
@@ -31,9 +31,9 @@ impl<'a> Filler<'a> {
     ghost use Rattle.std.specs.Prelude.{IfOk, ◌⊎◌, ◌<◌, ◌≤◌, length};
     ghost use Rattle.ac_input.specs.declared.search.Anchored.TheVariants.{No, Yes};
     ghost use Rattle.ac_input.specs.Dfa.{Serves, dfa_states};
-    ghost use Rattle.ac_noncontiguous.specs.ReadCalls.{state_len, MayBeMet, EdgesLeadIn};
-    ghost use Rattle.ac_tables.specs.Filling.{number_in, entry_in, IsRowRight, IsUnwritten, AreRowsFilled, IsMerged};
-    ghost use Rattle.ac_tables.specs.Filler.{row_plan_of, HasRows, HasRowRoom, IsWrittenOver, IsOnlyRow, IsFailureFilled, IsRowFree, ArePairMet, AreAllRows};
+    ghost use Rattle.ac_noncontiguous.specs.Nfa.ReadCalls.{state_len, MayBeMet, edges_in, AreEdges};
+    ghost use Rattle.ac_tables.specs.Dfa.Filling.{number_in, entry_in, IsRowRight, IsUnwritten, AreRowsFilled, IsMerged};
+    ghost use Rattle.ac_tables.specs.Dfa.Filler.{row_plan_of, HasRows, HasRowRoom, IsWrittenOver, IsOnlyRow, IsFailureFilled, IsRowFree, ArePairMet, AreAllRows};
 
     /// Where the row of a state begins.
     #[inline]
@@ -60,7 +60,7 @@ impl<'a> Filler<'a> {
     fn write(&self, anchored: Anchored, sid: StateID, trans: &mut [StateID])
         requires kept { sid < state_len self.now.nfa.now }
         requires room { HasRowRoom self.now anchored sid trans.old }
-        ensures lead { EdgesLeadIn self.now.nfa.now sid }
+        ensures lead { AreEdges self.now.nfa.now sid (edges_in self.now.nfa.now sid) }
         ensures written { IsWrittenOver self.now anchored sid trans.old trans.new }
     {
         let row = self.place(anchored, sid);

@@ -1,6 +1,6 @@
 //! The patterns of the states that match: one vector, and where the list of each state ends.
 ghost use Rattle.std.specs.Prelude.{IfOk};
-ghost use Rattle.ac_tables.specs.DfaLists.{IsListAdded, AreListsOf};
+ghost use Rattle.ac_tables.specs.Dfa.DfaLists.{IsListAdded, AreListsOf};
 
 use ac_input::primitives::{PatternID, StateID};
 use ac_noncontiguous::nfa::{FAIL, NFA};

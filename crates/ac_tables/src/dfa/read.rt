@@ -1,7 +1,8 @@
 //! Reading a DFA: its table, entry by entry, and a copy of it.
 ghost use Rattle.std.specs.Prelude.{◌≡◌, IfOk};
-ghost use Rattle.ac_tables.specs.DfaBuild.{transitions_in, stride_in, states_in, start_kind_in, IsDfaCopy};
-ghost use Rattle.ac_tables.specs.DfaCopy.{AreSameLists, IsSameDfaTable};
+ghost use Rattle.ac_tables.specs.Dfa.DfaBuild.{states_in, IsDfaCopy};
+ghost use Rattle.ac_tables.specs.Dfa.DfaTable.{stride_of};
+ghost use Rattle.ac_tables.specs.Dfa.DfaCopy.{AreSameLists, IsSameDfaTable};
 
 use crate::dfa::DFA;
 use crate::dfa::lists::Lists;
@@ -43,23 +44,20 @@ impl Table {
 
 impl DFA {
     /// The next states, a row for each state, and in it an entry for each class of bytes.
-    /// A caller: `uses::callers::tables::rows_by_entries`.
     pub fn transitions(&self) -> &[StateID]
-        ensures { result.now ≡ transitions_in self.now }
+        ensures { result.now ≡ self.now.table.trans.items }
     {
         &self.table.trans
     }
 
     /// How many entries a row has: the least power of two that is enough for the classes.
-    /// A caller: `uses::callers::tables::rows_by_entries`.
     pub fn stride(&self) -> usize
-        ensures { result ≡ stride_in self.now }
+        ensures { result ≡ stride_of self.now.table }
     {
         1 << self.table.stride2
     }
 
     /// How many rows there are.
-    /// A caller: `uses::callers::tables::has_row`.
     pub fn state_len(&self) -> usize
         ensures { result ≡ states_in self.now }
     {
@@ -67,15 +65,13 @@ impl DFA {
     }
 
     /// For which searches there is a start.
-    /// A caller: `uses::callers::tables::serves_anchored`.
     pub fn start_kind(&self) -> StartKind
-        ensures { result ≡ start_kind_in self.now }
+        ensures { result ≡ self.now.table.kind }
     {
         self.table.kind
     }
 
     /// A copy of the automaton, in memory from `alloc`.
-    /// A caller: `uses::callers::tables::dfa_copy`.
     pub fn clone(&self, alloc: Global) -> Result<DFA, AllocError>
         ensures { IfOk result (IsDfaCopy self.now) }
     {

@@ -6,9 +6,9 @@
 ghost use Rattle.std.specs.Prelude.{◌≡◌, ◌↔◌, ◌+◌, ◌==◌, ◌||◌, IsTrue, slice_index};
 ghost use Rattle.ac_input.specs.Alphabet.{class};
 ghost use Rattle.ac_input.specs.Dfa.{Serves};
-ghost use Rattle.ac_tables.specs.DfaTable.{dfa_list_of};
-ghost use Rattle.ac_automaton.specs.Starters.{SkipsIdle};
-ghost use Rattle.ac_tables.specs.DfaLookups.{ArePlain, HasRow, HasDfaList, IsIdleIn, list_at};
+ghost use Rattle.ac_tables.specs.Dfa.DfaTable.{dfa_list_of};
+ghost use Rattle.ac_automaton.specs.Starters.{SkipsBelow};
+ghost use Rattle.ac_tables.specs.Dfa.DfaLookups.{ArePlain, HasRow, HasDfaList, IsIdleIn, list_at};
 
 use crate::dfa::lists::Lists;
 use crate::rows::next;
@@ -68,7 +68,7 @@ impl Table {
     /// The bytes that lead from the unanchored start to another state. It makes one look-up for each byte.
     pub(crate) fn starters(&self) -> Starters
         requires { Serves self.now.kind Anchored.No → HasRow self.now self.now.start }
-        ensures { SkipsIdle (IsIdleIn self.now) result }
+        ensures { SkipsBelow (IsIdleIn self.now) 256 result }
     {
         if !self.serves(Anchored::No) || self.start <= self.max_match {
             return Starters::Many;

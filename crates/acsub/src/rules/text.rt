@@ -5,12 +5,12 @@
 //! empty pattern or a second TAB makes the line a bad one.
 //!
 //! The file is read twice, as a file of hex is: the first pass takes no memory, and finds the first bad line.
-ghost use Rattle.std.specs.Prelude.{◌≡◌, ◌↔◌, ℕ, length, IfOk, IfErr, MatchOption, MatchResult};
-ghost use Rattle.ac_input.specs.Rules.{AreSidesOf, BeginsWithNoTextRule, BeginsWithWritten, FirstBadTextLine, IsTextRuleFile, IsWrittenAs};
-ghost use Rattle.acsub.specs.Lines.{HasTextCount, HasTextRules, IsFirstTextRule};
+ghost use Rattle.std.specs.Prelude.{◌≡◌, ◌↔◌, ℕ, List, IfOk, IfErr, MatchOption, MatchResult};
+ghost use Rattle.ac_input.specs.Rules.{AreSidesOf, BeginsWithNoTextRule, BeginsWithWritten, FirstBadTextLine, IsTextRuleFile, IsWrittenAs, Rule};
+ghost use Rattle.acsub.specs.Rules.Lines.{HasTextCount, IsFirstTextRule};
 ghost use Rattle.acsub.specs.declared.rules.RuleError.TheVariants.{Memory};
 
-use super::{Line, RuleError, Rules, Sides, split_at_byte};
+use super::{RuleError, RuleLine, Rules, Sides, split_at_byte};
 use std::alloc::{AllocError, Global};
 
 /// The rules of a rule file of plain text.
@@ -19,7 +19,7 @@ use std::alloc::{AllocError, Global};
 pub fn read_text_rules(alloc: Global, bytes: &[u8]) -> Result<Rules, RuleError>
     ensures rules { IfOk result (λ rules. IsTextRuleFile bytes.now rules) }
     ensures bad { (n : ℕ) → (result ≡ Err (RuleError.Line n)) ↔ FirstBadTextLine bytes.now n }
-    ensures memory { result ≡ Err RuleError.Memory → HasTextRules bytes.now }
+    ensures memory { result ≡ Err Memory → (rules : List Rule) × IsTextRuleFile bytes.now rules }
 {
     match count_rules(bytes) {
         Ok(count) => copy_rules(alloc, bytes, count),
@@ -60,7 +60,7 @@ fn copy_rules(alloc: Global, bytes: &[u8], count: usize) -> Result<Rules, RuleEr
 }
 
 /// The rule that the bytes begin with.
-fn first_rule(bytes: &[u8]) -> Option<Line<'_>>
+fn first_rule(bytes: &[u8]) -> Option<RuleLine<'_>>
     ensures { MatchOption result (BeginsWithNoTextRule bytes.now) (IsFirstTextRule bytes.now) }
 {
     let (written, rest) = first_written(bytes);
@@ -70,7 +70,7 @@ fn first_rule(bytes: &[u8]) -> Option<Line<'_>>
     }
     match split_at_byte(replacement, b'\t') {
         Some(_) => None,
-        None => Some(Line {
+        None => Some(RuleLine {
             pattern,
             replacement,
             rest,
@@ -109,7 +109,7 @@ fn sides_of(line: &[u8]) -> (&[u8], &[u8])
 }
 
 /// Both sides of a line, copied.
-fn copy_line(alloc: Global, line: &Line<'_>) -> Result<Sides, AllocError>
+fn copy_line(alloc: Global, line: &RuleLine<'_>) -> Result<Sides, AllocError>
     ensures pattern { IfOk result (λ s. s.pattern.items ≡ line.now.pattern.now) }
     ensures replacement { IfOk result (λ s. s.replacement.items ≡ line.now.replacement.now) }
 {

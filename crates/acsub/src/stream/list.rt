@@ -6,18 +6,17 @@
 //! buffer, which is written before each read, so that a stream over a file makes about one write a read.
 //!
 //! Both buffers are taken before the first read, and no memory after that. Nothing is tried again, and nothing is flushed.
-ghost use Rattle.std.specs.Prelude.{◌≡◌, ◌≤◌, [], false, IfErr, OnErr, OnOk};
-ghost use Rattle.ac_input.specs.declared.search.Anchored.TheVariants.{No};
+ghost use Rattle.std.specs.Prelude.{◌≡◌, ◌≤◌, [], false, IfErr, OnOk};
 ghost use Rattle.ac_input.specs.Work.{shortest};
-ghost use Rattle.ac_automaton.specs.Moved.{NoneTouched};
-ghost use Rattle.ac_automaton.specs.Stream.{AreAllGiven, CanBeCounted, CanStreamAnyKind, IsOnCourse, fresh_progress, read_by};
-ghost use Rattle.ac_automaton.specs.StreamIter.{progress_of, reader_name, reader_of};
-ghost use Rattle.ac_automaton.specs.StreamReplace.{IsBegun};
-ghost use Rattle.ac_automaton.specs.Watched.{IsOfWrite, has_ended};
-ghost use Rattle.acsub.specs.Finder.{IsBuiltFor};
+ghost use Rattle.ac_automaton.specs.Devices.Moved.{NoneTouched};
+ghost use Rattle.ac_automaton.specs.Stream.{AreAllGiven, CanBeCounted, CanStreamAnyKind, GoesOn, IsOnCourse, fresh_progress, read_by};
+ghost use Rattle.ac_automaton.specs.Stream.StreamIter.{KeepsReader, progress_of, reader_name, reader_of};
+ghost use Rattle.ac_automaton.specs.Stream.StreamReplace.{IsBegun};
+ghost use Rattle.aho_corasick.specs.AhoCorasick.{as_built, supported_by};
+ghost use Rattle.acsub.specs.Finder.{IsServing};
 ghost use Rattle.acsub.specs.Stream.{CostsStreaming, IfMemory, IfStreamMemory, IsNoRefusal, Streams};
-ghost use Rattle.acsub.specs.StreamList.{CostsOn, CountsOn, ListsOn, ListsStream, SendsLines, StopsLines, StopsWriting, WritesLines};
-ghost use Rattle.acsub.specs.Transformed.{IsStreamed};
+ghost use Rattle.acsub.specs.Stream.StreamList.{CostsOn, ListsOn, ListsStream, SendsLines, WritesLines};
+ghost use Rattle.acsub.specs.Run.Transformed.{IsStreamed};
 ghost use Rattle.acsub.specs.declared.settings.Mode.TheVariants.{List};
 
 use crate::error::RunError;
@@ -26,33 +25,28 @@ use crate::prepared::Prepared;
 use crate::stream::told;
 use ac_automaton::error::StreamError;
 use ac_automaton::output::Output;
-use ac_automaton::search::Search;
-use ac_automaton::stream::{StreamFindIter, stream_find_iter_any_kind};
+use ac_automaton::stream::stream_find_iter_any_kind;
 use ac_automaton::watched::Watched;
 use ac_input::search::Match;
 use ac_input::steps::Steps;
+use aho_corasick::{AhoCorasick, StreamFindIter};
 use std::alloc::Global;
 use std::io::{Read, Write};
 
 /// Sends a line for each match of what was read that was not given yet, and holds nothing back.
-fn send_held_lines<A: Search, R: Read, W: Write>(
-    matches: &mut StreamFindIter<'_, A, R>,
+fn send_held_lines<R: Read, W: Write>(
+    matches: &mut StreamFindIter<'_, R>,
     output: &mut Output,
     writer: &mut Watched<W>,
     steps: &mut Steps,
 ) -> Result<(), StreamError>
     requires countable { CanBeCounted (read_by (progress_of matches.old)) }
-    ensures sent { OnOk result (SendsLines W.contents (progress_of matches.old)
-        (progress_of matches.new) writer.old writer.new output.old output.new) }
+    ensures sends { SendsLines W.contents (progress_of matches.old)
+        (progress_of matches.new) writer.old writer.new output.old [] result }
     ensures all { OnOk result (AreAllGiven (progress_of matches.new)) }
-    ensures none { OnOk result (output.new ≡ []) }
-    ensures stopped { OnErr result (StopsLines W.contents (progress_of matches.old)
-        (progress_of matches.new) writer.old writer.new output.old) }
-    ensures kind { IfErr result (IsOfWrite writer.old writer.new) }
-    ensures reader { reader_of matches.new ≡ reader_of matches.old }
-    ensures same_reference { reader_name matches.new ≡ reader_name matches.old }
-    ensures counts { CountsOn matches.old matches.new steps.old steps.new }
-    ensures kept { IsOnCourse (progress_of matches.new) }
+    ensures none { output.new ≡ [] }
+    ensures reader { KeepsReader matches.old matches.new }
+    ensures goes { GoesOn (progress_of matches.old) (progress_of matches.new) steps.old steps.new }
 {
     while let Some(found) = matches.next_held_counted(steps) {
         output.send(writer, Line::new(&found).as_bytes())?;
@@ -61,9 +55,9 @@ fn send_held_lines<A: Search, R: Read, W: Write>(
 }
 
 /// Writes a line for a match, and one for each further match of what was read.
-fn write_lines<A: Search, R: Read, W: Write>(
+fn write_lines<R: Read, W: Write>(
     found: &Match,
-    matches: &mut StreamFindIter<'_, A, R>,
+    matches: &mut StreamFindIter<'_, R>,
     output: &mut Output,
     writer: &mut Watched<W>,
     steps: &mut Steps,
@@ -71,24 +65,20 @@ fn write_lines<A: Search, R: Read, W: Write>(
     requires countable { CanBeCounted (read_by (progress_of matches.old)) }
     requires course { IsOnCourse (progress_of matches.old) }
     requires empty { output.old ≡ [] }
-    ensures written { OnOk result (WritesLines W.contents found.now (progress_of matches.old)
-        (progress_of matches.new) writer.old writer.new) }
-    ensures none { OnOk result (output.new ≡ []) }
-    ensures stopped { OnErr result (StopsWriting W.contents found.now (progress_of matches.old)
-        (progress_of matches.new) writer.old writer.new) }
-    ensures kind { IfErr result (IsOfWrite writer.old writer.new) }
-    ensures reader { reader_of matches.new ≡ reader_of matches.old }
-    ensures same_reference { reader_name matches.new ≡ reader_name matches.old }
-    ensures counts { CountsOn matches.old matches.new steps.old steps.new }
-    ensures kept { IsOnCourse (progress_of matches.new) }
+    ensures writes { WritesLines W.contents found.now (progress_of matches.old)
+        (progress_of matches.new) writer.old writer.new result }
+    ensures all { OnOk result (AreAllGiven (progress_of matches.new)) }
+    ensures none { output.new ≡ [] }
+    ensures reader { KeepsReader matches.old matches.new }
+    ensures goes { GoesOn (progress_of matches.old) (progress_of matches.new) steps.old steps.new }
 {
     output.send(writer, Line::new(found).as_bytes())?;
     send_held_lines(matches, output, writer, steps)
 }
 
 /// Reads on to the end of the input. Before each read all that can be listed is written.
-fn list_read<A: Search, R: Read, W: Write>(
-    matches: &mut StreamFindIter<'_, A, R>,
+fn list_read<R: Read, W: Write>(
+    matches: &mut StreamFindIter<'_, R>,
     output: &mut Output,
     writer: &mut Watched<W>,
     steps: &mut Steps,
@@ -96,7 +86,7 @@ fn list_read<A: Search, R: Read, W: Write>(
     requires fresh { progress_of matches.old ≡ fresh_progress (progress_of matches.old).built }
     requires filled { 1 ≤ shortest (progress_of matches.old).built.dictionary.patterns }
     requires empty { output.old ≡ [] }
-    requires unended { has_ended (reader_of matches.old) ≡ false }
+    requires unended { (reader_of matches.old).ended ≡ false }
     ensures list { ListsOn R.remaining W.contents matches.old matches.new
         writer.old writer.new result }
     ensures costs { CostsOn matches.old matches.new steps.old steps.new result }
@@ -111,20 +101,20 @@ fn list_read<A: Search, R: Read, W: Write>(
 }
 
 /// Takes both buffers, and writes a line for each match of what is read.
-fn list_stream<A: Search, R: Read, W: Write>(
+fn list_stream<R: Read, W: Write>(
     alloc: Global,
-    engine: &A,
+    engine: &AhoCorasick,
     reader: &mut Watched<R>,
     writer: &mut Watched<W>,
     steps: &mut Steps,
 ) -> Result<(), StreamError>
-    requires open { has_ended reader.old ≡ false }
-    requires can { CanStreamAnyKind (A.built engine.now) (A.supports engine.now) }
+    requires open { reader.old.ended ≡ false }
+    requires can { CanStreamAnyKind (as_built engine.now) (supported_by engine.now) }
     // All lines that are decided by what was read, before a read that failed; and no less than those that are decided by all pieces
     // but the last, before a write that failed.
-    ensures lists { ListsStream R.remaining W.contents (A.built engine.now)
+    ensures lists { ListsStream R.remaining W.contents (as_built engine.now)
         reader.old reader.new writer.old writer.new result }
-    ensures costs { CostsStreaming (A.built engine.now) reader.old reader.new
+    ensures costs { CostsStreaming (as_built engine.now) reader.old reader.new
         steps.old steps.new result }
     ensures memory { IfStreamMemory result
         (NoneTouched reader.old reader.new writer.old writer.new) }
@@ -138,22 +128,21 @@ fn list_stream<A: Search, R: Read, W: Write>(
 }
 
 /// Writes a line for each match of what is read, by the automaton that was prepared.
-pub(crate) fn stream_list<A: Search, R: Read, W: Write>(
+pub(crate) fn stream_list<R: Read, W: Write>(
     alloc: Global,
-    prepared: &Prepared<'_, A>,
-    engine: &A,
+    prepared: &Prepared<'_>,
+    engine: &AhoCorasick,
     reader: &mut Watched<R>,
     writer: &mut Watched<W>,
     steps: &mut Steps,
 ) -> Result<(), RunError>
-    requires open { has_ended reader.old ≡ false }
-    requires built { IsBuiltFor prepared.now (A.built engine.now) }
-    requires supports { A.supports engine.now No }
+    requires open { reader.old.ended ≡ false }
+    requires serves { IsServing prepared.now.settings prepared.now.rules engine.now }
     requires streamed { IsStreamed prepared.now }
     requires mode { prepared.now.settings.mode ≡ List }
     ensures streams { Streams R.remaining W.contents reader.old reader.new writer.old writer.new
         prepared.now result }
-    ensures costs { CostsStreaming (A.built engine.now) reader.old reader.new
+    ensures costs { CostsStreaming (as_built engine.now) reader.old reader.new
         steps.old steps.new result }
     ensures memory { IfMemory result (NoneTouched reader.old reader.new writer.old writer.new) }
 {

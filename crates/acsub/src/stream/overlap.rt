@@ -5,20 +5,18 @@
 //! once it was searched.
 //!
 //! Both buffers are taken before the first read, and no memory after that. Nothing is tried again, and nothing is flushed.
-ghost use Rattle.std.specs.Prelude.{◌≡◌, ◌≤◌, [], false, IfErr, OnOk};
-ghost use Rattle.ac_input.specs.declared.search.Anchored.TheVariants.{No};
-ghost use Rattle.ac_input.specs.Work.{shortest};
-ghost use Rattle.ac_automaton.specs.Moved.{NoneTouched};
+ghost use Rattle.std.specs.Prelude.{◌≡◌, [], false, IfErr, OnOk};
+ghost use Rattle.ac_automaton.specs.Devices.Moved.{NoneTouched};
 ghost use Rattle.ac_automaton.specs.Stream.{CanBeCounted, CanStream};
-ghost use Rattle.ac_automaton.specs.StreamListing.{IsAllListed, IsOnListing, ListsOnCourse, all_read, fresh_listing};
-ghost use Rattle.ac_automaton.specs.StreamOverlappingIter.{KeepsListedReader, listing_of_stream, reader_listed, reader_listed_name};
-ghost use Rattle.ac_automaton.specs.StreamReplace.{IsBegun};
-ghost use Rattle.ac_automaton.specs.Watched.{has_ended};
-ghost use Rattle.acsub.specs.Finder.{IsBuiltFor};
+ghost use Rattle.ac_automaton.specs.Stream.StreamListing.{IsAllListed, IsOnListing, ListsOnCourse, all_read, fresh_listing};
+ghost use Rattle.ac_automaton.specs.Stream.StreamOverlappingIter.{KeepsListedReader, listing_of_stream, reader_listed, reader_listed_name};
+ghost use Rattle.ac_automaton.specs.Stream.StreamReplace.{IsBegun};
+ghost use Rattle.aho_corasick.specs.AhoCorasick.{as_built, supported_by};
+ghost use Rattle.acsub.specs.Finder.{IsServing};
 ghost use Rattle.acsub.specs.Settings.{IsAccepted};
 ghost use Rattle.acsub.specs.Stream.{CostsStreaming, IfMemory, IfStreamMemory, IsNoRefusal, Streams};
-ghost use Rattle.acsub.specs.StreamOverlap.{CostsEveryOn, ListsEvery, ListsEveryOn, SendsEach, WritesEach};
-ghost use Rattle.acsub.specs.Transformed.{IsStreamed};
+ghost use Rattle.acsub.specs.Stream.StreamOverlap.{CostsEveryOn, ListsEvery, ListsEveryOn, SendsEach, WritesEach};
+ghost use Rattle.acsub.specs.Run.Transformed.{IsStreamed};
 ghost use Rattle.acsub.specs.declared.settings.Mode.TheVariants.{Overlap};
 
 use crate::error::RunError;
@@ -27,17 +25,17 @@ use crate::prepared::Prepared;
 use crate::stream::told;
 use ac_automaton::error::StreamError;
 use ac_automaton::output::Output;
-use ac_automaton::search::Search;
-use ac_automaton::stream::overlapping::{StreamFindOverlappingIter, stream_find_overlapping_iter};
+use ac_automaton::stream::overlapping::stream_find_overlapping_iter;
 use ac_automaton::watched::Watched;
 use ac_input::search::Match;
 use ac_input::steps::Steps;
+use aho_corasick::{AhoCorasick, StreamFindOverlappingIter};
 use std::alloc::Global;
 use std::io::{Read, Write};
 
 /// Sends a line for each occurrence in what was read that was not given yet, and holds nothing back.
-fn send_each<A: Search, R: Read, W: Write>(
-    occurrences: &mut StreamFindOverlappingIter<'_, A, R>,
+fn send_each<R: Read, W: Write>(
+    occurrences: &mut StreamFindOverlappingIter<'_, R>,
     output: &mut Output,
     writer: &mut Watched<W>,
     steps: &mut Steps,
@@ -58,9 +56,9 @@ fn send_each<A: Search, R: Read, W: Write>(
 }
 
 /// Writes a line for an occurrence, and one for each further occurrence in what was read.
-fn write_each<A: Search, R: Read, W: Write>(
+fn write_each<R: Read, W: Write>(
     found: &Match,
-    occurrences: &mut StreamFindOverlappingIter<'_, A, R>,
+    occurrences: &mut StreamFindOverlappingIter<'_, R>,
     output: &mut Output,
     writer: &mut Watched<W>,
     steps: &mut Steps,
@@ -81,8 +79,8 @@ fn write_each<A: Search, R: Read, W: Write>(
 }
 
 /// Reads on to the end of the input. Before each read a line for each occurrence is written.
-fn list_each<A: Search, R: Read, W: Write>(
-    occurrences: &mut StreamFindOverlappingIter<'_, A, R>,
+fn list_each<R: Read, W: Write>(
+    occurrences: &mut StreamFindOverlappingIter<'_, R>,
     output: &mut Output,
     writer: &mut Watched<W>,
     steps: &mut Steps,
@@ -91,7 +89,7 @@ fn list_each<A: Search, R: Read, W: Write>(
         ≡ fresh_listing (listing_of_stream occurrences.old).built }
     requires course { IsOnListing (listing_of_stream occurrences.old) }
     requires empty { output.old ≡ [] }
-    requires unended { has_ended (reader_listed occurrences.old) ≡ false }
+    requires unended { (reader_listed occurrences.old).ended ≡ false }
     ensures lists { ListsEveryOn R.remaining W.contents occurrences.old occurrences.new
         writer.old writer.new result }
     ensures costs { CostsEveryOn occurrences.old occurrences.new steps.old steps.new result }
@@ -107,20 +105,20 @@ fn list_each<A: Search, R: Read, W: Write>(
 }
 
 /// Takes both buffers, and writes a line for each occurrence in what is read.
-fn list_every<A: Search, R: Read, W: Write>(
+fn list_every<R: Read, W: Write>(
     alloc: Global,
-    engine: &A,
+    engine: &AhoCorasick,
     reader: &mut Watched<R>,
     writer: &mut Watched<W>,
     steps: &mut Steps,
 ) -> Result<(), StreamError>
-    requires open { has_ended reader.old ≡ false }
-    requires can { CanStream (A.built engine.now) (A.supports engine.now) }
+    requires open { reader.old.ended ≡ false }
+    requires can { CanStream (as_built engine.now) (supported_by engine.now) }
     // All lines of what was read, before a read that failed; and no less than those of all pieces but the last, before a write that
     // failed.
-    ensures lists { ListsEvery R.remaining W.contents (A.built engine.now)
+    ensures lists { ListsEvery R.remaining W.contents (as_built engine.now)
         reader.old reader.new writer.old writer.new result }
-    ensures costs { CostsStreaming (A.built engine.now) reader.old reader.new
+    ensures costs { CostsStreaming (as_built engine.now) reader.old reader.new
         steps.old steps.new result }
     ensures memory { IfStreamMemory result
         (NoneTouched reader.old reader.new writer.old writer.new) }
@@ -134,23 +132,22 @@ fn list_every<A: Search, R: Read, W: Write>(
 }
 
 /// Writes a line for each occurrence in what is read, by the automaton that was prepared.
-pub(crate) fn stream_overlapping<A: Search, R: Read, W: Write>(
+pub(crate) fn stream_overlapping<R: Read, W: Write>(
     alloc: Global,
-    prepared: &Prepared<'_, A>,
-    engine: &A,
+    prepared: &Prepared<'_>,
+    engine: &AhoCorasick,
     reader: &mut Watched<R>,
     writer: &mut Watched<W>,
     steps: &mut Steps,
 ) -> Result<(), RunError>
-    requires open { has_ended reader.old ≡ false }
+    requires open { reader.old.ended ≡ false }
     requires accepted { IsAccepted prepared.now.settings prepared.now.rules }
-    requires built { IsBuiltFor prepared.now (A.built engine.now) }
-    requires supports { A.supports engine.now No }
+    requires serves { IsServing prepared.now.settings prepared.now.rules engine.now }
     requires streamed { IsStreamed prepared.now }
     requires mode { prepared.now.settings.mode ≡ Overlap }
     ensures streams { Streams R.remaining W.contents reader.old reader.new writer.old writer.new
         prepared.now result }
-    ensures costs { CostsStreaming (A.built engine.now) reader.old reader.new
+    ensures costs { CostsStreaming (as_built engine.now) reader.old reader.new
         steps.old steps.new result }
     ensures memory { IfMemory result (NoneTouched reader.old reader.new writer.old writer.new) }
 {

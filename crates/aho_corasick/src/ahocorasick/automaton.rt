@@ -1,7 +1,7 @@
 //! Searching by whichever automaton serves.
-ghost use Rattle.std.specs.Prelude.{OnOk, IfErr};
+ghost use Rattle.std.specs.Prelude.{OnOk, IfErr, ◌≡◌};
 ghost use Rattle.ac_input.specs.Dfa.{Serves};
-ghost use Rattle.ac_automaton.specs.Automaton.{IsStartRefusal};
+ghost use Rattle.ac_automaton.specs.Automaton.{refusal_of};
 
 use super::AhoCorasick;
 use crate::engine::Engine;
@@ -20,7 +20,7 @@ use ac_literal::prefilter::Prefilter;
 /// Refuses a search for which an automaton of the start kind has no start.
 fn enforce_anchored_consistency(have: StartKind, want: Anchored) -> Result<(), MatchError>
     ensures served { OnOk result (Serves have want) }
-    ensures refused { IfErr result (IsStartRefusal (Serves have) want) }
+    ensures refused { IfErr result (λ error. ¬ (Serves have) want × (error ≡ refusal_of want)) }
 {
     match (have, want) {
         (StartKind::Unanchored, Anchored::Yes) => Err(MatchError::invalid_input_anchored()),
@@ -48,7 +48,7 @@ impl Automaton for AhoCorasick {
 
     fn start_state(&self, anchored: Anchored) -> Result<StateID, MatchError> {
         enforce_anchored_consistency(self.start_kind, anchored)?;
-        match &*self.engine {
+        match self.serving() {
             Engine::Noncontiguous(nfa) => nfa.start_state(anchored),
             Engine::Contiguous(nfa) => nfa.start_state(anchored),
             Engine::Dfa(dfa) => dfa.start_state(anchored),
@@ -63,7 +63,7 @@ impl Automaton for AhoCorasick {
         byte: u8,
         steps: &mut Steps,
     ) -> StateID {
-        match &*self.engine {
+        match self.serving() {
             Engine::Noncontiguous(nfa) => nfa.next_state_counted(anchored, sid, byte, steps),
             Engine::Contiguous(nfa) => nfa.next_state_counted(anchored, sid, byte, steps),
             Engine::Dfa(dfa) => dfa.next_state_counted(anchored, sid, byte, steps),
@@ -78,7 +78,7 @@ impl Automaton for AhoCorasick {
         bytes: &[u8],
         steps: &mut Steps,
     ) -> Advance {
-        match &*self.engine {
+        match self.serving() {
             Engine::Noncontiguous(nfa) => nfa.advance(anchored, sid, bytes, steps),
             Engine::Contiguous(nfa) => nfa.advance(anchored, sid, bytes, steps),
             Engine::Dfa(dfa) => dfa.advance(anchored, sid, bytes, steps),
@@ -93,7 +93,7 @@ impl Automaton for AhoCorasick {
         bytes: &[u8],
         steps: &mut Steps,
     ) -> Advance {
-        match &*self.engine {
+        match self.serving() {
             Engine::Noncontiguous(nfa) => nfa.advance_to_match(anchored, sid, bytes, steps),
             Engine::Contiguous(nfa) => nfa.advance_to_match(anchored, sid, bytes, steps),
             Engine::Dfa(dfa) => dfa.advance_to_match(anchored, sid, bytes, steps),
@@ -109,7 +109,7 @@ impl Automaton for AhoCorasick {
         anew: bool,
         notes: &mut [Note],
     ) -> usize {
-        match &*self.engine {
+        match self.serving() {
             Engine::Noncontiguous(nfa) => nfa.note_ahead(sid, bytes, at, len, anew, notes),
             Engine::Contiguous(nfa) => nfa.note_ahead(sid, bytes, at, len, anew, notes),
             Engine::Dfa(dfa) => dfa.note_ahead(sid, bytes, at, len, anew, notes),
@@ -118,7 +118,7 @@ impl Automaton for AhoCorasick {
 
     #[inline]
     fn is_special(&self, sid: StateID) -> bool {
-        match &*self.engine {
+        match self.serving() {
             Engine::Noncontiguous(nfa) => nfa.is_special(sid),
             Engine::Contiguous(nfa) => nfa.is_special(sid),
             Engine::Dfa(dfa) => dfa.is_special(sid),
@@ -127,7 +127,7 @@ impl Automaton for AhoCorasick {
 
     #[inline]
     fn is_dead(&self, sid: StateID) -> bool {
-        match &*self.engine {
+        match self.serving() {
             Engine::Noncontiguous(nfa) => nfa.is_dead(sid),
             Engine::Contiguous(nfa) => nfa.is_dead(sid),
             Engine::Dfa(dfa) => dfa.is_dead(sid),
@@ -136,7 +136,7 @@ impl Automaton for AhoCorasick {
 
     #[inline]
     fn is_match(&self, sid: StateID) -> bool {
-        match &*self.engine {
+        match self.serving() {
             Engine::Noncontiguous(nfa) => nfa.is_match(sid),
             Engine::Contiguous(nfa) => nfa.is_match(sid),
             Engine::Dfa(dfa) => dfa.is_match(sid),
@@ -145,7 +145,7 @@ impl Automaton for AhoCorasick {
 
     #[inline]
     fn is_start(&self, sid: StateID) -> bool {
-        match &*self.engine {
+        match self.serving() {
             Engine::Noncontiguous(nfa) => nfa.is_start(sid),
             Engine::Contiguous(nfa) => nfa.is_start(sid),
             Engine::Dfa(dfa) => dfa.is_start(sid),
@@ -153,7 +153,7 @@ impl Automaton for AhoCorasick {
     }
 
     fn match_kind(&self) -> MatchKind {
-        match &*self.engine {
+        match self.serving() {
             Engine::Noncontiguous(nfa) => nfa.match_kind(),
             Engine::Contiguous(nfa) => nfa.match_kind(),
             Engine::Dfa(dfa) => dfa.match_kind(),
@@ -161,7 +161,7 @@ impl Automaton for AhoCorasick {
     }
 
     fn match_len(&self, sid: StateID) -> usize {
-        match &*self.engine {
+        match self.serving() {
             Engine::Noncontiguous(nfa) => nfa.match_len(sid),
             Engine::Contiguous(nfa) => nfa.match_len(sid),
             Engine::Dfa(dfa) => dfa.match_len(sid),
@@ -169,7 +169,7 @@ impl Automaton for AhoCorasick {
     }
 
     fn match_pattern(&self, sid: StateID, index: usize) -> PatternID {
-        match &*self.engine {
+        match self.serving() {
             Engine::Noncontiguous(nfa) => nfa.match_pattern(sid, index),
             Engine::Contiguous(nfa) => nfa.match_pattern(sid, index),
             Engine::Dfa(dfa) => dfa.match_pattern(sid, index),
@@ -177,7 +177,7 @@ impl Automaton for AhoCorasick {
     }
 
     fn patterns_len(&self) -> usize {
-        match &*self.engine {
+        match self.serving() {
             Engine::Noncontiguous(nfa) => nfa.patterns_len(),
             Engine::Contiguous(nfa) => nfa.patterns_len(),
             Engine::Dfa(dfa) => dfa.patterns_len(),
@@ -185,7 +185,7 @@ impl Automaton for AhoCorasick {
     }
 
     fn pattern_len(&self, pattern: PatternID) -> usize {
-        match &*self.engine {
+        match self.serving() {
             Engine::Noncontiguous(nfa) => nfa.pattern_len(pattern),
             Engine::Contiguous(nfa) => nfa.pattern_len(pattern),
             Engine::Dfa(dfa) => dfa.pattern_len(pattern),
@@ -193,7 +193,7 @@ impl Automaton for AhoCorasick {
     }
 
     fn min_pattern_len(&self) -> usize {
-        match &*self.engine {
+        match self.serving() {
             Engine::Noncontiguous(nfa) => nfa.min_pattern_len(),
             Engine::Contiguous(nfa) => nfa.min_pattern_len(),
             Engine::Dfa(dfa) => dfa.min_pattern_len(),
@@ -201,7 +201,7 @@ impl Automaton for AhoCorasick {
     }
 
     fn max_pattern_len(&self) -> usize {
-        match &*self.engine {
+        match self.serving() {
             Engine::Noncontiguous(nfa) => nfa.max_pattern_len(),
             Engine::Contiguous(nfa) => nfa.max_pattern_len(),
             Engine::Dfa(dfa) => dfa.max_pattern_len(),
@@ -209,7 +209,7 @@ impl Automaton for AhoCorasick {
     }
 
     fn memory_usage(&self) -> usize {
-        match &*self.engine {
+        match self.serving() {
             Engine::Noncontiguous(nfa) => nfa.memory_usage(),
             Engine::Contiguous(nfa) => nfa.memory_usage(),
             Engine::Dfa(dfa) => dfa.memory_usage(),
@@ -217,26 +217,26 @@ impl Automaton for AhoCorasick {
     }
 
     fn prefilter(&self) -> Option<&Prefilter> {
-        match &*self.engine {
+        match self.serving() {
             Engine::Noncontiguous(nfa) => nfa.prefilter(),
             Engine::Contiguous(nfa) => nfa.prefilter(),
             Engine::Dfa(dfa) => dfa.prefilter(),
         }
     }
 
-    ghost tells = { λ ac anchored text sid reads. read-tells (serving_engine ac) anchored text sid reads };
+    ghost tells = { λ ac anchored text sid reads. read-tells (serving_engine ac) (as_built ac) ac.shared.value.same anchored text sid reads };
 
-    ghost lives = { λ ac anchored text sid reads. read-lives (serving_engine ac) anchored text sid reads };
+    ghost lives = { λ ac anchored text sid reads. read-lives (serving_engine ac) (as_built ac) ac.shared.value.same anchored text sid reads };
 
-    ghost pairs = { λ ac anchored text sid reads. read-pairs (serving_engine ac) anchored text sid reads };
+    ghost pairs = { λ ac anchored text sid reads. read-pairs (serving_engine ac) (as_built ac) ac.shared.value.same anchored text sid reads };
 
-    ghost stops = { λ ac anchored text sid reads. read-stops (serving_engine ac) anchored text sid reads };
+    ghost stops = { λ ac anchored text sid reads. read-stops (serving_engine ac) (as_built ac) ac.shared.value.same anchored text sid reads };
 }
 
 impl Search for AhoCorasick {
     fn search(&self, input: &Input<'_>, steps: &mut Steps) -> Result<Option<Match>, MatchError> {
         enforce_anchored_consistency(self.start_kind, input.get_anchored())?;
-        match &*self.engine {
+        match self.serving() {
             Engine::Noncontiguous(nfa) => nfa.search(input, steps),
             Engine::Contiguous(nfa) => nfa.search(input, steps),
             Engine::Dfa(dfa) => dfa.search(input, steps),
@@ -250,7 +250,7 @@ impl Search for AhoCorasick {
         ahead: &mut Ahead,
         steps: &mut Steps,
     ) -> Option<Match> {
-        match &*self.engine {
+        match self.serving() {
             Engine::Noncontiguous(nfa) => nfa.search_ahead(input, start, ahead, steps),
             Engine::Contiguous(nfa) => nfa.search_ahead(input, start, ahead, steps),
             Engine::Dfa(dfa) => dfa.search_ahead(input, start, ahead, steps),
@@ -264,7 +264,7 @@ impl Search for AhoCorasick {
         place: Position,
         steps: &mut Steps,
     ) -> Shown {
-        match &*self.engine {
+        match self.serving() {
             Engine::Noncontiguous(nfa) => nfa.search_overlapping(input, start, place, steps),
             Engine::Contiguous(nfa) => nfa.search_overlapping(input, start, place, steps),
             Engine::Dfa(dfa) => dfa.search_overlapping(input, start, place, steps),
@@ -279,7 +279,7 @@ impl Search for AhoCorasick {
         ahead: &mut Ahead,
         steps: &mut Steps,
     ) -> Shown {
-        match &*self.engine {
+        match self.serving() {
             Engine::Noncontiguous(nfa) => {
                 nfa.search_overlapping_ahead(input, start, place, ahead, steps)
             }
@@ -298,7 +298,7 @@ impl Search for AhoCorasick {
         ahead: &mut Ahead,
         steps: &mut Steps,
     ) -> Searched {
-        match &*self.engine {
+        match self.serving() {
             Engine::Noncontiguous(nfa) => nfa.search_stream(start, progress, held, ahead, steps),
             Engine::Contiguous(nfa) => nfa.search_stream(start, progress, held, ahead, steps),
             Engine::Dfa(dfa) => dfa.search_stream(start, progress, held, ahead, steps),
@@ -312,7 +312,7 @@ impl Search for AhoCorasick {
         ahead: &mut Ahead,
         steps: &mut Steps,
     ) -> Listed {
-        match &*self.engine {
+        match self.serving() {
             Engine::Noncontiguous(nfa) => nfa.search_stream_overlapping(place, held, ahead, steps),
             Engine::Contiguous(nfa) => nfa.search_stream_overlapping(place, held, ahead, steps),
             Engine::Dfa(dfa) => dfa.search_stream_overlapping(place, held, ahead, steps),

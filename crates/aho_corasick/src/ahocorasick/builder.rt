@@ -11,11 +11,13 @@ ghost use Rattle.ac_input.specs.Same.{IsUnpaired};
 ghost use Rattle.ac_literal.specs.Packed.{bytes_of};
 ghost use Rattle.ac_noncontiguous.specs.declared.error.BuildErrorKind.TheVariants.{Memory};
 ghost use Rattle.aho_corasick.specs.AhoCorasick.{kind_of, pairing_of, patterns_of, start_kind_of};
-ghost use Rattle.aho_corasick.specs.Builder.{AreFrontFirst, noncontiguous_by};
-ghost use Rattle.aho_corasick.specs.Served.{IsFitting, contiguous_by, dfa_by, IsTriedDfa, IsTriedContiguous, IsEngineOf, IsFrontMadeOf, IsNotMade, IsFrontBuilt, IsFrontBuildRefused, IsFrontBuiltAtFirst, IsFrontRefusedAtFirst};
+ghost use Rattle.aho_corasick.specs.Builder.{AreFrontDefaults, noncontiguous_by};
+ghost use Rattle.aho_corasick.specs.Made.{contiguous_by, dfa_by};
+ghost use Rattle.aho_corasick.specs.Served.{IsFitting, IsTriedDfa, IsTriedContiguous, IsEngineOf, IsNotMade, IsFrontBuilt, IsFrontBuildRefused, IsFrontBuiltByDefault, IsFrontRefusedByDefault};
 
 use super::{AhoCorasick, AhoCorasickKind};
 use crate::engine::Engine;
+use crate::shared::{AsBuilt, MadeBy, Shared};
 use ac_automaton::automaton::Automaton;
 use ac_input::pairing::Pairing;
 use ac_input::search::{MatchKind, StartKind};
@@ -106,7 +108,7 @@ impl Model for AhoCorasickBuilder {
 }
 
 impl Default for AhoCorasickBuilder {
-    ghost is_default = { AreFrontFirst };
+    ghost is_default = { AreFrontDefaults };
 
     fn default() -> AhoCorasickBuilder {
         AhoCorasickBuilder::new()
@@ -117,9 +119,9 @@ impl AhoCorasickBuilder {
     /// Standard matches, unanchored searches, no byte paired, the automaton left to the builder, a prefilter wanted, and classes of
     /// bytes.
     ///
-    /// A caller: `uses::callers::front::thrifty`. An example: `uses::examples::build::small`.
+    /// An example: `uses::examples::build::small`.
     pub fn new() -> AhoCorasickBuilder
-        ensures { AreFrontFirst result }
+        ensures { AreFrontDefaults result }
     {
         AhoCorasickBuilder {
             match_kind: MatchKind::Standard,
@@ -133,10 +135,11 @@ impl AhoCorasickBuilder {
         }
     }
 
-    /// Sets which of several overlapping occurrences is the match: at first the standard one, which ends first. Streams and
-    /// overlapping matches need the standard kind; under another the calls for them return an error.
+    /// Sets which of several overlapping occurrences is the match: at first the standard one, which ends first.
+    /// Overlapping matches need the standard kind, and so do streams by the calls without `any_kind`; under another these return an
+    /// error.
     ///
-    /// A caller: `uses::callers::front::folded`. An example: `uses::examples::build::forgiving`.
+    /// An example: `uses::examples::build::forgiving`.
     pub fn match_kind(&mut self, kind: MatchKind) -> &mut AhoCorasickBuilder
         ensures same { result.ghost_name ≡ self.entry.ghost_name }
         ensures value { result.now ≡ record self.old { match_kind = kind } }
@@ -148,7 +151,7 @@ impl AhoCorasickBuilder {
     /// Sets which searches are served, at first unanchored ones; others return an error, whichever automaton serves. A DFA for both
     /// kinds takes about twice the memory and time to build. Replacement and streams are unanchored.
     ///
-    /// A caller: `uses::callers::front::thrifty`. An example: `uses::examples::build::small`.
+    /// An example: `uses::examples::build::small`.
     pub fn start_kind(&mut self, kind: StartKind) -> &mut AhoCorasickBuilder
         ensures same { result.ghost_name ≡ self.entry.ghost_name }
         ensures value { result.now ≡ record self.old { start_kind = kind } }
@@ -160,7 +163,7 @@ impl AhoCorasickBuilder {
     /// Sets whether ASCII letters count as the same in their two cases. It sets the whole pairing: of this call and
     /// [`AhoCorasickBuilder::pairing`] the last one decides.
     ///
-    /// A caller: `uses::callers::front::folded`. An example: `uses::examples::build::forgiving`.
+    /// An example: `uses::examples::build::forgiving`.
     pub fn ascii_case_insensitive(&mut self, yes: bool) -> &mut AhoCorasickBuilder
         ensures same { result.ghost_name ≡ self.entry.ghost_name }
         ensures rest { result.now ≡ record self.old { pairing = result.now.pairing } }
@@ -176,7 +179,7 @@ impl AhoCorasickBuilder {
 
     /// Sets which bytes stand for one another. At first none does.
     ///
-    /// A caller: `uses::callers::front::thrifty`. An example: `uses::examples::build::small`.
+    /// An example: `uses::examples::build::small`.
     pub fn pairing(&mut self, pairing: Pairing) -> &mut AhoCorasickBuilder
         ensures same { result.ghost_name ≡ self.entry.ghost_name }
         ensures value { result.now ≡ record self.old { pairing = pairing } }
@@ -191,7 +194,7 @@ impl AhoCorasickBuilder {
     /// A DFA searches fastest. It takes 4 bytes for each class of bytes in each state, and each byte of a pattern may add a state:
     /// a hundred patterns of 1000 bytes each may take 100 MB. For patterns from a stranger name the contiguous NFA.
     ///
-    /// A caller: `uses::callers::front::named`. An example: `uses::examples::build::small`.
+    /// An example: `uses::examples::build::small`.
     pub fn kind(&mut self, kind: Option<AhoCorasickKind>) -> &mut AhoCorasickBuilder
         ensures same { result.ghost_name ≡ self.entry.ghost_name }
         ensures value { result.now ≡ record self.old { kind = kind } }
@@ -202,7 +205,7 @@ impl AhoCorasickBuilder {
 
     /// Sets whether searches have a prefilter, where one serves. It changes no result.
     ///
-    /// A caller: `uses::callers::front::thrifty`. An example: `uses::examples::build::small`.
+    /// An example: `uses::examples::build::small`.
     pub fn prefilter(&mut self, yes: bool) -> &mut AhoCorasickBuilder
         ensures same { result.ghost_name ≡ self.entry.ghost_name }
         ensures value { result.now ≡ record self.old { prefilter = yes } }
@@ -215,7 +218,7 @@ impl AhoCorasickBuilder {
     /// noncontiguous one and 2 for the contiguous one. A row makes a look-up fast, and takes four bytes for each class of bytes. It
     /// changes no result.
     ///
-    /// A caller: `uses::callers::front::thrifty`. An example: `uses::examples::build::small`.
+    /// An example: `uses::examples::build::small`.
     pub fn dense_depth(&mut self, depth: usize) -> &mut AhoCorasickBuilder
         ensures same { result.ghost_name ≡ self.entry.ghost_name }
         ensures value { result.now ≡ record self.old { dense_depth = Some depth } }
@@ -227,7 +230,7 @@ impl AhoCorasickBuilder {
     /// Sets whether bytes that lead alike from every state are one class, in the contiguous NFA and the DFA. Without classes a state
     /// takes more memory, and a look-up one load less. It changes no result.
     ///
-    /// A caller: `uses::callers::front::thrifty`. An example: `uses::examples::build::small`.
+    /// An example: `uses::examples::build::small`.
     pub fn byte_classes(&mut self, yes: bool) -> &mut AhoCorasickBuilder
         ensures same { result.ghost_name ≡ self.entry.ghost_name }
         ensures value { result.now ≡ record self.old { byte_classes = yes } }
@@ -240,8 +243,6 @@ impl AhoCorasickBuilder {
     ///
     /// It changes no result. With rows an unanchored search looks at one state for a byte, as a DFA does, and is about as fast. There
     /// are rows if they take no more than this; they take about what a DFA of the same patterns takes, and as long to make.
-    ///
-    /// A caller: `uses::callers::front::thrifty`.
     pub fn row_memory(&mut self, bytes: usize) -> &mut AhoCorasickBuilder
         ensures same { result.ghost_name ≡ self.entry.ghost_name }
         ensures value { result.now ≡ record self.old { row_memory = bytes } }
@@ -349,21 +350,6 @@ impl AhoCorasickBuilder {
         }
     }
 
-    /// The automaton over the one that serves.
-    fn share(&self, alloc: Global, nfa: NFA) -> Result<AhoCorasick, BuildError>
-        ensures made { IfOk result (IsFrontMadeOf self.now nfa) }
-        ensures refused { IfErr result (IsNotMade self.now nfa) }
-    {
-        let engine = self.serve(alloc, nfa)?;
-        match Arc::new(alloc, engine) {
-            Ok(shared) => Ok(AhoCorasick {
-                engine: shared,
-                start_kind: self.start_kind,
-            }),
-            Err(_) => Err(BuildError::from(BuildErrorKind::Memory)),
-        }
-    }
-
     /// The automaton of the patterns, which are numbered from 0 in this order. Any bytes will do, also none: an empty pattern occurs
     /// at every place. No two calls depend on each other.
     ///
@@ -373,7 +359,7 @@ impl AhoCorasickBuilder {
     /// Time and memory are in proportion to the bytes of the patterns; for a DFA times the classes of bytes, at most 256. While the
     /// automaton that serves is made, the noncontiguous NFA is held too.
     ///
-    /// A caller: `uses::callers::front::folded`. An example: `uses::examples::build::small`.
+    /// An example: `uses::examples::build::small`.
     pub fn build(&self, alloc: Global, patterns: &[&[u8]]) -> Result<AhoCorasick, BuildError>
         ensures patterns { IfOk result (λ ac. patterns_of ac ≡ bytes_of patterns.now) }
         ensures kind { IfOk result (λ ac. kind_of ac ≡ self.now.match_kind) }
@@ -383,13 +369,25 @@ impl AhoCorasickBuilder {
         ensures refused { IfErr result (IsFrontBuildRefused self.now (bytes_of patterns.now)) }
     {
         let nfa = self.noncontiguous().build(alloc, patterns)?;
-        self.share(alloc, nfa)
+        let engine = self.serve(alloc, nfa)?;
+        let shared = Shared {
+            built: AsBuilt::of(&engine),
+            settings: MadeBy::of(self),
+            engine,
+        };
+        match Arc::new(alloc, shared) {
+            Ok(shared) => Ok(AhoCorasick {
+                shared,
+                start_kind: self.start_kind,
+            }),
+            Err(_) => Err(BuildError::from(BuildErrorKind::Memory)),
+        }
     }
 
     /// The same of patterns of any type that lends its bytes, such as `&str`, `String` or `Vec<u8>`. It allocates 16 bytes for each
     /// pattern first, and releases them after the build.
     ///
-    /// A caller: `uses::callers::front::of_texts`. An example: `uses::examples::build::forgiving`.
+    /// An example: `uses::examples::build::forgiving`.
     pub fn build_from_patterns<P: AsSlice<u8>>(
         &self,
         alloc: Global,
@@ -416,21 +414,19 @@ impl AhoCorasick {
     /// Returns an error if the patterns pass a limit or memory runs out, and costs what [`AhoCorasickBuilder::build`] does. For up to
     /// 100 patterns that is a DFA: see [`AhoCorasickBuilder::kind`].
     ///
-    /// A caller: `uses::callers::front::of_bytes`. An example: `uses::examples::build::which_word`.
+    /// An example: `uses::examples::build::which_word`.
     pub fn new(alloc: Global, patterns: &[&[u8]]) -> Result<AhoCorasick, BuildError>
         ensures patterns { IfOk result (λ ac. patterns_of ac ≡ bytes_of patterns.now) }
         ensures kind { IfOk result (λ ac. kind_of ac ≡ MatchKind.Standard) }
         ensures pairing { IfOk result (λ ac. IsUnpaired (pairing_of ac)) }
         ensures starts { IfOk result (λ ac. start_kind_of ac ≡ StartKind.Unanchored) }
-        ensures served { IfOk result (IsFrontBuiltAtFirst (bytes_of patterns.now)) }
-        ensures refused { IfErr result (IsFrontRefusedAtFirst (bytes_of patterns.now)) }
+        ensures served { IfOk result (IsFrontBuiltByDefault (bytes_of patterns.now)) }
+        ensures refused { IfErr result (IsFrontRefusedByDefault (bytes_of patterns.now)) }
     {
         AhoCorasickBuilder::new().build(alloc, patterns)
     }
 
     /// The same of patterns of any type that lends its bytes: see [`AhoCorasickBuilder::build_from_patterns`].
-    ///
-    /// A caller: `redactor::Redactor::new`.
     pub fn from_patterns<P: AsSlice<u8>>(
         alloc: Global,
         patterns: &[P],
@@ -439,17 +435,17 @@ impl AhoCorasick {
         ensures kind { IfOk result (λ ac. kind_of ac ≡ MatchKind.Standard) }
         ensures pairing { IfOk result (λ ac. IsUnpaired (pairing_of ac)) }
         ensures starts { IfOk result (λ ac. start_kind_of ac ≡ StartKind.Unanchored) }
-        ensures served { IfOk result (IsFrontBuiltAtFirst (map P.items patterns.now)) }
-        ensures refused { IfErr result (IsFrontRefusedAtFirst (map P.items patterns.now)) }
+        ensures served { IfOk result (IsFrontBuiltByDefault (map P.items patterns.now)) }
+        ensures refused { IfErr result (IsFrontRefusedByDefault (map P.items patterns.now)) }
     {
         AhoCorasickBuilder::new().build_from_patterns(alloc, patterns)
     }
 
     /// A builder with the settings that it has at first: those of [`AhoCorasick::new`].
     ///
-    /// A caller: `uses::callers::front::folded`. An example: `uses::examples::build::forgiving`.
+    /// An example: `uses::examples::build::forgiving`.
     pub fn builder() -> AhoCorasickBuilder
-        ensures { AreFrontFirst result }
+        ensures { AreFrontDefaults result }
     {
         AhoCorasickBuilder::new()
     }

@@ -37,7 +37,7 @@ impl AhoCorasick {
     /// // "The slow grey sloth."
     /// ```
     ///
-    /// A caller: `uses::callers::front_replace::replaced_text`. An example: `uses::examples::replace::masked`.
+    /// An example: `uses::examples::replace::masked`.
     pub fn replace_all(
         &self,
         alloc: Global,
@@ -57,7 +57,7 @@ impl AhoCorasick {
 
     /// The same of bytes: there every match is replaced.
     ///
-    /// A caller: `uses::callers::front_replace::replaced_by_itself`. An example: `uses::examples::replace::without`.
+    /// An example: `uses::examples::replace::without`.
     pub fn replace_all_bytes(
         &self,
         alloc: Global,
@@ -79,7 +79,7 @@ impl AhoCorasick {
     /// [`AhoCorasick::try_replace_all_with`], also for what it requires of the closure. It requires a start for unanchored searches,
     /// too.
     ///
-    /// A caller: `uses::callers::front_replace::append_first_replaced`. An example: `uses::examples::replace::bracketed`.
+    /// An example: `uses::examples::replace::bracketed`.
     pub fn replace_all_with<F>(
         &self,
         alloc: Global,
@@ -101,8 +101,6 @@ impl AhoCorasick {
     }
 
     /// The same of bytes: there the closure is called for every match.
-    ///
-    /// A caller: `uses::callers::front_replace::append_matched`.
     pub fn replace_all_with_bytes<F>(
         &self,
         alloc: Global,
@@ -129,7 +127,7 @@ impl AhoCorasick {
     /// It requires one replacement for each pattern: as many as [`patterns_len`](AhoCorasick::patterns_len). Returns
     /// `InvalidInputUnanchored` if the automaton has no start for unanchored searches, and `Memory` if memory runs out.
     ///
-    /// A caller: `uses::callers::front_replace::try_replaced_text`. An example: `uses::examples::replace::replaced`.
+    /// An example: `uses::examples::replace::replaced`.
     pub fn try_replace_all(
         &self,
         alloc: Global,
@@ -146,8 +144,6 @@ impl AhoCorasick {
     }
 
     /// The same of bytes: there every match is replaced.
-    ///
-    /// A caller: `uses::callers::front_replace::try_replaced_by_itself`.
     pub fn try_replace_all_bytes(
         &self,
         alloc: Global,
@@ -174,7 +170,7 @@ impl AhoCorasick {
     /// memory runs out, also in the closure, what was appended stays. The destination grows with the allocator that it was made
     /// with.
     ///
-    /// A caller: `uses::callers::front_replace::try_append_first_replaced`. An example: `uses::examples::replace::marked_up_to`.
+    /// An example: `uses::examples::replace::marked_up_to`.
     pub fn try_replace_all_with<F>(
         &self,
         alloc: Global,
@@ -193,7 +189,7 @@ impl AhoCorasick {
 
     /// The same of bytes: there the closure is called for every match.
     ///
-    /// A caller: `uses::callers::front_replace::try_append_matched`. An example: `uses::examples::replace::numbered`.
+    /// An example: `uses::examples::replace::numbered`.
     pub fn try_replace_all_with_bytes<F>(
         &self,
         alloc: Global,

@@ -5,12 +5,12 @@
 //! The calls with `try_` return an error if the automaton has no start for the input's anchoring, and those for overlapping
 //! matches also if its kind isn't the standard one. The others require that neither is so, and then do the same. None of them
 //! takes memory.
-ghost use Rattle.std.specs.Prelude.{◌≡◌, ◌↔◌, IfOk, IfSome, IsTrue, OnOk};
+ghost use Rattle.std.specs.Prelude.{◌≡◌, ◌↔◌, IfOk, IfSome, IsTrue, OnOk, length, ◌+◌, ◌≤◌};
 ghost use Rattle.ac_automaton.specs.Automaton.{AnswersFind, CostsFind, IsFound, searched};
-ghost use Rattle.ac_automaton.specs.Iter.{AnswersFindIter, AnswersFindIterFrom, IsPlaceIn};
-ghost use Rattle.ac_automaton.specs.Overlapping.{CountsShown, ShowsNext, AnswersOverlapping, IsOverlappingCost, sums_of};
-ghost use Rattle.ac_automaton.specs.OverlappingIter.{AnswersOverlappingIter, rest_of};
-ghost use Rattle.ac_automaton.specs.Items.{AreFewMatches, AreFewForEach, MatchesAreInOrder, EachLiesWithin, FindsWithin, LiesWithin};
+ghost use Rattle.ac_automaton.specs.Iter.{AnswersFindIter, AnswersFindIterFrom, IsPlaceIn, left_of};
+ghost use Rattle.ac_automaton.specs.Overlapping.{CountsShown, ShowsNext, AnswersOverlapping, IsOverlappingCost};
+ghost use Rattle.ac_automaton.specs.Overlapping.OverlappingIter.{AnswersOverlappingIter, rest_of};
+ghost use Rattle.ac_automaton.specs.Items.{AreFewForEach, MatchesAreInOrder, EachLiesWithin, FindsWithin, LiesWithin};
 ghost use Rattle.aho_corasick.specs.AhoCorasick.{as_built, kind_of, supported_by, CameFromCalls, HasOccurrence, IsWalkOver, IsRunOver};
 
 use super::{AhoCorasick, FindIter, FindIterAhead, FindOverlappingIter};
@@ -34,7 +34,7 @@ impl AhoCorasick {
     /// ac.is_match(Input::from("xxx qux xxx")) // false
     /// ```
     ///
-    /// A caller: `uses::callers::front_find::contains_any`. An example: `uses::examples::find::contains_any`.
+    /// An example: `uses::examples::find::contains_any`.
     pub fn is_match(&self, input: Input<'_>) -> bool
         requires { supported_by self.now input.anchored }
         ensures { IsTrue result ↔ HasOccurrence (searched (as_built self.now) input.entry) }
@@ -53,14 +53,13 @@ impl AhoCorasick {
     /// ```
     ///
     /// The match of a text begins and ends between characters if each pattern is UTF-8, none is empty, and no bytes are paired but
-    /// ASCII letters in their two cases: the laws of `ac_input::utf8_laws`. A caller that uses them:
-    /// `uses::callers::texts::matched_text`.
+    /// ASCII letters in their two cases: the laws of `ac_input::utf8_laws`.
     ///
-    /// A caller: `uses::callers::front_find::first_match`. An example: `uses::examples::find::first_text`.
+    /// An example: `uses::examples::find::first_text`.
     pub fn find(&self, input: Input<'_>) -> Option<Match>
         requires { supported_by self.now input.anchored }
         ensures found { IsFound (as_built self.now) input.entry result }
-        ensures within { IfSome result (LiesWithin (as_built self.now) input.entry) }
+        ensures within { IfSome result (LiesWithin (as_built self.now).dictionary input.entry) }
     {
         self.try_find(input).unwrap()
     }
@@ -70,14 +69,14 @@ impl AhoCorasick {
     /// It requires that the start kind has the input's anchoring, and that the kind is the standard one. The state is fresh, or
     /// came only from calls with this automaton and this input. [`AhoCorasick::find_overlapping_iter`] keeps the state itself.
     ///
-    /// A caller: `uses::callers::front_find::occurrence`. An example: `uses::examples::iterate::second`.
+    /// An example: `uses::examples::iterate::second`.
     pub fn find_overlapping(&self, input: Input<'_>, state: &mut OverlappingState)
         requires can { supported_by self.now input.anchored }
         requires standard { kind_of self.now ≡ MatchKind.Standard }
         requires came { CameFromCalls self.now input state.old }
         ensures came { CameFromCalls self.now input.entry state.new }
         ensures shows { ShowsNext (as_built self.now) input.entry state.old state.new }
-        ensures cost { IsOverlappingCost (as_built self.now) input.entry (sums_of state.new) }
+        ensures cost { IsOverlappingCost (as_built self.now) input.entry state.new.sums }
         ensures counted { CountsShown (as_built self.now) input.entry state.new }
     {
         self.try_find_overlapping(input, state).unwrap()
@@ -97,11 +96,11 @@ impl AhoCorasick {
     ///
     /// Where the patterns are texts, no match of a text cuts a character: see [`AhoCorasick::find`].
     ///
-    /// A caller: `uses::callers::front_find::all_matches`. An example: `uses::examples::iterate::places`.
+    /// An example: `uses::examples::iterate::places`.
     pub fn find_iter<'a, 'h>(&'a self, input: Input<'h>) -> FindIter<'a, 'h>
         requires { supported_by self.now input.anchored }
         ensures over { IsWalkOver (as_built self.now) input.entry result }
-        ensures few { AreFewMatches input.entry result }
+        ensures few { length (left_of result) ≤ length input.entry.haystack + 1 }
         ensures lie { MatchesAreInOrder (as_built self.now) input.entry result }
     {
         self.try_find_iter(input).unwrap()
@@ -113,12 +112,10 @@ impl AhoCorasick {
     /// A call may read up to 8 KiB past the match that it returns, over several parts of the text side by side. The iterator takes
     /// some 3 KiB and no other memory. It counts as much as `find_iter`. Where reading ahead can't pay it does as `find_iter`: under
     /// a leftmost kind, with a prefilter or an empty pattern, for an anchored input, and for one of less than 1 KiB.
-    ///
-    /// A caller: `uses::callers::front_find::all_matches_ahead`.
     pub fn find_iter_ahead<'a, 'h>(&'a self, input: Input<'h>) -> FindIterAhead<'a, 'h>
         requires { supported_by self.now input.anchored }
         ensures over { IsWalkOver (as_built self.now) input.entry result }
-        ensures few { AreFewMatches input.entry result }
+        ensures few { length (left_of result) ≤ length input.entry.haystack + 1 }
         ensures lie { MatchesAreInOrder (as_built self.now) input.entry result }
     {
         self.try_find_iter_ahead(input).unwrap()
@@ -132,7 +129,7 @@ impl AhoCorasick {
     /// A call may read up to 8 KiB past the match that it returns, where there is no prefilter and 1 KiB or more is left to be
     /// searched. The iterator takes some 3 KiB and no other memory. [`AhoCorasick::try_find_overlapping`] never reads ahead.
     ///
-    /// A caller: `uses::callers::front_find::all_occurrences`. An example: `uses::examples::iterate::all_patterns`.
+    /// An example: `uses::examples::iterate::all_patterns`.
     pub fn find_overlapping_iter<'a, 'h>(&'a self, input: Input<'h>) -> FindOverlappingIter<'a, 'h>
         requires can { supported_by self.now Anchored.No }
         requires standard { kind_of self.now ≡ MatchKind.Standard }
@@ -148,24 +145,24 @@ impl AhoCorasick {
     ///
     /// Returns `InvalidInputAnchored` or `InvalidInputUnanchored` if the start kind doesn't have the input's anchoring.
     ///
-    /// A caller: `uses::callers::front_find::begins_with_any`. An example: `uses::examples::find::match_at`.
+    /// An example: `uses::examples::find::match_at`.
     pub fn try_find(&self, input: Input<'_>) -> Result<Option<Match>, MatchError>
-        ensures answer { AnswersFind (as_built self.now) (supported_by self.now) input.entry result }
-        ensures within { FindsWithin (as_built self.now) input.entry result }
+        ensures answer { AnswersFind (as_built self.now).dictionary (supported_by self.now) input.entry result }
+        ensures within { FindsWithin (as_built self.now).dictionary input.entry result }
     {
         Automaton::try_find(self, &input)
     }
 
     /// The same, and counts what it does.
     ///
-    /// A caller: `uses::callers::front_find::first_match_counted`. An example: `uses::examples::find::first_end`.
+    /// An example: `uses::examples::find::first_end`.
     pub fn try_find_counted(
         &self,
         input: Input<'_>,
         steps: &mut Steps,
     ) -> Result<Option<Match>, MatchError>
-        ensures answer { AnswersFind (as_built self.now) (supported_by self.now) input.entry result }
-        ensures within { FindsWithin (as_built self.now) input.entry result }
+        ensures answer { AnswersFind (as_built self.now).dictionary (supported_by self.now) input.entry result }
+        ensures within { FindsWithin (as_built self.now).dictionary input.entry result }
         ensures cost { CostsFind (as_built self.now) input.entry steps.old steps.new result }
     {
         Automaton::try_find_counted(self, &input, steps)
@@ -186,7 +183,7 @@ impl AhoCorasick {
     /// let first = state.get_match();
     /// ```
     ///
-    /// A caller: `uses::callers::front_find::first_occurrence`. An example: `uses::examples::iterate::first`.
+    /// An example: `uses::examples::iterate::first`.
     pub fn try_find_overlapping(
         &self,
         input: Input<'_>,
@@ -196,7 +193,7 @@ impl AhoCorasick {
         ensures came { CameFromCalls self.now input.entry state.new }
         ensures answer { AnswersOverlapping (as_built self.now) (supported_by self.now) input.entry
             state.old state.new result }
-        ensures cost { IsOverlappingCost (as_built self.now) input.entry (sums_of state.new) }
+        ensures cost { IsOverlappingCost (as_built self.now) input.entry state.new.sums }
         ensures counted { OnOk result (CountsShown (as_built self.now) input.entry state.new) }
     {
         Automaton::try_find_overlapping(self, &input, state)
@@ -206,11 +203,11 @@ impl AhoCorasick {
     ///
     /// Returns `InvalidInputAnchored` or `InvalidInputUnanchored` if the start kind doesn't have the input's anchoring.
     ///
-    /// A caller: `uses::callers::front_find::count_matches`. An example: `uses::examples::iterate::adjacent`.
+    /// An example: `uses::examples::iterate::adjacent`.
     pub fn try_find_iter<'a, 'h>(&'a self, input: Input<'h>) -> Result<FindIter<'a, 'h>, MatchError>
         ensures answer { AnswersFindIter (as_built self.now) (supported_by self.now) input.entry
             result }
-        ensures few { IfOk result (AreFewMatches input.entry) }
+        ensures few { IfOk result (λ w. length (left_of w) ≤ length input.entry.haystack + 1) }
         ensures lie { IfOk result (MatchesAreInOrder (as_built self.now) input.entry) }
     {
         Automaton::try_find_iter(self, input)
@@ -220,8 +217,6 @@ impl AhoCorasick {
     /// keeps the place and no iterator. The input's own start says nothing.
     ///
     /// Returns `InvalidInputAnchored` or `InvalidInputUnanchored` if the start kind doesn't have the input's anchoring.
-    ///
-    /// A caller: `ac_c::walk::next`.
     pub fn try_find_iter_from<'a, 'h>(
         &'a self,
         input: Input<'h>,
@@ -235,8 +230,6 @@ impl AhoCorasick {
     }
 
     /// The same matches, read ahead: see [`AhoCorasick::find_iter_ahead`].
-    ///
-    /// A caller: `ac_c::walk::some`.
     pub fn try_find_iter_ahead_from<'a, 'h>(
         &'a self,
         input: Input<'h>,
@@ -252,15 +245,13 @@ impl AhoCorasick {
     /// All matches of the input, one after another: see [`AhoCorasick::find_iter_ahead`].
     ///
     /// Returns `InvalidInputAnchored` or `InvalidInputUnanchored` if the start kind doesn't have the input's anchoring.
-    ///
-    /// A caller: `uses::callers::front_find::count_matches_ahead`.
     pub fn try_find_iter_ahead<'a, 'h>(
         &'a self,
         input: Input<'h>,
     ) -> Result<FindIterAhead<'a, 'h>, MatchError>
         ensures answer { AnswersFindIter (as_built self.now) (supported_by self.now) input.entry
             result }
-        ensures few { IfOk result (AreFewMatches input.entry) }
+        ensures few { IfOk result (λ w. length (left_of w) ≤ length input.entry.haystack + 1) }
         ensures lie { IfOk result (MatchesAreInOrder (as_built self.now) input.entry) }
     {
         Automaton::try_find_iter_ahead(self, input)
@@ -270,7 +261,7 @@ impl AhoCorasick {
     ///
     /// Returns an error as [`AhoCorasick::try_find_overlapping`] does, and then `InvalidInputAnchored` if the input is anchored.
     ///
-    /// A caller: `uses::callers::front_find::has_listing`. An example: `uses::examples::iterate::count_all`.
+    /// An example: `uses::examples::iterate::count_all`.
     pub fn try_find_overlapping_iter<'a, 'h>(
         &'a self,
         input: Input<'h>,

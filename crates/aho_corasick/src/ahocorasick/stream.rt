@@ -13,12 +13,11 @@ ghost use Rattle.ac_literal.specs.Packed.{bytes_of};
 ghost use Rattle.ac_automaton.specs.declared.error.StreamError.TheVariants.{Memory};
 ghost use Rattle.ac_automaton.specs.Replace.{IsForMatches};
 ghost use Rattle.ac_automaton.specs.Stream.{AnswersNewAnyKind, CanStream, CanStreamAnyKind};
-ghost use Rattle.ac_automaton.specs.StreamIter.{AnswersAnyKindIter, AnswersStreamIter};
-ghost use Rattle.ac_automaton.specs.StreamOverlappingIter.{AnswersStreamListing};
-ghost use Rattle.ac_automaton.specs.StreamReplace.{AcceptsReplacing, AcceptsReplacingAnyKind, CostsAnyKind, CostsStream, ReplacesStream};
-ghost use Rattle.ac_automaton.specs.StreamReplaceWith.{ReplacesAnyKindWith, ReplacesStreamWith};
-ghost use Rattle.ac_automaton.specs.StreamReplacer.{AnswersReplacer};
-ghost use Rattle.ac_automaton.specs.Watched.{has_ended};
+ghost use Rattle.ac_automaton.specs.Stream.StreamIter.{AnswersAnyKindIter, AnswersStreamIter};
+ghost use Rattle.ac_automaton.specs.Stream.StreamOverlappingIter.{AnswersStreamListing};
+ghost use Rattle.ac_automaton.specs.Stream.StreamReplace.{AcceptsReplacing, AcceptsReplacingAnyKind, CostsStream, ReplacesStream};
+ghost use Rattle.ac_automaton.specs.Stream.StreamReplaceWith.{ReplacesAnyKindWith, ReplacesStreamWith};
+ghost use Rattle.ac_automaton.specs.Stream.StreamReplacer.{AnswersReplacer};
 ghost use Rattle.aho_corasick.specs.AhoCorasick.{as_built, supported_by, pattern_count};
 ghost use Rattle.aho_corasick.specs.Streamed.{IsStreamOver, IsStreamReplaced};
 
@@ -48,13 +47,13 @@ impl AhoCorasick {
     /// It requires that the reader has not ended, that the start kind has unanchored searches, that the kind is the standard one, and
     /// that no pattern is empty. Returns an error only if memory runs out.
     ///
-    /// A caller: `uses::callers::front_stream::search_of`. An example: `uses::examples::streams::matches_of`.
+    /// An example: `uses::examples::streams::matches_of`.
     pub fn stream_find_iter<'a, R>(
         &'a self,
         alloc: Global,
         reader: &'a mut Watched<R>,
     ) -> Result<StreamFindIter<'a, R>, AllocError>
-        requires open { has_ended reader.old ≡ false }
+        requires open { reader.old.ended ≡ false }
         requires can { CanStream (as_built self.now) (supported_by self.now) }
         ensures { IfOk result (IsStreamOver (as_built self.now) reader.entry) }
     {
@@ -70,13 +69,13 @@ impl AhoCorasick {
     /// Returns an error if the automaton has no start for an unanchored search, isn't of the standard kind, or has an empty
     /// pattern, checked in that order, and then if there is no memory for the buffer. Nothing was read then.
     ///
-    /// A caller: `uses::callers::front_stream::all_matches`. An example: `uses::examples::streams::places`.
+    /// An example: `uses::examples::streams::places`.
     pub fn try_stream_find_iter<'a, R>(
         &'a self,
         alloc: Global,
         reader: &'a mut Watched<R>,
     ) -> Result<StreamFindIter<'a, R>, StreamError>
-        requires { has_ended reader.old ≡ false }
+        requires { reader.old.ended ≡ false }
         ensures { AnswersStreamIter (as_built self.now) (supported_by self.now) reader.entry
             result }
     {
@@ -90,14 +89,12 @@ impl AhoCorasick {
     ///
     /// Returns an error if the automaton has no start for an unanchored search, isn't of the standard kind, or has an empty
     /// pattern, checked in that order, and then if there is no memory for the buffer. Nothing was read then.
-    ///
-    /// A caller: `uses::callers::stream_overlap::of_front`.
     pub fn try_stream_find_overlapping_iter<'a, R>(
         &'a self,
         alloc: Global,
         reader: &'a mut Watched<R>,
     ) -> Result<StreamFindOverlappingIter<'a, R>, StreamError>
-        requires { has_ended reader.old ≡ false }
+        requires { reader.old.ended ≡ false }
         ensures { AnswersStreamListing (as_built self.now) (supported_by self.now) reader.entry
             result }
     {
@@ -114,7 +111,7 @@ impl AhoCorasick {
     /// Returns an error where [`AhoCorasick::try_stream_find_iter`] does; the reader and the writer are then unchanged. Where a
     /// read or a write fails, nothing is tried again.
     ///
-    /// A caller: `uses::callers::front_stream::replaced`. An example: `uses::examples::streams::masked`.
+    /// An example: `uses::examples::streams::masked`.
     pub fn try_stream_replace_all<R: Read, W: Write>(
         &self,
         alloc: Global,
@@ -122,7 +119,7 @@ impl AhoCorasick {
         writer: &mut Watched<W>,
         replacements: &[&[u8]],
     ) -> Result<(), StreamError>
-        requires open { has_ended reader.old ≡ false }
+        requires open { reader.old.ended ≡ false }
         requires one_each { length replacements.now ≡ pattern_count self.now }
         ensures replaced { OnOk result (IsStreamReplaced R.remaining W.contents self.now
             (bytes_of replacements.now) reader.old reader.new writer.old writer.new) }
@@ -135,8 +132,6 @@ impl AhoCorasick {
     }
 
     /// The same, and counts what it does.
-    ///
-    /// A caller: `uses::callers::front_stream::replaced_counted`.
     pub fn try_stream_replace_all_counted<R: Read, W: Write>(
         &self,
         alloc: Global,
@@ -145,7 +140,7 @@ impl AhoCorasick {
         replacements: &[&[u8]],
         steps: &mut Steps,
     ) -> Result<(), StreamError>
-        requires open { has_ended reader.old ≡ false }
+        requires open { reader.old.ended ≡ false }
         requires one_each { length replacements.now ≡ pattern_count self.now }
         ensures replaced { OnOk result (IsStreamReplaced R.remaining W.contents self.now
             (bytes_of replacements.now) reader.old reader.new writer.old writer.new) }
@@ -168,7 +163,7 @@ impl AhoCorasick {
     /// It reads, writes and fails as [`AhoCorasick::try_stream_replace_all`] does. The closure's first error ends the call and is
     /// returned unchanged.
     ///
-    /// A caller: `uses::callers::front_stream::copied`. An example: `uses::examples::streams::bracketed`.
+    /// An example: `uses::examples::streams::bracketed`.
     pub fn try_stream_replace_all_with<R: Read, W: Write, F>(
         &self,
         alloc: Global,
@@ -178,7 +173,7 @@ impl AhoCorasick {
     ) -> Result<(), StreamError>
     where
         F: FnMut(&Match, &[u8], &mut Watched<W>) -> Result<(), StreamError>,
-        requires open { has_ended reader.old ≡ false }
+        requires open { reader.old.ended ≡ false }
         requires ready { IsForMatches F.FnMut (pattern_count self.now) replace_with }
         ensures { ReplacesStreamWith W.contents F.FnMut R.remaining (as_built self.now)
             (supported_by self.now) replace_with reader.old reader.new writer.old writer.new result }
@@ -190,14 +185,12 @@ impl AhoCorasick {
     ///
     /// It requires that the reader has not ended, that the start kind has unanchored searches, and that no pattern is empty. Returns
     /// an error only if memory runs out.
-    ///
-    /// A caller: `uses::callers::any_kind::search_of`.
     pub fn stream_find_iter_any_kind<'a, R>(
         &'a self,
         alloc: Global,
         reader: &'a mut Watched<R>,
     ) -> Result<StreamFindIter<'a, R>, AllocError>
-        requires open { has_ended reader.old ≡ false }
+        requires open { reader.old.ended ≡ false }
         requires can { CanStreamAnyKind (as_built self.now) (supported_by self.now) }
         ensures { IfOk result (IsStreamOver (as_built self.now) reader.entry) }
     {
@@ -216,14 +209,12 @@ impl AhoCorasick {
     ///
     /// Returns an error if the automaton has no start for an unanchored search, or has an empty pattern, checked in that order, and
     /// then if there is no memory for the buffer. Nothing was read then.
-    ///
-    /// A caller: `uses::callers::any_kind::all_matches`.
     pub fn try_stream_find_iter_any_kind<'a, R>(
         &'a self,
         alloc: Global,
         reader: &'a mut Watched<R>,
     ) -> Result<StreamFindIter<'a, R>, StreamError>
-        requires { has_ended reader.old ≡ false }
+        requires { reader.old.ended ≡ false }
         ensures { AnswersAnyKindIter (as_built self.now) (supported_by self.now) reader.entry
             result }
     {
@@ -269,7 +260,7 @@ impl AhoCorasick {
     /// It takes, reads, writes and fails as [`AhoCorasick::try_stream_replace_all`] does, but is an error only where
     /// [`AhoCorasick::try_stream_find_iter_any_kind`] is.
     ///
-    /// A caller: `uses::callers::any_kind::replaced`. An example: `uses::examples::streams::longest_masked`.
+    /// An example: `uses::examples::streams::longest_masked`.
     pub fn try_stream_replace_all_any_kind<R: Read, W: Write>(
         &self,
         alloc: Global,
@@ -277,7 +268,7 @@ impl AhoCorasick {
         writer: &mut Watched<W>,
         replacements: &[&[u8]],
     ) -> Result<(), StreamError>
-        requires open { has_ended reader.old ≡ false }
+        requires open { reader.old.ended ≡ false }
         requires one_each { length replacements.now ≡ pattern_count self.now }
         ensures replaced { OnOk result (IsStreamReplaced R.remaining W.contents self.now
             (bytes_of replacements.now) reader.old reader.new writer.old writer.new) }
@@ -290,8 +281,6 @@ impl AhoCorasick {
     }
 
     /// The same, and counts what it does.
-    ///
-    /// A caller: `uses::callers::any_kind::replaced_counted`.
     pub fn try_stream_replace_all_any_kind_counted<R: Read, W: Write>(
         &self,
         alloc: Global,
@@ -300,7 +289,7 @@ impl AhoCorasick {
         replacements: &[&[u8]],
         steps: &mut Steps,
     ) -> Result<(), StreamError>
-        requires open { has_ended reader.old ≡ false }
+        requires open { reader.old.ended ≡ false }
         requires one_each { length replacements.now ≡ pattern_count self.now }
         ensures replaced { OnOk result (IsStreamReplaced R.remaining W.contents self.now
             (bytes_of replacements.now) reader.old reader.new writer.old writer.new) }
@@ -308,7 +297,7 @@ impl AhoCorasick {
             (bytes_of replacements.now) reader.old reader.new writer.old writer.new result }
         ensures accepted { AcceptsReplacingAnyKind (as_built self.now) (supported_by self.now)
             reader.old reader.new writer.old writer.new result }
-        ensures cost { CostsAnyKind (as_built self.now) reader.old reader.new
+        ensures cost { CostsStream (as_built self.now) reader.old reader.new
             steps.old steps.new result }
     {
         Automaton::try_stream_replace_all_any_kind_counted(
@@ -326,8 +315,6 @@ impl AhoCorasick {
     ///
     /// It reads, writes and fails as [`AhoCorasick::try_stream_replace_all_any_kind`] does. The closure's first error ends the call
     /// and is returned unchanged.
-    ///
-    /// A caller: `uses::callers::any_kind::copied`.
     pub fn try_stream_replace_all_any_kind_with<R: Read, W: Write, F>(
         &self,
         alloc: Global,
@@ -337,7 +324,7 @@ impl AhoCorasick {
     ) -> Result<(), StreamError>
     where
         F: FnMut(&Match, &[u8], &mut Watched<W>) -> Result<(), StreamError>,
-        requires open { has_ended reader.old ≡ false }
+        requires open { reader.old.ended ≡ false }
         requires ready { IsForMatches F.FnMut (pattern_count self.now) replace_with }
         ensures { ReplacesAnyKindWith W.contents F.FnMut R.remaining (as_built self.now)
             (supported_by self.now) replace_with reader.old reader.new writer.old writer.new result }

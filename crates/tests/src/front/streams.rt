@@ -1,7 +1,6 @@
 //! Streams by the front's own calls: what is found, what is written, and what is an error before the first read.
 ghost use Rattle.std.specs.Prelude.{◌≡◌, false};
 ghost use Rattle.ac_automaton.specs.Stream.{CanStream, CanStreamAnyKind};
-ghost use Rattle.ac_automaton.specs.Watched.{has_ended};
 ghost use Rattle.aho_corasick.specs.AhoCorasick.{as_built, supported_by};
 
 use super::{OwnCase, each_own};
@@ -70,7 +69,7 @@ fn write_numbers<R: Read, W: Write>(
     reader: &mut Watched<R>,
     writer: &mut Watched<W>,
 ) -> Result<(), StreamError>
-    requires { has_ended reader.old ≡ false }
+    requires { reader.old.ended ≡ false }
 {
     ac.try_stream_replace_all_with(
         alloc,
@@ -90,7 +89,7 @@ fn write_numbers_of_any_kind<R: Read, W: Write>(
     reader: &mut Watched<R>,
     writer: &mut Watched<W>,
 ) -> Result<(), StreamError>
-    requires { has_ended reader.old ≡ false }
+    requires { reader.old.ended ≡ false }
 {
     ac.try_stream_replace_all_any_kind_with(
         alloc,
@@ -294,7 +293,7 @@ fn try_stream<'a, R: Read>(
     ac: &'a AhoCorasick,
     reader: &'a mut Watched<R>,
 ) -> Result<(), StreamError>
-    requires { has_ended reader.old ≡ false }
+    requires { reader.old.ended ≡ false }
 {
     ac.try_stream_find_iter(alloc, reader)?;
     Ok(())

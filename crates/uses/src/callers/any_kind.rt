@@ -2,9 +2,8 @@
 ghost use Rattle.std.specs.Prelude.{◌≡◌, ◌++◌, [], false, length, IfOk, OnOk};
 ghost use Rattle.ac_automaton.specs.Replace.{matches_in};
 ghost use Rattle.ac_automaton.specs.Stream.{CanStreamAnyKind, read_by};
-ghost use Rattle.ac_automaton.specs.StreamIter.{progress_of};
-ghost use Rattle.ac_automaton.specs.StreamReplace.{IsAnyKindCost};
-ghost use Rattle.ac_automaton.specs.Watched.{has_ended, inner_of};
+ghost use Rattle.ac_automaton.specs.Stream.StreamIter.{progress_of};
+ghost use Rattle.ac_automaton.specs.Stream.StreamReplace.{IsStreamCost};
 ghost use Rattle.aho_corasick.specs.AhoCorasick.{as_built, supported_by, pattern_count};
 ghost use Rattle.uses.specs.Callers.{WritesReplaced};
 
@@ -19,7 +18,7 @@ pub fn search_of<'a, R>(
     alloc: Global,
     reader: &'a mut Watched<R>,
 ) -> Result<StreamFindIter<'a, R>, AllocError>
-    requires open { has_ended reader.old ≡ false }
+    requires open { reader.old.ended ≡ false }
     requires can { CanStreamAnyKind (as_built ac.now) (supported_by ac.now) }
     ensures { IfOk result (λ matches. read_by (progress_of matches) ≡ []) }
 {
@@ -66,7 +65,7 @@ pub fn replaced_counted(
     steps: &mut Steps,
 ) -> Result<(), StreamError>
     requires { length replacements.now ≡ pattern_count ac.now }
-    ensures { OnOk result (IsAnyKindCost (as_built ac.now) (length text.now)
+    ensures { OnOk result (IsStreamCost (as_built ac.now) (length text.now)
         (length (matches_in (as_built ac.now) text.now)) steps.old steps.new) }
 {
     let mut reader = Watched::new(text);
@@ -80,8 +79,8 @@ pub fn copied(
     text: &[u8],
     writer: &mut Watched<Vec<u8>>,
 ) -> Result<(), StreamError>
-    ensures { OnOk result ((inner_of writer.new).items
-        ≡ (inner_of writer.old).items ++ text.now) }
+    ensures { OnOk result (writer.new.inner.items
+        ≡ writer.old.inner.items ++ text.now) }
 {
     let mut reader = Watched::new(text);
     ac.try_stream_replace_all_any_kind_with(alloc, &mut reader, writer, |_, matched, writer| {

@@ -2,7 +2,7 @@
 ghost use Rattle.std.specs.Prelude.{◌≡◌, ◌↔◌, IfOk, IfErr, IsTrue};
 ghost use Rattle.ac_input.specs.Dictionary.{Dictionary};
 ghost use Rattle.ac_literal.specs.Packed.{bytes_of};
-ghost use Rattle.ac_noncontiguous.specs.Reads.{built_as};
+ghost use Rattle.ac_noncontiguous.specs.Nfa.Reads.{built_as};
 ghost use Rattle.ac_noncontiguous.specs.declared.error.BuildErrorKind.TheVariants.{Memory};
 ghost use Rattle.aho_corasick.specs.Callers.{FindsBytes, FindsFolded, IsPlain, OccursIn};
 

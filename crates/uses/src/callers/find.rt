@@ -3,7 +3,6 @@ ghost use Rattle.std.specs.Prelude.{◌≡◌, ◌↔◌, ◌+◌, ◌-◌, ◌*
 ghost use Rattle.ac_input.specs.declared.search.MatchKind.TheVariants.{Standard};
 ghost use Rattle.ac_input.specs.Dictionary.{whole};
 ghost use Rattle.ac_input.specs.Input.{IsSpanOf};
-ghost use Rattle.ac_input.specs.Steps.{looked_of};
 ghost use Rattle.aho_corasick.specs.Callers.{BeginsWithPattern, IsFirstEnd, IsMostBytes, OccursIn, first_in};
 ghost use Rattle.uses.specs.Callers.{LiesIn};
 
@@ -75,9 +74,9 @@ pub fn first_match_counted<A: Search>(
     steps: &mut Steps,
 ) -> Option<Match>
     requires { A.supports automaton.now Anchored.No }
-    ensures linear { looked_of steps.new ≤ looked_of steps.old + 2 * length text.now }
+    ensures linear { steps.new.looked.value ≤ steps.old.looked.value + 2 * length text.now }
     ensures early { (A.built automaton.now).dictionary.kind ≡ Standard
-        → IfSome result (λ o. looked_of steps.new ≤ looked_of steps.old + 2 * o.end) }
+        → IfSome result (λ o. steps.new.looked.value ≤ steps.old.looked.value + 2 * o.end) }
 {
     automaton
         .try_find_counted(&Input::new(text), steps)

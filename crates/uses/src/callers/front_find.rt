@@ -5,7 +5,6 @@ ghost use Rattle.ac_input.specs.Dictionary.{whole};
 ghost use Rattle.ac_input.specs.Input.{whole_of};
 ghost use Rattle.ac_input.specs.Listing.{IsListing};
 ghost use Rattle.ac_input.specs.Same.{IsUnpaired};
-ghost use Rattle.ac_input.specs.Steps.{looked_of};
 ghost use Rattle.ac_literal.specs.Packed.{search_kind};
 ghost use Rattle.ac_automaton.specs.Automaton.{listing_in};
 ghost use Rattle.ac_automaton.specs.Replace.{matches_in};
@@ -50,7 +49,7 @@ pub fn first_match_counted(
     text: &[u8],
     steps: &mut Steps,
 ) -> Result<Option<Match>, MatchError>
-    ensures { IfOk result (λ found. looked_of steps.new ≤ looked_of steps.old + 2 * length text.now) }
+    ensures { IfOk result (λ found. steps.new.looked.value ≤ steps.old.looked.value + 2 * length text.now) }
 {
     ac.try_find_counted(Input::new(text), steps)
 }

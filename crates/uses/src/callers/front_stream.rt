@@ -1,10 +1,8 @@
 //! The front: streams. Readers and writers here are slices and `Vec`s, whose bytes a contract can name.
 ghost use Rattle.std.specs.Prelude.{◌≡◌, ◌+◌, ◌*◌, ◌≤◌, ◌++◌, [], false, length, IfOk, OnOk};
-ghost use Rattle.ac_input.specs.Steps.{looked_of};
 ghost use Rattle.ac_automaton.specs.Replace.{matches_in};
 ghost use Rattle.ac_automaton.specs.Stream.{CanStream, read_by};
-ghost use Rattle.ac_automaton.specs.StreamIter.{progress_of};
-ghost use Rattle.ac_automaton.specs.Watched.{has_ended, inner_of};
+ghost use Rattle.ac_automaton.specs.Stream.StreamIter.{progress_of};
 ghost use Rattle.aho_corasick.specs.AhoCorasick.{as_built, supported_by, pattern_count};
 ghost use Rattle.uses.specs.Callers.{WritesReplaced};
 
@@ -19,7 +17,7 @@ pub fn search_of<'a, R>(
     alloc: Global,
     reader: &'a mut Watched<R>,
 ) -> Result<StreamFindIter<'a, R>, AllocError>
-    requires open { has_ended reader.old ≡ false }
+    requires open { reader.old.ended ≡ false }
     requires can { CanStream (as_built ac.now) (supported_by ac.now) }
     ensures { IfOk result (λ matches. read_by (progress_of matches) ≡ []) }
 {
@@ -66,7 +64,7 @@ pub fn replaced_counted(
     steps: &mut Steps,
 ) -> Result<(), StreamError>
     requires { length replacements.now ≡ pattern_count ac.now }
-    ensures { looked_of steps.new ≤ looked_of steps.old + 2 * length text.now }
+    ensures { steps.new.looked.value ≤ steps.old.looked.value + 2 * length text.now }
 {
     let mut reader = Watched::new(text);
     ac.try_stream_replace_all_counted(alloc, &mut reader, writer, replacements, steps)
@@ -79,8 +77,8 @@ pub fn copied(
     text: &[u8],
     writer: &mut Watched<Vec<u8>>,
 ) -> Result<(), StreamError>
-    ensures { OnOk result ((inner_of writer.new).items
-        ≡ (inner_of writer.old).items ++ text.now) }
+    ensures { OnOk result (writer.new.inner.items
+        ≡ writer.old.inner.items ++ text.now) }
 {
     let mut reader = Watched::new(text);
     ac.try_stream_replace_all_with(alloc, &mut reader, writer, |_, matched, writer| {

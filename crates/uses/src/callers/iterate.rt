@@ -1,7 +1,6 @@
 //! Going over all matches.
 ghost use Rattle.std.specs.Prelude.{◌≡◌, ◌+◌, ◌*◌, ◌≤◌, length, IfOk};
 ghost use Rattle.ac_input.specs.declared.search.MatchKind.TheVariants.{Standard};
-ghost use Rattle.ac_input.specs.Steps.{looked_of};
 ghost use Rattle.ac_automaton.specs.Replace.{matches_in};
 ghost use Rattle.uses.specs.Callers.{bytes_in};
 
@@ -67,7 +66,7 @@ pub fn bytes_matched<A: Search>(automaton: &A, text: &[u8]) -> Result<usize, Mat
 pub fn pass_matches<A: Search>(automaton: &A, text: &[u8], steps: &mut Steps)
     requires supports { A.supports automaton.now Anchored.No }
     requires standard { (A.built automaton.now).dictionary.kind ≡ Standard }
-    ensures { looked_of steps.new ≤ looked_of steps.old + 2 * length text.now }
+    ensures { steps.new.looked.value ≤ steps.old.looked.value + 2 * length text.now }
 {
     let mut matches = automaton.try_find_iter(Input::new(text)).unwrap();
     while let Some(_) = matches.next_counted(steps) {}
@@ -77,7 +76,7 @@ pub fn pass_matches<A: Search>(automaton: &A, text: &[u8], steps: &mut Steps)
 pub fn pass_matches_ahead<A: Search>(automaton: &A, text: &[u8], steps: &mut Steps)
     requires supports { A.supports automaton.now Anchored.No }
     requires standard { (A.built automaton.now).dictionary.kind ≡ Standard }
-    ensures { looked_of steps.new ≤ looked_of steps.old + 2 * length text.now }
+    ensures { steps.new.looked.value ≤ steps.old.looked.value + 2 * length text.now }
 {
     let mut matches = automaton.try_find_iter_ahead(Input::new(text)).unwrap();
     while let Some(_) = matches.next_counted(steps) {}

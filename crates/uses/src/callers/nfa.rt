@@ -2,12 +2,12 @@
 ghost use Rattle.std.specs.Prelude.{◌≡◌, ◌+◌, ◌-◌, ◌*◌, ◌<◌, [], length, get_or, IfOk, IfSome, IsTrue};
 ghost use Rattle.ac_automaton.specs.Automaton.{IsReached};
 ghost use Rattle.ac_input.specs.declared.search.Anchored.TheVariants.{Yes};
-ghost use Rattle.ac_input.specs.Classes.{BytesLeadAlike};
+ghost use Rattle.ac_input.specs.Alphabet.Classes.{BytesLeadAlike};
 ghost use Rattle.ac_input.specs.Same.{other};
 ghost use Rattle.ac_input.specs.Work.{longest, shortest};
 ghost use Rattle.ac_noncontiguous.specs.Nfa.{InOneRun};
-ghost use Rattle.ac_noncontiguous.specs.Reads.{IsRead, built_as};
-ghost use Rattle.ac_noncontiguous.specs.ReadCalls.{MayBeMet, fail_in, special_in, state_len};
+ghost use Rattle.ac_noncontiguous.specs.Nfa.Reads.{IsRead, built_as};
+ghost use Rattle.ac_noncontiguous.specs.Nfa.ReadCalls.{MayBeMet, fail_in, special_in, state_len};
 
 use ac_input::primitives::{PatternID, StateID};
 use ac_input::search::Anchored;

@@ -2,7 +2,6 @@
 //! the front alone.
 ghost use Rattle.std.specs.Prelude.{◌≡◌, ◌≤◌, false, length, IfOk};
 ghost use Rattle.aho_corasick.specs.AhoCorasick.{kind_of, pattern_count, patterns_of, start_kind_of, supported_by};
-ghost use Rattle.aho_corasick.specs.Watched.{has_ended};
 ghost use Rattle.aho_corasick.specs.Work.{shortest};
 ghost use Rattle.aho_corasick.specs.declared.MatchKind.TheVariants.{Standard};
 ghost use Rattle.aho_corasick.specs.declared.StartKind.TheVariants.{Unanchored};
@@ -85,7 +84,7 @@ impl Owner {
         alloc: Global,
         reader: &'a mut Watched<R>,
     ) -> Result<StreamFindIter<'a, R>, AllocError>
-        requires { has_ended reader.old ≡ false }
+        requires { reader.old.ended ≡ false }
     {
         self.ac.stream_find_iter(alloc, reader)
     }

@@ -5,7 +5,6 @@ ghost use Rattle.ac_input.specs.Computed.{best_of};
 ghost use Rattle.ac_input.specs.Dictionary.{whole};
 ghost use Rattle.ac_input.specs.Pairing.{IsFolded};
 ghost use Rattle.ac_input.specs.Same.{IsUnpaired};
-ghost use Rattle.ac_input.specs.Steps.{scanned_of};
 ghost use Rattle.ac_input.specs.Work.{shortest};
 ghost use Rattle.ac_literal.specs.Packed.{AreServed, added, added_all, bytes_of, in_whole, leftmost_first, matches_of, search_kind};
 ghost use Rattle.uses.specs.Callers.{IsSkip, LiesIn};
@@ -182,7 +181,7 @@ pub fn own_skip<A: Automaton>(automaton: &A, text: &[u8]) -> Option<usize>
 
 /// Asks a prefilter, which scans for a byte at no place twice.
 pub fn ask_counted(prefilter: &Prefilter, text: &[u8], steps: &mut Steps) -> Candidate
-    ensures { scanned_of steps.new ≤ scanned_of steps.old + length text.now }
+    ensures { steps.new.scanned.value ≤ steps.old.scanned.value + length text.now }
 {
     let span = Span {
         start: 0,

@@ -3,7 +3,6 @@
 //! These have no `ensures` and no proof file. The check proves that each indexes within bounds, that no sum wraps and that each
 //! loop ends: from the clauses `within`, `few` and `lie` of the calls, and from how many items of a stream are left.
 ghost use Rattle.std.specs.Prelude.{◌≡◌, false, length};
-ghost use Rattle.ac_automaton.specs.Watched.{has_ended};
 
 use ac_automaton::error::{MatchError, ReplaceError, StreamError};
 use ac_automaton::search::Search;
@@ -101,7 +100,7 @@ pub fn places_in_stream<A: Search, R: Read>(
     alloc: Global,
     reader: &mut Watched<R>,
 ) -> Result<Vec<usize>, StreamError>
-    requires { has_ended reader.old ≡ false }
+    requires { reader.old.ended ≡ false }
 {
     let mut places = Vec::new(alloc);
     for found in automaton.try_stream_find_iter(alloc, reader)? {
@@ -117,7 +116,7 @@ pub fn count_in_stream<A: Search, R: Read>(
     alloc: Global,
     reader: &mut Watched<R>,
 ) -> Result<usize, StreamError>
-    requires { has_ended reader.old ≡ false }
+    requires { reader.old.ended ≡ false }
 {
     let mut count = 0usize;
     for found in automaton.try_stream_find_iter(alloc, reader)? {
@@ -133,7 +132,7 @@ pub fn matches_in_stream<A: Search, R: Read>(
     alloc: Global,
     reader: &mut Watched<R>,
 ) -> Result<Vec<Match>, StreamError>
-    requires { has_ended reader.old ≡ false }
+    requires { reader.old.ended ≡ false }
 {
     automaton
         .try_stream_find_iter(alloc, reader)?

@@ -1,5 +1,5 @@
 //! The front: streams whose pieces are pushed. However a text is cut into pieces, its matches come out.
-ghost use Rattle.std.specs.Prelude.{◌≡◌, ◌++◌, false, map, IfOk};
+ghost use Rattle.std.specs.Prelude.{◌≡◌, false, map, IfOk};
 ghost use Rattle.std.specs.List.{concat};
 ghost use Rattle.ac_automaton.specs.Replace.{matches_in};
 ghost use Rattle.ac_automaton.specs.Stream.{CanBeCounted, read_by};

@@ -2,10 +2,9 @@
 ghost use Rattle.std.specs.Prelude.{◌≡◌, ◌↔◌, ◌+◌, ◌<◌, true, false, length, IfNone, IfOk, IfSome, IsTrue};
 ghost use Rattle.ac_input.specs.declared.search.MatchKind.TheVariants.{Standard};
 ghost use Rattle.ac_input.specs.Dictionary.{whole};
-ghost use Rattle.ac_input.specs.Steps.{looked_of};
 ghost use Rattle.ac_automaton.specs.Automaton.{IsDead, IsReached, IsState, PassesPlain};
 ghost use Rattle.ac_automaton.specs.Stream.{NothingIsLive};
-ghost use Rattle.ac_noncontiguous.specs.ReadCalls.{EdgesLeadIn, edges_in, state_len};
+ghost use Rattle.ac_noncontiguous.specs.Nfa.ReadCalls.{edges_in, state_len, AreEdges};
 ghost use Rattle.aho_corasick.specs.Callers.{EndsWithPattern, IsFirstEnd};
 
 use ac_automaton::automaton::Automaton;
@@ -84,7 +83,7 @@ pub fn next_by_one_look<A: Automaton>(
 ) -> StateID
     requires reached { IsReached (A.Reaches automaton.now anchored) sid }
     requires deterministic { (A.built automaton.now).deterministic ≡ true }
-    ensures { looked_of steps.new ≡ looked_of steps.old + 1 }
+    ensures { steps.new.looked.value ≡ steps.old.looked.value + 1 }
 {
     automaton.next_state_counted(anchored, sid, byte, steps)
 }
@@ -141,7 +140,7 @@ pub fn count_by_both(nfa: &NFA, sid: StateID) -> (usize, usize)
 pub fn transitions(nfa: &NFA, alloc: Global, sid: StateID) -> Result<Vec<(u8, StateID)>, AllocError>
     requires { sid < state_len nfa.now }
     ensures value { IfOk result (λ v. v.items ≡ edges_in nfa.now sid) }
-    ensures lead { EdgesLeadIn nfa.now sid }
+    ensures lead { AreEdges nfa.now sid (edges_in nfa.now sid) }
 {
     nfa.iter_trans(sid).collect(alloc)
 }

@@ -2,11 +2,9 @@
 ghost use Rattle.std.specs.Prelude.{◌≡◌, ◌↔◌, ◌+◌, ◌*◌, ◌<◌, ◌≤◌, ◌++◌, false, length, map, take, IfOk, IfSome, IsTrue, OnOk};
 ghost use Rattle.std.specs.List.{concat};
 ghost use Rattle.ac_input.specs.declared.search.MatchKind.TheVariants.{Standard};
-ghost use Rattle.ac_input.specs.Steps.{looked_of};
 ghost use Rattle.ac_automaton.specs.Replace.{matches_in};
 ghost use Rattle.ac_automaton.specs.Stream.{AreAllGiven, CanBeCounted, read_by};
-ghost use Rattle.ac_automaton.specs.StreamIter.{progress_of, reader_name, reader_of};
-ghost use Rattle.ac_automaton.specs.Watched.{failures_of, has_ended, inner_of};
+ghost use Rattle.ac_automaton.specs.Stream.StreamIter.{progress_of, reader_name, reader_of};
 ghost use Rattle.uses.specs.Callers.{WritesReplaced};
 
 use ac_automaton::error::StreamError;
@@ -42,10 +40,10 @@ pub fn all_matches<A: Search>(
 pub fn next_match<A: Search, R: Read>(
     matches: &mut StreamFindIter<'_, A, R>,
 ) -> Result<Option<Match>, StreamError>
-    requires unended { has_ended (reader_of matches.old) ≡ false }
+    requires unended { (reader_of matches.old).ended ≡ false }
     requires standard { (progress_of matches.old).built.dictionary.kind ≡ Standard }
     ensures open { IfOk result
-        (λ it. IfSome it (λ o. has_ended (reader_of matches.new) ≡ false)) }
+        (λ it. IfSome it (λ o. (reader_of matches.new).ended ≡ false)) }
     ensures same_reference { reader_name matches.new ≡ reader_name matches.old }
 {
     match matches.next_counted(&mut Steps::new()) {
@@ -61,8 +59,8 @@ pub fn first_match<A: Search, R: Read>(
     automaton: &A,
     alloc: Global,
 ) -> Result<Option<Match>, StreamError>
-    requires { has_ended reader.old ≡ false }
-    ensures { IfOk result (λ found. IfSome found (λ o. has_ended reader.new ≡ false)) }
+    requires { reader.old.ended ≡ false }
+    ensures { IfOk result (λ found. IfSome found (λ o. reader.new.ended ≡ false)) }
 {
     let mut matches = stream_find_iter(reader, automaton, alloc)?;
     let first = next_match(&mut matches);
@@ -105,7 +103,7 @@ pub fn replaced_counted<A: Search>(
     steps: &mut Steps,
 ) -> Result<(), StreamError>
     requires { length replacements.now ≡ length (A.built automaton.now).dictionary.patterns }
-    ensures { looked_of steps.new ≤ looked_of steps.old + 2 * length text.now }
+    ensures { steps.new.looked.value ≤ steps.old.looked.value + 2 * length text.now }
 {
     let mut reader = Watched::new(text);
     automaton.try_stream_replace_all_counted(alloc, &mut reader, writer, replacements, steps)
@@ -118,8 +116,8 @@ pub fn copied<A: Search>(
     text: &[u8],
     writer: &mut Watched<Vec<u8>>,
 ) -> Result<(), StreamError>
-    ensures { OnOk result ((inner_of writer.new).items
-        ≡ (inner_of writer.old).items ++ text.now) }
+    ensures { OnOk result (writer.new.inner.items
+        ≡ writer.old.inner.items ++ text.now) }
 {
     let mut reader = Watched::new(text);
     automaton.try_stream_replace_all_with(alloc, &mut reader, writer, |_, matched, writer| {
@@ -137,7 +135,7 @@ pub fn read_front(text: &[u8], buffer: &mut [u8]) -> io::Result<usize>
 
 /// Whether all the bytes could be written: where no call of the writer failed.
 pub fn is_written<W: Write>(writer: &mut Watched<W>, bytes: &[u8]) -> bool
-    ensures { IsTrue result ↔ (failures_of writer.new ≡ failures_of writer.old) }
+    ensures { IsTrue result ↔ (writer.new.failures.value ≡ writer.old.failures.value) }
 {
     write_whole(writer, bytes).is_ok()
 }

@@ -1,9 +1,8 @@
 //! Every occurrence in a stream. Readers here are slices, whose bytes a contract can name.
 ghost use Rattle.std.specs.Prelude.{◌≡◌, false, IfOk, IfSome};
 ghost use Rattle.ac_automaton.specs.Stream.{CanBeCounted};
-ghost use Rattle.ac_automaton.specs.StreamListing.{IsAllListed, all_read, occurrences_in};
-ghost use Rattle.ac_automaton.specs.StreamOverlappingIter.{listing_of_stream, reader_listed, reader_listed_name};
-ghost use Rattle.ac_automaton.specs.Watched.{has_ended};
+ghost use Rattle.ac_automaton.specs.Stream.StreamListing.{IsAllListed, all_read, occurrences_in};
+ghost use Rattle.ac_automaton.specs.Stream.StreamOverlappingIter.{listing_of_stream, reader_listed, reader_listed_name};
 ghost use Rattle.aho_corasick.specs.AhoCorasick.{as_built};
 
 use ac_automaton::search::Search;
@@ -50,9 +49,9 @@ pub fn of_front(ac: &AhoCorasick, alloc: Global, text: &[u8]) -> Result<Vec<Matc
 pub fn next_occurrence<A: Search, R: Read>(
     occurrences: &mut StreamFindOverlappingIter<'_, A, R>,
 ) -> Result<Option<Match>, StreamError>
-    requires unended { has_ended (reader_listed occurrences.old) ≡ false }
+    requires unended { (reader_listed occurrences.old).ended ≡ false }
     ensures open { IfOk result
-        (λ it. IfSome it (λ o. has_ended (reader_listed occurrences.new) ≡ false)) }
+        (λ it. IfSome it (λ o. (reader_listed occurrences.new).ended ≡ false)) }
     ensures same_reference { reader_listed_name occurrences.new
         ≡ reader_listed_name occurrences.old }
 {
@@ -69,8 +68,8 @@ pub fn first_occurrence<A: Search, R: Read>(
     automaton: &A,
     alloc: Global,
 ) -> Result<Option<Match>, StreamError>
-    requires { has_ended reader.old ≡ false }
-    ensures { IfOk result (λ found. IfSome found (λ o. has_ended reader.new ≡ false)) }
+    requires { reader.old.ended ≡ false }
+    ensures { IfOk result (λ found. IfSome found (λ o. reader.new.ended ≡ false)) }
 {
     let mut occurrences = stream_find_overlapping_iter(reader, automaton, alloc)?;
     let first = next_occurrence(&mut occurrences);

@@ -3,13 +3,12 @@ ghost use Rattle.std.specs.Prelude.{◌≡◌, ◌↔◌, ◌<◌, true, length,
 ghost use Rattle.ac_input.specs.declared.search.Anchored.TheVariants.{Yes};
 ghost use Rattle.ac_input.specs.Dfa.{dfa_states};
 ghost use Rattle.ac_literal.specs.Packed.{bytes_of};
-ghost use Rattle.ac_noncontiguous.specs.ReadCalls.{classes_in, state_len};
-ghost use Rattle.ac_noncontiguous.specs.Reads.{built_as};
-ghost use Rattle.ac_tables.specs.ContiguousBuilder.{words_in};
-ghost use Rattle.ac_tables.specs.ContiguousReads.{contiguous_dictionary, contiguous_built_as};
-ghost use Rattle.ac_tables.specs.ContiguousTable.{AreWordsOf};
-ghost use Rattle.ac_tables.specs.DfaBuild.{determined, start_kind_in, states_in, transitions_in};
-ghost use Rattle.ac_tables.specs.DfaReads.{dfa_dictionary, dfa_built_as, dfa_supported_by};
+ghost use Rattle.ac_noncontiguous.specs.Nfa.ReadCalls.{classes_in, state_len};
+ghost use Rattle.ac_noncontiguous.specs.Nfa.Reads.{built_as};
+ghost use Rattle.ac_tables.specs.Contiguous.ContiguousReads.{contiguous_dictionary, contiguous_built_as};
+ghost use Rattle.ac_tables.specs.Contiguous.ContiguousTable.{AreWordsOf};
+ghost use Rattle.ac_tables.specs.Dfa.DfaBuild.{determined, states_in};
+ghost use Rattle.ac_tables.specs.Dfa.DfaReads.{dfa_dictionary, dfa_built_as, dfa_supported_by};
 ghost use Rattle.aho_corasick.specs.Callers.{FindsBytes, FindsFolded, IsPlain};
 
 use ac_input::pairing::Pairing;
@@ -86,7 +85,7 @@ pub fn contiguous_len(alloc: Global, nfa: &NFA, dense_depth: usize) -> Result<us
 /// The contiguous NFA once more. It finds the same, and has the same words.
 pub fn contiguous_copy(nfa: &contiguous::NFA, alloc: Global) -> Result<contiguous::NFA, AllocError>
     ensures same { IfOk result (λ copy. contiguous_built_as copy ≡ contiguous_built_as nfa.now) }
-    ensures words { IfOk result (λ copy. words_in copy ≡ words_in nfa.now) }
+    ensures words { IfOk result (λ copy. copy.table.words.items ≡ nfa.now.table.words.items) }
 {
     nfa.clone(alloc)
 }
@@ -123,7 +122,7 @@ pub fn dfa_plain(
 ) -> Result<DFA, BuildError>
     ensures plain { IfOk result
         (λ dfa. IsPlain (bytes_of patterns.now) pairing kind (dfa_built_as dfa)) }
-    ensures starts { IfOk result (λ dfa. start_kind_in dfa ≡ starts) }
+    ensures starts { IfOk result (λ dfa. dfa.table.kind ≡ starts) }
 {
     let mut builder = dfa::Builder::new();
     builder
@@ -175,7 +174,7 @@ pub fn rows_by_entries(dfa: &DFA) -> usize
 /// The DFA once more. It finds the same, and has the same transitions.
 pub fn dfa_copy(dfa: &DFA, alloc: Global) -> Result<DFA, AllocError>
     ensures same { IfOk result (λ copy. dfa_built_as copy ≡ dfa_built_as dfa.now) }
-    ensures transitions { IfOk result (λ copy. transitions_in copy ≡ transitions_in dfa.now) }
+    ensures transitions { IfOk result (λ copy. copy.table.trans.items ≡ dfa.now.table.trans.items) }
 {
     dfa.clone(alloc)
 }

@@ -1,6 +1,6 @@
 //! Matches that are texts. A match of a `&str` is a `&str`, if each pattern is UTF-8 and none is empty.
 ghost use Rattle.std.specs.Prelude.{IfOk};
-ghost use Rattle.ac_input.specs.Utf8Laws.{AreFullTexts};
+ghost use Rattle.ac_input.specs.Laws.Utf8Laws.{AreFullTexts};
 ghost use Rattle.ac_literal.specs.Packed.{bytes_of};
 ghost use Rattle.aho_corasick.specs.AhoCorasick.{as_built, supported_by};
 ghost use Rattle.uses.specs.Callers.{FindsTexts, IsFirstPart};

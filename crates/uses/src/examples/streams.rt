@@ -1,8 +1,7 @@
 //! Streams. `Watched` wraps a reader or a writer, and knows whether a read ended it.
-ghost use Rattle.std.specs.Prelude.{◌≡◌, false, length};
-ghost use Rattle.aho_corasick.specs.AhoCorasick.{as_built, pattern_count, supported_by};
+ghost use Rattle.std.specs.Prelude.{◌≡◌, false};
+ghost use Rattle.aho_corasick.specs.AhoCorasick.{as_built, supported_by};
 ghost use Rattle.aho_corasick.specs.Stream.{CanStream};
-ghost use Rattle.aho_corasick.specs.Watched.{has_ended};
 
 use aho_corasick::{AhoCorasick, StreamError, StreamFindIter, Watched, write_whole};
 use std::alloc::{AllocError, Global};
@@ -14,7 +13,7 @@ pub fn matches_of<'a, R>(
     alloc: Global,
     reader: &'a mut Watched<R>,
 ) -> Result<StreamFindIter<'a, R>, AllocError>
-    requires open { has_ended reader.old ≡ false }
+    requires open { reader.old.ended ≡ false }
     requires can { CanStream (as_built ac.now) (supported_by ac.now) }
 {
     ac.stream_find_iter(alloc, reader)
@@ -71,7 +70,7 @@ pub fn bracketed<R: Read, W: Write>(
     reader: &mut Watched<R>,
     writer: &mut Watched<W>,
 ) -> Result<(), StreamError>
-    requires { has_ended reader.old ≡ false }
+    requires { reader.old.ended ≡ false }
 {
     ac.try_stream_replace_all_with(alloc, reader, writer, |_, matched, writer| {
         write_whole(writer, b"[")?;

@@ -4,9 +4,9 @@ use Rattle.std.proofs.lemmas.Bool.{false≢true}
 use Rattle.std.proofs.lemmas.List.{drop-drop}
 use Rattle.ac_input.specs.declared.search.Anchored.TheVariants.{No}
 use Rattle.ac_automaton.specs.Automaton.{is_matching}
-use Rattle.ac_automaton.proofs.CursorLemmas.{reached-on, reached-state}
-use Rattle.ac_automaton.proofs.PassLemmas.{matching-some, some-matching}
-use Rattle.ac_automaton.proofs.ReadOnLemmas.{part-goes, part-more, part-stops}
+use Rattle.ac_automaton.proofs.lemmas.CursorLemmas.{reached-on, reached-state}
+use Rattle.ac_automaton.proofs.automaton.PassLemmas.{matching-some, some-matching}
+use Rattle.ac_automaton.proofs.skip.ReadOnLemmas.{part-goes, part-more, part-stops}
 use Rattle.ac_automaton.proofs.ahead.advance_to_match.Goals as goal
 
 pub read_part-stop-requires-clause-reached : goal.read_part-stop-requires-clause-reached

@@ -1,9 +1,9 @@
--- What is known of the state after so many bytes, and of the notes.
+-- What is known of the state after the bytes read so far, and of the notes.
 use Rattle.std.proofs.Common.{length, drop, ◌-◌, ◌≤◌}
 use Rattle.ac_input.specs.declared.search.Anchored.TheVariants.{No}
 use Rattle.ac_automaton.specs.Ahead.{AreNotes}
 use Rattle.ac_automaton.specs.Automaton.{is_matching}
-use Rattle.ac_automaton.proofs.CursorLemmas.{HasAdvanced}
+use Rattle.ac_automaton.proofs.lemmas.CursorLemmas.{HasAdvanced}
 use Rattle.ac_automaton.proofs.ahead.advance_to_match.Given as goal
 
 abbrev pub invariant-loop-read : goal.invariant-loop-read

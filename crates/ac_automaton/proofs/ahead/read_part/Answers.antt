@@ -1,4 +1,4 @@
--- A note that is taken says where its bytes lead; else the automaton's own loop reads a part of the bytes.
+-- A note that is taken leads where its bytes lead. Otherwise the automaton's own loop reads a part of the bytes.
 use Rattle.std.proofs.Common.{◌-◌, drop, refl, subst, sym, ◌∙◌, arith, length-drop, Option}
 use Rattle.std.specs.Prelude.{IfSome}
 use Rattle.std.proofs.lemmas.Bool.{eqb-true}
@@ -6,8 +6,8 @@ use Rattle.ac_input.specs.declared.search.Anchored.TheVariants.{No}
 use Rattle.ac_automaton.specs.Ahead.{IsUpcoming}
 use Rattle.ac_automaton.specs.Automaton.{is_matching}
 use Rattle.ac_automaton.specs.declared.ahead.Note.{Note}
-use Rattle.ac_automaton.proofs.AheadLemmas.{note-part}
-use Rattle.ac_automaton.proofs.ReadOnLemmas.{part-of-front}
+use Rattle.ac_automaton.proofs.ahead.AheadLemmas.{note-part}
+use Rattle.ac_automaton.proofs.skip.ReadOnLemmas.{part-of-front}
 use Rattle.ac_automaton.proofs.ahead.read_part.Goals as goal
 
 pub returns-then-eq-clause-reads : goal.returns-then-eq-clause-reads

@@ -1,9 +1,9 @@
--- What one call of `advance` says of the cursor.
+-- How one call of `advance` moves the cursor.
 use Rattle.std.proofs.Common.{◌<◌, List, ℕ, length, slice_range, arith}
 use Rattle.ac_input.specs.Number.{StateID}
-use Rattle.ac_input.proofs.OrderLemmas.{slice_range-length}
+use Rattle.ac_input.proofs.lemmas.OrderLemmas.{slice_range-length}
 use Rattle.ac_automaton.specs.Automaton.{searched}
-use Rattle.ac_automaton.proofs.CursorLemmas.{cursor-read, cursor-read_on}
+use Rattle.ac_automaton.proofs.lemmas.CursorLemmas.{cursor-read, cursor-read_on}
 use Rattle.ac_automaton.proofs.cursor.read_on.Goals as goal
 
 pub returns-clause-stands : goal.returns-clause-stands

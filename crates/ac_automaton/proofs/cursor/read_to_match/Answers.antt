@@ -1,13 +1,13 @@
--- What one call of `advance_to_match` says of the cursor.
+-- How one call of `advance_to_match` moves the cursor.
 use Rattle.std.proofs.Common.{◌+◌, ◌<◌, ◌≤◌, List, ℕ, length, slice_range, subst, sym, arith}
 use Rattle.ac_input.specs.declared.search.Anchored.{Anchored}
 use Rattle.ac_input.specs.declared.search.Anchored.TheVariants.{No}
 use Rattle.ac_input.specs.Number.{StateID}
-use Rattle.ac_input.proofs.OrderLemmas.{slice_range-length}
+use Rattle.ac_input.proofs.lemmas.OrderLemmas.{slice_range-length}
 use Rattle.ac_automaton.specs.Automaton.{searched}
 use Rattle.ac_automaton.specs.Cursor.{HasReadOn, IsCursor}
 use Rattle.ac_automaton.specs.declared.cursor.Cursor.{Cursor}
-use Rattle.ac_automaton.proofs.ReadToMatchLemmas.{cursor-read_to, cursor-read_to_match}
+use Rattle.ac_automaton.proofs.cursor.ReadToMatchLemmas.{cursor-read_to, cursor-read_to_match}
 use Rattle.ac_automaton.proofs.cursor.read_to_match.Goals as goal
 
 pub returns-clause-stands : goal.returns-clause-stands

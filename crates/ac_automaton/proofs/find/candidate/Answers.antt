@@ -5,12 +5,11 @@ use Rattle.ac_input.specs.Candidate.{IsCandidate}
 use Rattle.ac_input.specs.declared.search.MatchKind.{MatchKind}
 use Rattle.ac_input.specs.declared.search.candidate.Candidate.TheVariants as candidates
 use Rattle.ac_input.specs.Dictionary.{Dictionary}
-use Rattle.ac_input.specs.Occurrence.{Search}
-use Rattle.ac_automaton.specs.Automaton.{kind_asked}
-use Rattle.ac_automaton.specs.Find.{search_from}
-use Rattle.ac_automaton.proofs.FindLemmas.{match-goes_on, match-asked_best}
-use Rattle.ac_automaton.proofs.CandidateLemmas.{ahead-same}
-use Rattle.ac_automaton.proofs.CountedLemmas.{come-none, scan-covers_all, scan-covers_before, scan-no_match}
+use Rattle.ac_input.specs.Occurrence.{Search, starting_at}
+use Rattle.ac_automaton.specs.Automaton.{kind_asked, searched}
+use Rattle.ac_automaton.proofs.find.FindLemmas.{match-goes_on, match-asked_best}
+use Rattle.ac_automaton.proofs.lemmas.CandidateLemmas.{ahead-same}
+use Rattle.ac_automaton.proofs.find.CountedLemmas.{come-none, scan-covers_all, scan-covers_before, scan-no_match}
 use Rattle.ac_automaton.proofs.find.candidate.Goals as goal
 
 pub returns-then-eq-clause-says : goal.returns-then-eq-clause-says
@@ -22,11 +21,11 @@ returns-then-eq-clause-says g c =
     let early = c.get_earliest.result in
     let same = ahead-same b.dictionary n asked c.haystack.result.now c.args.at c.end.result c.requires.made c.haystack.ensures c.end.ensures.value c.requires.free in
     let kinds : n.kind ≡ kind = ap (λ (m : Dictionary). m.kind) c.requires.made ∙ sym c.match_kind-kind.ensures in
-    let is : IsCandidate kind (search_from b asked c.args.at) (candidates.Match c.in-Match.found) = subst (λ (k : MatchKind). IsCandidate k (search_from b asked c.args.at) (candidates.Match c.in-Match.found)) kinds (subst (λ (s : Search). IsCandidate n.kind s (candidates.Match c.in-Match.found)) same c.in-Match.ensures.candidate) in
+    let is : IsCandidate kind (starting_at (searched b asked) c.args.at) (candidates.Match c.in-Match.found) = subst (λ (k : MatchKind). IsCandidate k (starting_at (searched b asked) c.args.at) (candidates.Match c.in-Match.found)) kinds (subst (λ (s : Search). IsCandidate n.kind s (candidates.Match c.in-Match.found)) same c.in-Match.ensures.candidate) in
     let kind_is : asked_kind kind early ≡ kind_asked b asked = ap (λ (k : MatchKind). asked_kind k early) c.match_kind-kind.ensures ∙ ap (λ (e : Bool). asked_kind b.dictionary.kind e) c.get_earliest.ensures in
     let own : asked_kind kind early ≡ kind = search rules in
-    subst (λ (k : MatchKind). IsBest k (search_from b asked c.args.at) (Some c.in-Match.found)) kind_is
-    (match-asked_best kind early (search_from b asked c.args.at) c.in-Match.found is own)
+    subst (λ (k : MatchKind). IsBest k (starting_at (searched b asked) c.args.at) (Some c.in-Match.found)) kind_is
+    (match-asked_best kind early (starting_at (searched b asked) c.args.at) c.in-Match.found is own)
 
 pub returns-else-eq-clause-says : goal.returns-else-eq-clause-says
 returns-else-eq-clause-says g c =
@@ -36,12 +35,12 @@ returns-else-eq-clause-says g c =
     let kind = c.match_kind-kind.result in
     let same = ahead-same b.dictionary n asked c.haystack.result.now c.args.at c.end.result c.requires.made c.haystack.ensures c.end.ensures.value c.requires.free in
     let kinds : n.kind ≡ kind = ap (λ (m : Dictionary). m.kind) c.requires.made ∙ sym c.match_kind-kind.ensures in
-    let is : IsCandidate kind (search_from b asked c.args.at) (candidates.Match c.in-Match.found) = subst (λ (k : MatchKind). IsCandidate k (search_from b asked c.args.at) (candidates.Match c.in-Match.found)) kinds (subst (λ (s : Search). IsCandidate n.kind s (candidates.Match c.in-Match.found)) same c.in-Match.ensures.candidate) in
-    rw c.start.ensures.value (match-goes_on kind (search_from b asked c.args.at) c.in-Match.found is)
+    let is : IsCandidate kind (starting_at (searched b asked) c.args.at) (candidates.Match c.in-Match.found) = subst (λ (k : MatchKind). IsCandidate k (starting_at (searched b asked) c.args.at) (candidates.Match c.in-Match.found)) kinds (subst (λ (s : Search). IsCandidate n.kind s (candidates.Match c.in-Match.found)) same c.in-Match.ensures.candidate) in
+    rw c.start.ensures.value (match-goes_on kind (starting_at (searched b asked) c.args.at) c.in-Match.found is)
 
 pub returns-in-None-clause-counts : goal.returns-in-None-clause-counts
 returns-in-None-clause-counts g c = λ some.
-    let s = search_from (g.A.Automaton.built c.args.automaton.now) c.args.input.now c.args.at in
+    let s = starting_at (searched (g.A.Automaton.built c.args.automaton.now) c.args.input.now) c.args.at in
     let counted = c.in-None.ensures.counted in
     let done = counted.1 in
     let covers = scan-covers_all c.args.prefilter.now.needles _ counted.0 some counted.2 in

@@ -1,6 +1,6 @@
--- What occurs in the span lies in the haystack, since the span does.
+-- An occurrence in the span lies in the haystack, since the span does.
 use Rattle.std.proofs.Common.{◌≤◌, length}
-use Rattle.ac_automaton.proofs.ItemsLemmas.{found-lies}
+use Rattle.ac_automaton.proofs.iter.ItemsLemmas.{found-lies}
 use Rattle.ac_automaton.proofs.find.find.Goals as goal
 
 pub returns-clause-within : goal.returns-clause-within

@@ -1,6 +1,6 @@
 -- A pattern that matches is no longer than what was read.
 use Rattle.std.proofs.Common.{arith}
-use Rattle.ac_automaton.proofs.ToldLemmas.{told-first_fits}
+use Rattle.ac_automaton.proofs.find.ToldLemmas.{told-first_fits}
 use Rattle.ac_automaton.proofs.find.first_match.Goals as goal
 
 pub overflow_sub-start : goal.overflow_sub-start

@@ -3,7 +3,7 @@ use Rattle.std.proofs.Common.{◌≡◌, ◌-◌, ◌∙◌, sym, ap}
 use Rattle.ac_input.specs.declared.search.Anchored.{Anchored}
 use Rattle.ac_input.specs.declared.search.Anchored.TheVariants.{No}
 use Rattle.ac_automaton.specs.Cursor.{taken}
-use Rattle.ac_automaton.proofs.TakenLemmas.{taken-free}
+use Rattle.ac_automaton.proofs.find.TakenLemmas.{taken-free}
 use Rattle.ac_automaton.proofs.find.match_at.Goals as goal
 
 pub returns-in-No : goal.returns-in-No

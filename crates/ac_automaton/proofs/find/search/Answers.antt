@@ -1,10 +1,10 @@
--- The best from where the search has come to is the best of all.
+-- The best match from the place that the search has come to is the best of all.
 use Rattle.std.proofs.Common.{ap, refl}
 use Rattle.ac_input.specs.Input.{is_anchored}
 use Rattle.ac_automaton.specs.Automaton.{kind_asked, prefilter_for, searched}
 use Rattle.ac_automaton.specs.declared.cursor.End.TheVariants.{Found, Idle}
-use Rattle.ac_automaton.proofs.CountedLemmas.{come-further, counted-join}
-use Rattle.ac_automaton.proofs.FindLemmas.{find_work-from, has_come-best, has_come-further}
+use Rattle.ac_automaton.proofs.find.CountedLemmas.{come-further, counted-join}
+use Rattle.ac_automaton.proofs.find.FindLemmas.{find_work-from, has_come-best, has_come-further}
 use Rattle.ac_automaton.proofs.find.search.Goals as goal
 
 pub returns-in-Found-clause-found : goal.returns-in-Found-clause-found

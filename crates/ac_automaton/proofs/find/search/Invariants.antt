@@ -2,7 +2,7 @@
 use Rattle.std.proofs.Common.{◌-◌}
 use Rattle.ac_input.specs.Work.{HasCounted}
 use Rattle.ac_automaton.specs.Automaton.{prefilter_for, searched}
-use Rattle.ac_automaton.proofs.FindLemmas.{HasCome}
+use Rattle.ac_automaton.proofs.find.FindLemmas.{HasCome}
 use Rattle.ac_automaton.proofs.find.search.Given as goal
 
 abbrev pub invariant-loop-found : goal.invariant-loop-found

@@ -5,10 +5,10 @@ use Rattle.std.specs.Option.{is_some}
 use Rattle.ac_automaton.specs.declared.cursor.End.TheVariants.{Idle}
 use Rattle.ac_automaton.specs.Automaton.{kind_asked}
 use Rattle.ac_automaton.specs.Find.{WalkSays, IsWalkCost}
-use Rattle.ac_automaton.proofs.CursorLemmas.{alive-from}
-use Rattle.ac_automaton.proofs.WalkLemmas.{none-listed}
-use Rattle.ac_automaton.proofs.WalkEndLemmas.{IsDone, Ended, Died, Won, won-found, not_won-none, is_none-found}
-use Rattle.ac_automaton.proofs.FindWalkLemmas.{HasAsked, rest, text_read, walks-first, asks, asked-looks, asked-says, asked-work, asked-back, asked-on, back-looks}
+use Rattle.ac_automaton.proofs.lemmas.CursorLemmas.{alive-from}
+use Rattle.ac_automaton.proofs.lemmas.WalkLemmas.{none-listed}
+use Rattle.ac_automaton.proofs.lemmas.WalkEndLemmas.{IsDone, Ended, Died, Won, won-found, not_won-none, is_none-found}
+use Rattle.ac_automaton.proofs.find.FindWalkLemmas.{HasAsked, rest, text_read, walks-first, asks, asked-looks, asked-says, asked-work, asked-back, asked-on, back-looks}
 use Rattle.ac_automaton.proofs.find.walk.Given.{Over}
 use Rattle.ac_automaton.proofs.find.walk.Goals as goal
 use Rattle.ac_automaton.proofs.find.walk.Goals.{then-first_wins, else-first_wins, then-won-via-then-won, then-won-via-else-won+then-cursor-end, then-won-via-else-won+else-cursor-end+then-is_dead}
@@ -24,7 +24,7 @@ over g c =
     let met = g.met.A.Automaton in
     asks g.A.Automaton a asked c.args.at c.loop-best.cursor c.loop-best.best c.match_at.result c.or-best.result _ _ (met.pairs a asked.anchored) (met.tells a asked.anchored) (met.lives a asked.anchored) c.loop-best.invariant c.match_at.ensures c.or-best.ensures
 
--- why it is
+-- why the walk is over
 over-done : (g : Over) (c : goal.Joined-then-won g)
     → IsDone (g.A.Automaton.built c.args.automaton.now).dictionary c.args.input.now.anchored (kind_asked (g.A.Automaton.built c.args.automaton.now) c.args.input.now) c.args.input.now.haystack (rest c.args.input.now c.loop-best.cursor) c.loop-best.cursor.at c.or-best.result
 over-done g c =

@@ -1,6 +1,6 @@
 -- Where the walk stands, and what it knows there.
 use Rattle.std.proofs.Common.{◌-◌}
-use Rattle.ac_automaton.proofs.FindWalkLemmas.{Walks}
+use Rattle.ac_automaton.proofs.find.FindWalkLemmas.{Walks}
 use Rattle.ac_automaton.proofs.find.walk.Given as goal
 
 abbrev pub invariant-loop-best : goal.invariant-loop-best

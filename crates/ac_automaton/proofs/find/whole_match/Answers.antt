@@ -1,6 +1,6 @@
 -- The first entry that counts is the match.
 use Rattle.std.proofs.Common.{◌∙◌, sym, ap, Some}
-use Rattle.ac_automaton.proofs.TakenLemmas.{taken-here, taken-next}
+use Rattle.ac_automaton.proofs.find.TakenLemmas.{taken-here, taken-next}
 use Rattle.ac_automaton.proofs.find.whole_match.Goals as goal
 
 pub returns-then-pattern_len-span : goal.returns-then-pattern_len-span

@@ -1,6 +1,6 @@
 -- No entry so far counts.
 use Rattle.std.proofs.Common.{◌-◌}
-use Rattle.ac_automaton.proofs.TakenLemmas.{NoneCountsBefore}
+use Rattle.ac_automaton.proofs.find.TakenLemmas.{NoneCountsBefore}
 use Rattle.ac_automaton.proofs.find.whole_match.Given as goal
 
 abbrev pub invariant-loop-index : goal.invariant-loop-index

@@ -1,10 +1,10 @@
--- The state where one call stops is that of the match, or the span ends there.
+-- The state where the call stops has the match, or the span ends there.
 use Rattle.std.proofs.Common.{[], ◌≤◌, length, None, Some, sym, ◌∙◌, arith}
 use Rattle.std.proofs.lemmas.Bool.{false≢true}
 use Rattle.ac_input.specs.declared.search.Anchored.TheVariants.{No}
 use Rattle.ac_automaton.specs.Automaton.{IsFindCost, IsFound, searched}
-use Rattle.ac_automaton.proofs.FindAheadLemmas.{ahead-none, ahead-some, none-left}
-use Rattle.ac_automaton.proofs.CursorLemmas.{reached-on, reached-state}
+use Rattle.ac_automaton.proofs.find_ahead.FindAheadLemmas.{ahead-none, ahead-some, none-left}
+use Rattle.ac_automaton.proofs.lemmas.CursorLemmas.{reached-on, reached-state}
 use Rattle.ac_automaton.proofs.find_ahead.find.Given.{Over}
 use Rattle.ac_automaton.proofs.find_ahead.find.Goals as goal
 
@@ -47,7 +47,7 @@ returns-then-not-is_match-clause-found g c = (none g c).0
 pub returns-then-not-is_match-clause-cost : goal.returns-then-not-is_match-clause-cost
 returns-then-not-is_match-clause-cost g c = (none g c).1
 
--- it matches
+-- the state where the call stopped matches
 some : (g : Over) (c : goal.After-first_match g) → IsFound (g.A.Automaton.built c.args.automaton.now) c.args.input.now (Some c.first_match.result) × IsFindCost (g.A.Automaton.built c.args.automaton.now) c.args.input.now c.args.steps.now c.advance_to_match-stop.new.steps (Some c.first_match.result)
 some g c =
     let a = c.args.automaton.now in

@@ -1,7 +1,7 @@
--- Where the best repeats the last pick, the next one begins a byte further on.
+-- Where the best match repeats the last pick, the next pick begins a byte further on.
 use Rattle.std.proofs.Common.{refl, arith}
 use Rattle.ac_input.specs.Walk.{Further}
-use Rattle.ac_automaton.proofs.IterLemmas.{pick-ended, repeat-empty, work-further}
+use Rattle.ac_automaton.proofs.iter.IterLemmas.{pick-ended, repeat-empty, work-further}
 use Rattle.ac_automaton.proofs.iter.next_pick.Goals as goal
 
 pub returns-then-start-end-clause-pick : goal.returns-then-start-end-clause-pick

@@ -3,7 +3,7 @@ use Rattle.std.proofs.Common.{[], arith}
 use Rattle.ac_input.specs.declared.search.Anchored.TheVariants.{No}
 use Rattle.ac_automaton.specs.Ahead.{is_up_to}
 use Rattle.ac_automaton.specs.Automaton.{IsReached}
-use Rattle.ac_automaton.proofs.LaneLemmas.{walked-begun}
+use Rattle.ac_automaton.proofs.lanes.LaneLemmas.{walked-begun}
 use Rattle.ac_automaton.proofs.lanes.begin.Goals as goal
 
 pub returns : goal.returns

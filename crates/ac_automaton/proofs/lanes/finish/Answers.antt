@@ -1,8 +1,8 @@
--- The last note of a lane is what it has read since its last match.
+-- The last note of a lane covers the bytes since its last match.
 use Rattle.ac_input.specs.declared.search.Anchored.TheVariants.{No}
 use Rattle.ac_automaton.specs.Ahead.{AreNotes}
-use Rattle.ac_automaton.proofs.AheadLemmas.{blank-note}
-use Rattle.ac_automaton.proofs.LaneLemmas.{notes-put, walked-note}
+use Rattle.ac_automaton.proofs.ahead.AheadLemmas.{blank-note}
+use Rattle.ac_automaton.proofs.lanes.LaneLemmas.{notes-put, walked-note}
 use Rattle.ac_automaton.proofs.lanes.finish.Goals as goal
 
 pub returns-then-lane-2 : goal.returns-then-lane-2

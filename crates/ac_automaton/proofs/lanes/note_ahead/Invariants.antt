@@ -1,4 +1,4 @@
--- Each lane has walked, and what is noted is true.
+-- Each lane has walked, and every note is true.
 use Rattle.std.proofs.Common.{◌-◌}
 use Rattle.ac_input.specs.declared.search.Anchored.TheVariants.{No}
 use Rattle.ac_automaton.specs.Ahead.{AreNotes, HaveLeft, HaveWalked, is_up_to}

@@ -1,9 +1,9 @@
--- After a match the lane stands in the start or where it stood, and what it read is noted.
+-- After a match the lane stands in the start or stays in its state, and the bytes it read are noted.
 use Rattle.std.proofs.Common.{◌≡◌, ⊎_elim, [], refl, subst, sym}
 use Rattle.ac_input.specs.declared.search.Anchored.TheVariants.{No}
 use Rattle.ac_automaton.specs.Ahead.{is_up_to}
 use Rattle.ac_automaton.specs.Automaton.{IsReached}
-use Rattle.ac_automaton.proofs.LaneLemmas.{notes-put, walked-none, walked-note}
+use Rattle.ac_automaton.proofs.lanes.LaneLemmas.{notes-put, walked-none, walked-note}
 use Rattle.ac_automaton.proofs.lanes.settle.Goals as goal
 
 pub returns-clause-walked : goal.returns-clause-walked

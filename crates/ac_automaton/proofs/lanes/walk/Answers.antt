@@ -1,7 +1,7 @@
 -- Each lane reads the same number of bytes.
 use Rattle.std.proofs.Common.{arith}
 use Rattle.ac_input.specs.declared.search.Anchored.TheVariants.{No}
-use Rattle.ac_automaton.proofs.LaneLemmas.{turn-none, turn-on, turn-ends, turn-all}
+use Rattle.ac_automaton.proofs.lanes.LaneLemmas.{turn-none, turn-on, turn-ends, turn-all}
 use Rattle.ac_automaton.proofs.lanes.walk.Goals as goal
 
 pub loop-read-init : goal.loop-read-init

@@ -1,4 +1,4 @@
-use Rattle.ac_automaton.proofs.DeathLemmas.{death-decides}
+use Rattle.ac_automaton.proofs.laws.DeathLemmas.{death-decides}
 use Rattle.ac_automaton.proofs.laws.death_decides.Goals as goal
 
 pub returns : goal.returns

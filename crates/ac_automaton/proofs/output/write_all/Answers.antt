@@ -1,5 +1,5 @@
--- A write of all the bytes is a sending of them.
-use Rattle.ac_automaton.proofs.OutputLemmas.{Sends-whole}
+-- A write of all bytes is a send of them.
+use Rattle.ac_automaton.proofs.devices.OutputLemmas.{Sends-whole}
 use Rattle.ac_automaton.proofs.output.write_all.Goals as goal
 
 pub returns : goal.returns

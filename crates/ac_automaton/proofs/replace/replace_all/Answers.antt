@@ -1,9 +1,9 @@
--- What lies between two matches is copied, and each match replaced.
+-- The text between two matches is copied, and each match is replaced.
 use Rattle.std.proofs.Common.{◌≡◌}
 use Rattle.std.proofs.lemmas.Str.{IsCharBoundary-start}
 use Rattle.ac_automaton.specs.Iter.{left_of}
 use Rattle.ac_automaton.specs.Replace.{cuts_none, matches_in}
-use Rattle.ac_automaton.proofs.ReplaceLemmas.{matches-lie, lies-filter, same-input}
+use Rattle.ac_automaton.proofs.lemmas.ReplaceLemmas.{matches-lie, lies-filter, same-input}
 use Rattle.ac_automaton.proofs.replace.replace_all.Goals as goal
 
 pub loop-found-init : goal.loop-found-init

@@ -1,8 +1,8 @@
--- What lies between two matches is copied, and each match replaced.
+-- The text between two matches is copied, and each match is replaced.
 use Rattle.std.proofs.Common.{◌≡◌, refl, arith}
 use Rattle.ac_automaton.specs.Iter.{left_of}
 use Rattle.ac_automaton.specs.Replace.{matches_in}
-use Rattle.ac_automaton.proofs.ReplaceLemmas.{matches-lie, same-input}
+use Rattle.ac_automaton.proofs.lemmas.ReplaceLemmas.{matches-lie, same-input}
 use Rattle.ac_automaton.proofs.replace.replace_all_bytes.Goals as goal
 
 pub loop-found-init : goal.loop-found-init

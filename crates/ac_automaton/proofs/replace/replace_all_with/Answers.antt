@@ -1,4 +1,4 @@
--- Each call of the closure is one more of the chain.
+-- Each call of the closure extends the chain by one.
 use Rattle.std.proofs.Common.{ℕ, ◌≡◌, ◌∷◌, drop, ap, ◌∙◌, rules, true, false, Ok}
 use Rattle.std.specs.List.{filter}
 use Rattle.std.specs.String.{string_bytes}
@@ -7,8 +7,8 @@ use Rattle.std.proofs.lemmas.Result.{err_from_is_err_and}
 use Rattle.ac_input.specs.declared.search.Anchored.TheVariants.{No}
 use Rattle.ac_automaton.specs.Iter.{left_of}
 use Rattle.ac_automaton.specs.Replace.{cuts_none, matches_in, text_left_of, text_matches_in}
-use Rattle.ac_automaton.proofs.ReplaceLemmas.{boundary-end, matches-lie, lies-filter, lies-first, same-input}
-use Rattle.ac_automaton.proofs.ReplacerLemmas.{callable-after, takes-one, told, told-refused, comes-first, comes-further, comes-to_false, comes-to_false_refused, comes-to_call_refused}
+use Rattle.ac_automaton.proofs.lemmas.ReplaceLemmas.{boundary-end, matches-lie, lies-filter, lies-first, same-input}
+use Rattle.ac_automaton.proofs.replace.ReplacerLemmas.{callable-after, takes-one, told, told-refused, comes-first, comes-further, comes-to_false, comes-to_false_refused, comes-to_call_refused}
 use Rattle.ac_automaton.proofs.replace.replace_all_with.Goals as goal
 
 pub loop-found-init : goal.loop-found-init

@@ -3,7 +3,7 @@ use Rattle.std.proofs.Common.{length}
 use Rattle.std.specs.Str.{IsCharBoundary}
 use Rattle.std.specs.String.{string_bytes}
 use Rattle.ac_automaton.specs.Replace.{LieInOrder, IsForMatches, calls_of, text_left_of, text_matches_in}
-use Rattle.ac_automaton.proofs.ReplacerLemmas.{ComesTo}
+use Rattle.ac_automaton.proofs.replace.ReplacerLemmas.{ComesTo}
 use Rattle.ac_automaton.proofs.replace.replace_all_with.Given as goal
 
 abbrev pub invariant-loop-found : goal.invariant-loop-found

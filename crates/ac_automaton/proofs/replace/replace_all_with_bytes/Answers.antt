@@ -1,12 +1,12 @@
--- Each call of the closure is one more of the chain.
+-- Each call of the closure extends the chain by one.
 use Rattle.std.proofs.Common.{ℕ, ◌≡◌, ◌∷◌, drop, refl, ap, ◌∙◌, arith, rules, true, false, Ok}
 use Rattle.std.proofs.lemmas.List.{take_rest}
 use Rattle.std.proofs.lemmas.Result.{err_from_is_err_and}
 use Rattle.ac_input.specs.declared.search.Anchored.TheVariants.{No}
 use Rattle.ac_automaton.specs.Iter.{left_of}
 use Rattle.ac_automaton.specs.Replace.{matches_in}
-use Rattle.ac_automaton.proofs.ReplaceLemmas.{matches-lie, lies-first, same-input}
-use Rattle.ac_automaton.proofs.ReplacerLemmas.{callable-next, replied, refused, comes-first, comes-further, comes-to_false, comes-to_false_refused, comes-to_call_refused}
+use Rattle.ac_automaton.proofs.lemmas.ReplaceLemmas.{matches-lie, lies-first, same-input}
+use Rattle.ac_automaton.proofs.replace.ReplacerLemmas.{callable-next, replied, refused, comes-first, comes-further, comes-to_false, comes-to_false_refused, comes-to_call_refused}
 use Rattle.ac_automaton.proofs.replace.replace_all_with_bytes.Goals as goal
 
 pub loop-found-init : goal.loop-found-init

@@ -2,7 +2,7 @@
 use Rattle.std.proofs.Common.{◌≤◌, length}
 use Rattle.ac_automaton.specs.Iter.{left_of}
 use Rattle.ac_automaton.specs.Replace.{LieInOrder, IsForMatches, calls_of, matches_in}
-use Rattle.ac_automaton.proofs.ReplacerLemmas.{ComesTo}
+use Rattle.ac_automaton.proofs.replace.ReplacerLemmas.{ComesTo}
 use Rattle.ac_automaton.proofs.replace.replace_all_with_bytes.Given as goal
 
 abbrev pub invariant-loop-found : goal.invariant-loop-found

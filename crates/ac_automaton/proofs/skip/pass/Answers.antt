@@ -1,4 +1,4 @@
--- Nothing was passed, or all but the last bytes, which were read.
+-- Nothing was passed; or all but the last bytes were passed, and those were read.
 use Rattle.std.proofs.Common.{◌-◌, inl, inr, refl, arith}
 use Rattle.ac_automaton.proofs.skip.pass.Goals as goal
 

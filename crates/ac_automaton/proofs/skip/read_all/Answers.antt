@@ -1,4 +1,4 @@
--- One byte more.
+-- One byte more is read.
 use Rattle.std.proofs.Common.{◌≤◌, ℕ, List, length, false, subst, arith}
 use Rattle.std.proofs.lemmas.Bool.{false≢true}
 use Rattle.std.proofs.lemmas.List.{take_all}
@@ -6,7 +6,7 @@ use Rattle.std.proofs.lemmas.Option.{slice_get-get_or}
 use Rattle.ac_input.specs.Number.{StateID}
 use Rattle.ac_input.specs.declared.search.Anchored.TheVariants.{No}
 use Rattle.ac_automaton.specs.Passing.{ReadsAll}
-use Rattle.ac_automaton.proofs.CursorLemmas.{advanced-none, advanced-more, reached-on}
+use Rattle.ac_automaton.proofs.lemmas.CursorLemmas.{advanced-none, advanced-more, reached-on}
 use Rattle.ac_automaton.proofs.skip.read_all.Goals as goal
 
 pub loop-byte-init : goal.loop-byte-init

@@ -1,8 +1,8 @@
--- What is known of the state after so many bytes.
+-- What is known of the state after the bytes read so far.
 use Rattle.std.proofs.Common.{false}
 use Rattle.ac_input.specs.Number.{StateID}
 use Rattle.ac_input.specs.declared.search.Anchored.TheVariants.{No}
-use Rattle.ac_automaton.proofs.CursorLemmas.{HasAdvanced}
+use Rattle.ac_automaton.proofs.lemmas.CursorLemmas.{HasAdvanced}
 use Rattle.ac_automaton.proofs.skip.read_all.Given as goal
 
 abbrev pub invariant-loop-byte : goal.invariant-loop-byte

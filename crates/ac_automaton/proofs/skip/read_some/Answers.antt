@@ -1,6 +1,6 @@
--- The automaton's own loop stops at each state at which the search does.
+-- The automaton's own loop stops wherever the search does.
 use Rattle.std.proofs.Common.{refl, arith}
-use Rattle.ac_automaton.proofs.ReadOnLemmas.{some-to-start, some-of-part}
+use Rattle.ac_automaton.proofs.skip.ReadOnLemmas.{some-to-start, some-of-part}
 use Rattle.ac_automaton.proofs.skip.read_some.Goals as goal
 
 pub returns-then-alone-eq0 : goal.returns-then-alone-eq0

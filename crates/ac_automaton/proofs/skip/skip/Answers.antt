@@ -4,9 +4,9 @@ use Rattle.std.proofs.lemmas.Bool.{eqb-true, not-false}
 use Rattle.std.proofs.lemmas.List.{take_rest}
 use Rattle.ac_input.specs.declared.search.Anchored.TheVariants.{No}
 use Rattle.ac_automaton.specs.ReadOn.{is_between}
-use Rattle.ac_automaton.proofs.CursorLemmas.{advanced-none, reached-on}
-use Rattle.ac_automaton.proofs.ReadOnLemmas.{after-some, reads-all}
-use Rattle.ac_automaton.proofs.PassingLemmas.{advanced-on}
+use Rattle.ac_automaton.proofs.lemmas.CursorLemmas.{advanced-none, reached-on}
+use Rattle.ac_automaton.proofs.skip.ReadOnLemmas.{after-some, reads-all}
+use Rattle.ac_automaton.proofs.skip.PassingLemmas.{advanced-on}
 use Rattle.ac_automaton.proofs.skip.skip.Goals as goal
 
 pub loop-read-init : goal.loop-read-init

@@ -1,8 +1,8 @@
--- What is known of the state after so many bytes.
+-- What is known of the state after the bytes read so far.
 use Rattle.std.proofs.Common.{length, ◌-◌, ◌≤◌}
 use Rattle.ac_input.specs.declared.search.Anchored.TheVariants.{No}
 use Rattle.ac_automaton.specs.ReadOn.{is_between}
-use Rattle.ac_automaton.proofs.CursorLemmas.{HasAdvanced}
+use Rattle.ac_automaton.proofs.lemmas.CursorLemmas.{HasAdvanced}
 use Rattle.ac_automaton.proofs.skip.skip.Given as goal
 
 abbrev pub invariant-loop-read : goal.invariant-loop-read

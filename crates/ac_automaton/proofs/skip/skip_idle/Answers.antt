@@ -1,9 +1,9 @@
--- Reading on goes by the automaton's own loop, and over a run of bytes that leave it in the start.
+-- Reading on goes by the automaton's own loop, and over a run of bytes that leaves the search in the start.
 use Rattle.std.proofs.Common.{◌+◌, refl, arith}
 use Rattle.std.proofs.lemmas.List.{take_rest}
 use Rattle.ac_automaton.specs.ReadOn.{is_between}
-use Rattle.ac_automaton.proofs.CursorLemmas.{advanced-none, reached-on}
-use Rattle.ac_automaton.proofs.ReadOnLemmas.{advanced-idle, after-some, past-between, reads-all}
+use Rattle.ac_automaton.proofs.lemmas.CursorLemmas.{advanced-none, reached-on}
+use Rattle.ac_automaton.proofs.skip.ReadOnLemmas.{advanced-idle, after-some, past-between, reads-all}
 use Rattle.ac_automaton.proofs.skip.skip_idle.Goals as goal
 
 pub loop-read-init : goal.loop-read-init

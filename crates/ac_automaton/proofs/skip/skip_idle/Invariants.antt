@@ -1,7 +1,7 @@
--- What is known of the state after so many bytes.
+-- What is known of the state after the bytes read so far.
 use Rattle.std.proofs.Common.{length, ◌-◌, ◌≤◌}
 use Rattle.ac_automaton.specs.ReadOn.{is_between}
-use Rattle.ac_automaton.proofs.CursorLemmas.{HasAdvanced}
+use Rattle.ac_automaton.proofs.lemmas.CursorLemmas.{HasAdvanced}
 use Rattle.ac_automaton.proofs.skip.skip_idle.Given as goal
 
 abbrev pub invariant-loop-read : goal.invariant-loop-read

@@ -1,7 +1,7 @@
 -- A turn finds a match of what was read, or reads once.
 use Rattle.std.proofs.Common.{rules, subst, sym, ◌∙◌}
 use Rattle.ac_automaton.specs.Stream.{StreamCounts, StreamProgress}
-use Rattle.ac_automaton.proofs.StreamIterLemmas.{counts-join, turn-failed}
+use Rattle.ac_automaton.proofs.stream.StreamIterLemmas.{counts-join, turn-failed}
 use Rattle.ac_automaton.proofs.stream.search_or_read.Goals as goal
 
 pub returns-in-Ok-eq0-clause-goes : goal.returns-in-Ok-eq0-clause-goes

@@ -1,5 +1,5 @@
 use Rattle.std.proofs.Common.{arith}
-use Rattle.ac_automaton.proofs.WriteWholeLoop.{written_more}
+use Rattle.ac_automaton.proofs.devices.WriteWholeLoop.{written_more}
 use Rattle.ac_automaton.proofs.watched.write_whole.Goals as goal
 
 pub loop-written-preserved : goal.loop-written-preserved

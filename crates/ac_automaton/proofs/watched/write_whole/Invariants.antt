@@ -1,5 +1,5 @@
 use Rattle.std.proofs.Common.{length, ◌-◌}
-use Rattle.ac_automaton.proofs.WriteWholeLoop.{HasWritten}
+use Rattle.ac_automaton.proofs.devices.WriteWholeLoop.{HasWritten}
 use Rattle.ac_automaton.proofs.watched.write_whole.Given as goal
 
 abbrev pub invariant-loop-written : goal.invariant-loop-written

@@ -11,12 +11,11 @@ ghost use Rattle.std.specs.Prelude.{◌≡◌, ◌+◌, ◌<◌, ◌≤◌, [], 
 ghost use Rattle.ac_input.specs.declared.search.Anchored.TheVariants.{No};
 ghost use Rattle.ac_automaton.specs.Ahead.{AreNotes};
 ghost use Rattle.ac_automaton.specs.Automaton.{IsState};
-ghost use Rattle.ac_automaton.specs.Stream.{CanBeCounted, CanStream, IsMemory};
-ghost use Rattle.ac_automaton.specs.StreamListing.{AnswersNewListing, IsAllListed, IsListingConfigRefusal, IsOnListing, ListingCounts, ListingProgress, ListingReadsMore, ListsHeld, all_read, fresh_listing};
-ghost use Rattle.ac_automaton.specs.StreamListingSearch.{FillsFront};
-ghost use Rattle.ac_automaton.specs.StreamListingWalk.{GivesOfState, ListsNext, MayGive, MayList, ReadsOnHeld};
-ghost use Rattle.ac_automaton.specs.StreamSearch.{some_of};
-ghost use Rattle.ac_automaton.specs.Watched.{has_ended};
+ghost use Rattle.ac_automaton.specs.Stream.{CanBeCounted, CanStream, IsOutOfMemory};
+ghost use Rattle.ac_automaton.specs.Stream.StreamListing.{AnswersNewListing, IsAllListed, IsListingConfigRefusal, IsOnListing, ListingCounts, ListingProgress, ListingReadsMore, ListsHeld, all_read, fresh_listing};
+ghost use Rattle.ac_automaton.specs.Stream.StreamListingSearch.{FillsFront};
+ghost use Rattle.ac_automaton.specs.Stream.StreamListingWalk.{GivesOfState, ListsNext, MayGive, MayList, ReadsOnHeld};
+ghost use Rattle.ac_automaton.specs.Stream.StreamSearch.{some_of};
 
 use crate::ahead::{Ahead, advance_to_match};
 use crate::automaton::Automaton;
@@ -69,8 +68,8 @@ impl<'a, A: Search> Model for ListingSearch<'a, A> {
     ghost use Rattle.std.specs.Prelude.{take, vec_len};
     ghost use Rattle.ac_input.specs.declared.search.Anchored.TheVariants.{No};
     ghost use Rattle.ac_automaton.specs.Ahead.{AreNotes};
-    ghost use Rattle.ac_automaton.specs.StreamListing.{ListingProgress};
-    ghost use Rattle.ac_automaton.specs.StreamListingSearch.{IsListingSearch, listing_at};
+    ghost use Rattle.ac_automaton.specs.Stream.StreamListing.{ListingProgress};
+    ghost use Rattle.ac_automaton.specs.Stream.StreamListingSearch.{IsListingSearch, listing_at};
 
     ghost Value = { ListingProgress };
 
@@ -115,7 +114,7 @@ fn allocated(alloc: Global) -> Result<Vec<u8>, AllocError>
 /// One read into the buffer, from its front.
 fn fill<R: Read>(bytes: &mut Vec<u8>, reader: &mut Watched<R>) -> io::Result<usize>
     requires room { 0 < vec_len bytes.old }
-    requires open { has_ended reader.old ≡ false }
+    requires open { reader.old.ended ≡ false }
     ensures fills { FillsFront R.remaining bytes.new.items (vec_len bytes.new)
         reader.old reader.new result }
     ensures len { vec_len bytes.new ≡ vec_len bytes.old }
@@ -244,7 +243,7 @@ impl<'a, A: Search> ListingSearch<'a, A> {
         requires can { CanStream (A.built automaton.now) (A.supports automaton.now) }
         ensures fresh { IfOk result (λ s. s ≡ fresh_listing (A.built automaton.now)) }
         ensures kept { IfOk result IsOnListing }
-        ensures error { IfErr result IsMemory }
+        ensures error { IfErr result IsOutOfMemory }
     {
         let bytes = allocated(alloc)?;
         Ok(ListingSearch {
@@ -313,7 +312,7 @@ impl<'a, A: Search> ListingSearch<'a, A> {
     /// Returns how many bytes it read: none at the end of the input. An error is `Read`, or `Position` if there are now more bytes
     /// than places; nothing may be read after either.
     pub fn read_more<R: Read>(&mut self, reader: &mut Watched<R>) -> Result<usize, StreamError>
-        requires open { has_ended reader.old ≡ false }
+        requires open { reader.old.ended ≡ false }
         requires all { IsAllListed self.old }
         ensures read { ListingReadsMore R.remaining self.old self.new reader.old reader.new result }
         ensures kept { IsOnListing self.new }

@@ -4,9 +4,8 @@
 //! keeps just what is, and then is dead: from there on the best match that was met stays the best, whatever is still read. So a match
 //! is decided where the state is dead, or where nothing more comes. Then the search goes on from its end, and reads again what it has
 //! read past it: at most as much as the longest pattern is long, and one byte.
-ghost use Rattle.std.specs.Prelude.{◌≡◌, ◌≢◌, Some};
-ghost use Rattle.ac_input.specs.declared.search.MatchKind.TheVariants.{Standard};
-ghost use Rattle.ac_automaton.specs.StreamWalk.{MayWalk, WalksOn};
+ghost use Rattle.std.specs.Prelude.{◌≡◌, Some};
+ghost use Rattle.ac_automaton.specs.Stream.StreamWalk.{MayWalk, WalksOn};
 
 use super::{Progress, Searched, decided};
 use crate::automaton::Automaton;

@@ -1,7 +1,7 @@
 -- Each turn moves one occurrence into the buffer.
 use Rattle.std.proofs.Common.{◌≡◌, ◌∷◌, drop, length, sym, ◌∙◌, arith}
 use Rattle.ac_c.specs.List.{later_of}
-use Rattle.ac_c.proofs.FillLemmas.{fill-end, fill-enough, fill-given, fill-rest}
+use Rattle.ac_c.proofs.walk.FillLemmas.{fill-end, fill-enough, fill-given, fill-rest}
 use Rattle.ac_c.proofs.list.fill.Goals as goal
 
 pub returns-in-None-clause-count : goal.returns-in-None-clause-count

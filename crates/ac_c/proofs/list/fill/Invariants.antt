@@ -1,4 +1,4 @@
--- The buffer begins with what the listing has given, and the rest is left.
+-- The buffer begins with the occurrences given so far, and the run has the rest.
 use Rattle.std.proofs.Common.{◌≡◌, ◌≤◌, length, map, take, drop}
 use Rattle.ac_c.specs.Found.{shown}
 use Rattle.ac_c.specs.List.{later_of}

@@ -1,5 +1,5 @@
--- What is found from where the search begins on is what is left of the listing.
-use Rattle.ac_c.proofs.ListLemmas.{listed}
+-- A search from where the next one starts finds what is left of the listing.
+use Rattle.ac_c.proofs.list.ListLemmas.{listed}
 use Rattle.ac_c.proofs.list.listed_by.Goals as goal
 
 pub returns-in-Ok : goal.returns-in-Ok

@@ -1,6 +1,6 @@
--- The occurrences passed over are none of those that are left.
+-- No occurrence passed over is one of those left.
 use Rattle.std.proofs.Common.{◌≡◌, length}
-use Rattle.ac_automaton.specs.OverlappingIter.{rest_of}
+use Rattle.ac_automaton.specs.Overlapping.OverlappingIter.{rest_of}
 use Rattle.ac_c.specs.List.{later_of}
 use Rattle.ac_c.proofs.list.next_later.Given as goal
 

@@ -1,7 +1,7 @@
 -- Each turn moves one match into the buffer.
 use Rattle.std.proofs.Common.{◌≡◌, [], ◌∷◌, ◌++◌, length, refl, subst, arith}
 use Rattle.ac_c.specs.Searching.{AreShown}
-use Rattle.ac_c.proofs.StreamLemmas.{more-than-none, returns-more, returns-none, returns-rest, same-counted, shown-more}
+use Rattle.ac_c.proofs.searching.StreamLemmas.{more-than-none, returns-more, returns-none, returns-rest, same-counted, shown-more}
 use Rattle.ac_c.proofs.searching.fill.Goals as goal
 
 pub loop-at-init : goal.loop-at-init

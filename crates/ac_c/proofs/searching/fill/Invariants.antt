@@ -1,4 +1,4 @@
--- The matches returned so far are the first entries of the buffer. Where there are none, the search is as it was.
+-- The first entries of the buffer are the matches returned so far. As long as there are none, the search is unchanged.
 use Rattle.std.proofs.Common.{◌≡◌, List, []}
 use Rattle.ac_input.specs.Occurrence.{Occurrence}
 use Rattle.ac_c.specs.Searching.{AreShown, Returns}

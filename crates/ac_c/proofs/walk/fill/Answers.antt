@@ -1,29 +1,25 @@
 -- Each turn moves one match into the buffer.
-use Rattle.std.proofs.Common.{◌≡◌, ◌∷◌, Some, None, drop, length, sym, ◌∙◌, arith}
+use Rattle.std.proofs.Common.{◌≡◌, ◌∷◌, Some, drop, length, sym, ◌∙◌, arith}
 use Rattle.ac_automaton.specs.Iter.{left_of}
-use Rattle.ac_automaton.proofs.IterLemmas.{pick-yields}
-use Rattle.ac_c.proofs.CursorLemmas.{after-same}
-use Rattle.ac_c.proofs.FillLemmas.{fill-end, fill-enough, fill-given, fill-rest}
+use Rattle.ac_c.proofs.walk.CursorLemmas.{after-same}
+use Rattle.ac_c.proofs.walk.FillLemmas.{fill-end, fill-enough, fill-given, fill-rest}
 use Rattle.ac_c.proofs.walk.fill.Goals as goal
 
 pub returns-in-None-clause-count : goal.returns-in-None-clause-count
 returns-in-None-clause-count g c =
     let walk = g.W.Walking.walk in let n = c.in-None.ensures in
-    let gives = pick-yields (walk c.loop-at.matches) (walk c.next_match.new.self) None n.kept.within.1 n.gives.0 n.gives.1 in
-    let end : c.loop-at.at ≡ length (left_of (walk c.args.matches.now)) = fill-end _ c.loop-at.at (sym c.loop-at.invariant.rest ∙ gives.0) c.loop-at.invariant.enough in
+    let end : c.loop-at.at ≡ length (left_of (walk c.args.matches.now)) = fill-end _ c.loop-at.at (sym c.loop-at.invariant.rest ∙ n.yields.0) c.loop-at.invariant.enough in
     omega arith
 
 pub returns-in-None-clause-rest : goal.returns-in-None-clause-rest
 returns-in-None-clause-rest g c =
-    let walk = g.W.Walking.walk in let n = c.in-None.ensures in
-    let gives = pick-yields (walk c.loop-at.matches) (walk c.next_match.new.self) None n.kept.within.1 n.gives.0 n.gives.1 in
-    gives.1 ∙ sym (sym c.loop-at.invariant.rest ∙ gives.0)
+    let n = c.in-None.ensures in
+    n.yields.1 ∙ sym (sym c.loop-at.invariant.rest ∙ n.yields.0)
 
 pub loop-at-preserved : goal.loop-at-preserved
 loop-at-preserved g c =
     let walk = g.W.Walking.walk in let n = c.in-Some.ensures in let i = c.loop-at.invariant in
-    let gives = pick-yields (walk c.loop-at.matches) (walk c.next_match.new.self) (Some c.in-Some.found) n.kept.within.1 n.gives.0 n.gives.1 in
-    let next : drop c.loop-at.at (left_of (walk c.args.matches.now)) ≡ c.in-Some.found ∷ left_of (walk c.next_match.new.self) = sym i.rest ∙ gives in
+    let next : drop c.loop-at.at (left_of (walk c.args.matches.now)) ≡ c.in-Some.found ∷ left_of (walk c.next_match.new.self) = sym i.rest ∙ n.yields in
     let same = after-same (walk c.loop-at.matches) (Some c.in-Some.found) (walk c.next_match.new.self) n.gives.1 in
     record {
       rest = fill-rest _ c.loop-at.at c.in-Some.found _ next;

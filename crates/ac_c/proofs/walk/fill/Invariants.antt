@@ -1,4 +1,4 @@
--- The buffer begins with what the walk has given, and the walk has the rest.
+-- The buffer begins with the matches given so far, and the walk has the rest.
 use Rattle.std.proofs.Common.{◌≡◌, ◌≤◌, length, map, take, drop}
 use Rattle.ac_automaton.specs.Iter.{IsOnItsWay, left_of}
 use Rattle.ac_c.specs.Found.{shown}

@@ -1,6 +1,6 @@
--- The walk goes on from the cursor, and the cursor is moved to where it stands.
+-- The walk goes on from the cursor, which is then moved to where the walk stands.
 use Rattle.std.proofs.Common.{rules}
-use Rattle.ac_c.proofs.CursorLemmas.{cursor-some}
+use Rattle.ac_c.proofs.walk.CursorLemmas.{cursor-some}
 use Rattle.ac_c.proofs.walk.some_by.Goals as goal
 
 pub returns-in-Ok : goal.returns-in-Ok

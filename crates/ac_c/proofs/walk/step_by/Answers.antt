@@ -1,16 +1,16 @@
--- The walk goes on from the cursor, and the cursor is moved to where it stands.
+-- The walk goes on from the cursor, which is then moved to where the walk stands.
 use Rattle.std.proofs.Common.{rules}
-use Rattle.ac_automaton.specs.Iter.{IsPlaceIn, place_of}
+use Rattle.ac_automaton.specs.Iter.{IsPlaceIn}
 use Rattle.ac_c.specs.Walk.{Goes}
-use Rattle.ac_c.proofs.CursorLemmas.{cursor-step}
+use Rattle.ac_c.proofs.walk.CursorLemmas.{cursor-step}
 use Rattle.ac_c.proofs.walk.step_by.Goals as goal
 
 pub returns-in-Ok : goal.returns-in-Ok
 returns-in-Ok c =
     let n = c.next_counted-found.ensures in let v = c.next_counted-found.new.self in
     let valid = c.in-Some.ensures.0 in
-    let goes : Goes c.args.cursor (place_of v) c.moved.result = rw c.place.ensures.value at c.moved.ensures in
-    let within : IsPlaceIn v.asked (place_of v) = rw c.place.ensures.value at c.place.ensures.within in
+    let goes : Goes c.args.cursor (record { start = v.at; last = v.last }) c.moved.result = rw c.place.ensures.value at c.moved.ensures in
+    let within : IsPlaceIn v.asked (record { start = v.at; last = v.last }) = rw c.place.ensures.value at c.place.ensures.within in
     let supports = rw c.in-Some.ensures.1 at c.in-Ok.ensures.0 in
     let s = cursor-step c.args.ac.now c.args.haystack.now c.args.cursor c.moved.result c.in-Ok.matches v c.next_counted-found.result (search rules) valid (rw (c.in-Some.ensures.1, c.place_at.ensures) at c.in-Ok.ensures.1) n.gives n.kept within goes in
     ((valid, supports), s.0, s.1, s.2)

@@ -1,4 +1,4 @@
-use Rattle.ac_input.proofs.BeginningLemmas.{earliest-standard}
+use Rattle.ac_input.proofs.lemmas.BeginningLemmas.{earliest-standard}
 use Rattle.ac_input.proofs.beginning_laws.earliest_is_standard.Goals as goal
 
 pub returns : goal.returns

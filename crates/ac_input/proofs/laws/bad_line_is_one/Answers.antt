@@ -1,4 +1,4 @@
-use Rattle.ac_input.proofs.RuleLemmas.{FirstBadLine-one, FirstBadLine-none}
+use Rattle.ac_input.proofs.lemmas.RuleLemmas.{FirstBadLine-one, FirstBadLine-none}
 use Rattle.ac_input.proofs.laws.bad_line_is_one.Goals as goal
 
 pub returns : goal.returns

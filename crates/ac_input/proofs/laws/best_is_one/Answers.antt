@@ -1,4 +1,4 @@
-use Rattle.ac_input.proofs.BestLemmas.{best-computed, best-from_computed}
+use Rattle.ac_input.proofs.lemmas.BestLemmas.{best-computed, best-from_computed}
 use Rattle.ac_input.proofs.laws.best_is_one.Goals as goal
 
 pub returns : goal.returns

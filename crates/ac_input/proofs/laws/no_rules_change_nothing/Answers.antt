@@ -1,4 +1,4 @@
-use Rattle.ac_input.proofs.TextLemmas.{no-rules}
+use Rattle.ac_input.proofs.lemmas.TextLemmas.{no-rules}
 use Rattle.ac_input.proofs.laws.no_rules_change_nothing.Goals as goal
 
 pub returns : goal.returns

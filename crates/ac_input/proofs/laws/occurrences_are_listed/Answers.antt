@@ -1,4 +1,4 @@
-use Rattle.ac_input.proofs.BestLemmas.{occurrences-all}
+use Rattle.ac_input.proofs.lemmas.BestLemmas.{occurrences-all}
 use Rattle.ac_input.proofs.laws.occurrences_are_listed.Goals as goal
 
 pub returns : goal.returns

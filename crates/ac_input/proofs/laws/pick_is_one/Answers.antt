@@ -1,4 +1,4 @@
-use Rattle.ac_input.proofs.WalkLemmas.{pick-computed, pick-from_computed}
+use Rattle.ac_input.proofs.lemmas.WalkLemmas.{pick-computed, pick-from_computed}
 use Rattle.ac_input.proofs.laws.pick_is_one.Goals as goal
 
 pub returns : goal.returns

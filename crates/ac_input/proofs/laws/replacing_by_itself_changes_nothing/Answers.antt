@@ -1,5 +1,5 @@
 use Rattle.std.proofs.Common.{None, refl}
-use Rattle.ac_input.proofs.TextLemmas.{replaced-identity}
+use Rattle.ac_input.proofs.lemmas.TextLemmas.{replaced-identity}
 use Rattle.ac_input.proofs.laws.replacing_by_itself_changes_nothing.Goals as goal
 
 pub returns : goal.returns

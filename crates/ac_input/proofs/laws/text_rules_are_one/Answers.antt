@@ -1,4 +1,4 @@
-use Rattle.ac_input.proofs.TextRuleLemmas.{FirstBadTextLine-none, FirstBadTextLine-one, IsTextRuleFile-one}
+use Rattle.ac_input.proofs.lemmas.TextRuleLemmas.{FirstBadTextLine-none, FirstBadTextLine-one, IsTextRuleFile-one}
 use Rattle.ac_input.proofs.laws.text_rules_are_one.Goals as goal
 
 pub returns : goal.returns

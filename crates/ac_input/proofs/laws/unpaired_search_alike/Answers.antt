@@ -1,5 +1,5 @@
 use Rattle.std.proofs.Common.{None}
-use Rattle.ac_input.proofs.UnpairedLemmas.{best-unpaired, walk_after-unpaired}
+use Rattle.ac_input.proofs.lemmas.UnpairedLemmas.{best-unpaired, walk_after-unpaired}
 use Rattle.ac_input.proofs.laws.unpaired_search_alike.Goals as goal
 
 pub returns : goal.returns

@@ -1,4 +1,4 @@
-use Rattle.ac_input.proofs.WalkLemmas.{walk-rising}
+use Rattle.ac_input.proofs.lemmas.WalkLemmas.{walk-rising}
 use Rattle.ac_input.proofs.laws.walk_is_apart.Goals as goal
 
 pub returns : goal.returns

@@ -1,4 +1,4 @@
-use Rattle.ac_input.proofs.WalkLemmas.{walk-computed, walk-from_computed}
+use Rattle.ac_input.proofs.lemmas.WalkLemmas.{walk-computed, walk-from_computed}
 use Rattle.ac_input.proofs.laws.walk_is_one.Goals as goal
 
 pub returns : goal.returns

@@ -1,4 +1,4 @@
-use Rattle.ac_input.proofs.WalkLemmas.{walk-occurs}
+use Rattle.ac_input.proofs.lemmas.WalkLemmas.{walk-occurs}
 use Rattle.ac_input.proofs.laws.walk_occurs.Goals as goal
 
 pub returns : goal.returns

@@ -1,6 +1,6 @@
--- The bytes of the next pair were alone so far.
+-- The bytes of the next pair are still their own partners.
 use Rattle.std.proofs.Common.{arith, ◌∙◌}
-use Rattle.ac_input.proofs.PairingLemmas.{IsPairing-more, partner-more, partner-alone, last_apart}
+use Rattle.ac_input.proofs.pairing.PairingLemmas.{IsPairing-more, partner-more, partner-alone, last_apart}
 use Rattle.ac_input.proofs.pairing.table_of.Goals as goal
 
 pub loop-a-preserved : goal.loop-a-preserved

@@ -1,4 +1,4 @@
-use Rattle.ac_input.proofs.ClassLemmas.{classes-alike}
+use Rattle.ac_input.proofs.lemmas.ClassLemmas.{classes-alike}
 use Rattle.ac_input.proofs.state_laws.each_leads_alike.Goals as goal
 
 pub returns : goal.returns

@@ -1,4 +1,4 @@
-use Rattle.ac_input.proofs.OnceLemmas.{list-once}
+use Rattle.ac_input.proofs.lemmas.OnceLemmas.{list-once}
 use Rattle.ac_input.proofs.state_laws.lists_are_once.Goals as goal
 
 pub returns : goal.returns

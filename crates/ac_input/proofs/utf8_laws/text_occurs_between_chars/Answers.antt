@@ -1,4 +1,4 @@
-use Rattle.ac_input.proofs.Utf8Lemmas.{text_occurs}
+use Rattle.ac_input.proofs.lemmas.Utf8Lemmas.{text_occurs}
 use Rattle.ac_input.proofs.utf8_laws.text_occurs_between_chars.Goals as goal
 
 pub returns : goal.returns

@@ -1,7 +1,7 @@
 -- The pattern is in the bucket, and so are its partners.
 use Rattle.std.proofs.Common.{refl}
-use Rattle.ac_literal.proofs.OpeningLemmas.{has-both, keeps-twice}
-use Rattle.ac_literal.proofs.TeddyLemmas.{keeps-near}
+use Rattle.ac_literal.proofs.openings.OpeningLemmas.{has-both, keeps-twice}
+use Rattle.ac_literal.proofs.packed.TeddyLemmas.{keeps-near}
 use Rattle.ac_literal.proofs.openings.add.Goals as goal
 
 pub returns-clause-own : goal.returns-clause-own

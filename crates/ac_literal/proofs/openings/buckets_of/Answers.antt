@@ -3,8 +3,8 @@ use Rattle.std.proofs.Common.{ℕ, List, [], length, ap, arith}
 use Rattle.std.proofs.lemmas.List.{length-map}
 use Rattle.std.specs.Borrow.{Bor}
 use Rattle.ac_literal.specs.Packed.{bytes_of}
-use Rattle.ac_literal.proofs.OpeningLemmas.{pattern-lent, opened-more}
-use Rattle.ac_literal.proofs.TeddyLemmas.{keeps-near}
+use Rattle.ac_literal.proofs.openings.OpeningLemmas.{pattern-lent, opened-more}
+use Rattle.ac_literal.proofs.packed.TeddyLemmas.{keeps-near}
 use Rattle.ac_literal.proofs.openings.buckets_of.Goals as goal
 
 pub add-requires-clause-long : goal.add-requires-clause-long

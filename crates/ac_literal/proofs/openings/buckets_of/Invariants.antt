@@ -1,7 +1,7 @@
 -- The patterns so far are in buckets.
-use Rattle.ac_literal.specs.Marks.{HaveOpened}
+use Rattle.ac_literal.specs.Openings.Marks.{HaveOpened}
 use Rattle.ac_literal.specs.Packed.{bytes_of}
-use Rattle.ac_literal.specs.Teddy.{LooksBefore}
+use Rattle.ac_literal.specs.Packed.Teddy.{LooksBefore}
 use Rattle.ac_literal.proofs.openings.buckets_of.Given as goal
 
 abbrev pub invariant-loop-number : goal.invariant-loop-number

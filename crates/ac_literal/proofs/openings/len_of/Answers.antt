@@ -1,8 +1,8 @@
--- The least of the lengths so far and one more.
+-- One more pattern is no shorter than the length.
 use Rattle.std.proofs.Common.{ℕ, List, [], length, ap, arith}
 use Rattle.std.specs.Borrow.{Bor}
 use Rattle.ac_literal.specs.Packed.{bytes_of}
-use Rattle.ac_literal.proofs.OpeningLemmas.{pattern-lent, short-more}
+use Rattle.ac_literal.proofs.openings.OpeningLemmas.{pattern-lent, short-more}
 use Rattle.ac_literal.proofs.openings.len_of.Goals as goal
 
 pub loop-pattern-preserved : goal.loop-pattern-preserved

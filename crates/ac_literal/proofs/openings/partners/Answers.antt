@@ -1,4 +1,4 @@
--- One partner more.
+-- One more byte is replaced by its partner.
 use Rattle.std.proofs.Common.{◌<◌, inl, inr, length, set, ap, sym, ◌∙◌, arith, get_or, get_or-set_same, get_or-set_other, length-set}
 use Rattle.std.proofs.lemmas.Bool.{cases_eq}
 use Rattle.ac_input.specs.Same.{other}

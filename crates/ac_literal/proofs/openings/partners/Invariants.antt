@@ -1,4 +1,4 @@
--- The partners so far.
+-- The bytes so far are replaced by their partners.
 use Rattle.std.proofs.Common.{◌≡◌, ℕ, ◌<◌, length, slice_index}
 use Rattle.ac_input.specs.Same.{other}
 use Rattle.ac_literal.proofs.openings.partners.Given as goal

@@ -1,9 +1,9 @@
--- The set has one pattern more.
+-- The set has the fingerprint of one more pattern.
 use Rattle.std.proofs.Common.{ℕ, List, [], length, get_or, ap, arith, sym, length-take-le}
 use Rattle.std.proofs.lemmas.List.{length-map}
 use Rattle.std.specs.Borrow.{Bor}
 use Rattle.ac_literal.specs.Packed.{bytes_of}
-use Rattle.ac_literal.proofs.OpeningLemmas.{pattern-lent, printed-more}
+use Rattle.ac_literal.proofs.openings.OpeningLemmas.{pattern-lent, printed-more}
 use Rattle.ac_literal.proofs.openings.prints_of.Goals as goal
 
 pub slice_bounds-add-end : goal.slice_bounds-add-end

@@ -1,5 +1,5 @@
--- The set has the patterns so far.
-use Rattle.ac_literal.specs.Fingerprints.{ArePrinted}
+-- The set has the fingerprints of the patterns so far.
+use Rattle.ac_literal.specs.Openings.Fingerprints.{ArePrinted}
 use Rattle.ac_literal.specs.Packed.{bytes_of}
 use Rattle.ac_literal.proofs.openings.prints_of.Given as goal
 

@@ -1,7 +1,7 @@
 -- The links are those of the trie.
 use Rattle.std.proofs.Common.{sym, subst}
 use Rattle.ac_input.specs.Pairing.{IsPairing}
-use Rattle.ac_noncontiguous.proofs.BuilderLemmas.{if_ok-both}
+use Rattle.ac_noncontiguous.proofs.builder.BuilderLemmas.{if_ok-both}
 use Rattle.ac_noncontiguous.proofs.builder.tables_of.Goals as goal
 
 pub returns : goal.returns

@@ -1,6 +1,6 @@
--- The own patterns come first, and then a copy of the rest; each stands there once, so their number fits.
+-- The own patterns come first, and then a copy of the rest. No pattern is there twice, so the length of the list fits.
 use Rattle.std.proofs.Common.{arith}
-use Rattle.ac_noncontiguous.proofs.ListLemmas.{list-fits, listed-shared, listed-copied}
+use Rattle.ac_noncontiguous.proofs.links.ListLemmas.{list-fits, listed-shared, listed-copied}
 use Rattle.ac_noncontiguous.proofs.links.push_list.Goals as goal
 
 pub overflow_cast-len : goal.overflow_cast-len

@@ -1,6 +1,6 @@
 use Rattle.std.proofs.Common.{sym}
 use Rattle.std.proofs.lemmas.Bool.{false_from_ne_true}
-use Rattle.ac_input.proofs.OrderLemmas.{same_text-length}
+use Rattle.ac_input.proofs.lemmas.OrderLemmas.{same_text-length}
 use Rattle.ac_plain.proofs.plain.is_same.Goals as goal
 
 pub returns-then-pattern-text : goal.returns-then-pattern-text

@@ -1,6 +1,6 @@
 use Rattle.std.proofs.Common.{◌∙◌, sym}
 use Rattle.std.proofs.lemmas.Bool.{eqb-true}
-use Rattle.ac_tables.proofs.DfaReadLemmas.{classes-plain}
+use Rattle.ac_tables.proofs.dfa.DfaReadLemmas.{classes-plain}
 use Rattle.ac_tables.proofs.rows.is_plain.Goals as goal
 
 pub returns : goal.returns

@@ -1,8 +1,8 @@
--- Either classes serve the dictionary.
+-- The classes serve the dictionary, whether bytes are put into classes or not.
 use Rattle.std.proofs.Common.{◌≡◌, rules}
-use Rattle.ac_noncontiguous.specs.Reads.{dictionary}
-use Rattle.ac_noncontiguous.specs.ReadCalls.{classes_in}
-use Rattle.ac_tables.proofs.WordTableLemmas.{own-serve, singles-serve}
+use Rattle.ac_noncontiguous.specs.Nfa.Reads.{dictionary}
+use Rattle.ac_noncontiguous.specs.Nfa.ReadCalls.{classes_in}
+use Rattle.ac_tables.proofs.contiguous.WordTableLemmas.{own-serve, singles-serve}
 use Rattle.ac_tables.proofs.source.classes_of.Goals as goal
 
 pub returns-in_ok-clone-clause-serve : goal.returns-in_ok-clone-clause-serve

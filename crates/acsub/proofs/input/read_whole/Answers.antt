@@ -1,10 +1,10 @@
--- Each read puts its piece after those before it.
+-- Each read adds its piece after those before it.
 use Rattle.std.proofs.Common.{◌≡◌, ◌+◌, ◌-◌, ◌≤◌, [], ◌∷◌, ◌++◌, length, take, length-take, length-drop, refl, sym, ap, ◌∙◌, arith}
 use Rattle.std.specs.List.{concat}
 use Rattle.std.proofs.lemmas.List.{append-nil}
-use Rattle.ac_automaton.proofs.MovedLemmas.{AreFilled-push, given-none, given-gave, given-failed, given-push, still-open}
-use Rattle.ac_automaton.proofs.BufferLemmas.{front-more}
-use Rattle.acsub.proofs.InputLemmas.{filled-same, piece_filled, concat-push}
+use Rattle.ac_automaton.proofs.devices.MovedLemmas.{AreFilled-push, given-none, given-gave, given-failed, given-push, still-open}
+use Rattle.ac_automaton.proofs.devices.BufferLemmas.{front-more}
+use Rattle.acsub.proofs.input.InputLemmas.{filled-same, piece_filled, concat-push}
 use Rattle.acsub.proofs.input.read_whole.Goals as goal
 
 pub loop-input-init : goal.loop-input-init

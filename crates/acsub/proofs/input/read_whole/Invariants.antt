@@ -1,7 +1,6 @@
 use Rattle.std.proofs.Common.{◌≡◌, ℕ, ◌-◌, ◌≤◌, ◌^◌, List, false, take, vec_len}
 use Rattle.std.specs.List.{concat}
-use Rattle.ac_automaton.specs.Watched.{has_ended}
-use Rattle.ac_automaton.specs.Moved.{AreFilled, HasGiven}
+use Rattle.ac_automaton.specs.Devices.Moved.{AreFilled, HasGiven}
 use Rattle.acsub.proofs.input.read_whole.Given as goal
 
 abbrev pub invariant-loop-input : goal.invariant-loop-input
@@ -11,7 +10,7 @@ invariant-loop-input g l = record {
   filled : AreFilled gained;
   is : take l.filled l.input.items ≡ concat gained;
   within : l.filled ≤ vec_len l.input;
-  open_still : has_ended l.reader ≡ false;
+  open_still : l.reader.ended ≡ false;
 }
 
 abbrev pub decreases-loop-input : goal.decreases-loop-input

@@ -1,4 +1,4 @@
--- The byte stands last, and the number before it.
+-- The number is written before the byte, which stands last.
 use Rattle.std.proofs.Common.{◌-◌, arith, length-set}
 use Rattle.acsub.proofs.line.put_number.Goals as goal
 

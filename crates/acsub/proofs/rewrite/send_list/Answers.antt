@@ -1,12 +1,12 @@
--- Each line is that of the next pick.
+-- Each turn sends the line of the next match.
 use Rattle.std.proofs.Common.{ℕ, List, ◌++◌, [], refl, subst}
 use Rattle.std.proofs.lemmas.Result.{err_from_is_err_and}
 use Rattle.ac_input.specs.Text.{line, listed}
-use Rattle.ac_automaton.specs.Output.{Sent}
-use Rattle.ac_automaton.proofs.OutputLemmas.{Sent-none, Sent-then}
+use Rattle.ac_automaton.specs.Devices.Output.{Sent}
+use Rattle.ac_automaton.proofs.devices.OutputLemmas.{Sent-none, Sent-then}
 use Rattle.acsub.specs.Matches.{left_in}
-use Rattle.acsub.proofs.RewriteLemmas.{listed-end, listed-step}
-use Rattle.acsub.proofs.SendingLemmas.{sends-stopped}
+use Rattle.acsub.proofs.rewrite.RewriteLemmas.{listed-end, listed-step}
+use Rattle.acsub.proofs.rewrite.SendingLemmas.{sends-stopped}
 use Rattle.acsub.proofs.rewrite.send_list.Goals as goal
 
 pub loop-found-init : goal.loop-found-init

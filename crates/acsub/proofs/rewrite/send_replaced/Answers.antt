@@ -1,15 +1,15 @@
--- Each piece stands before the next pick, or in its place.
+-- Each turn sends the bytes before the next match, and then its replacement.
 use Rattle.std.proofs.Common.{ℕ, ◌++◌, List, [], length, refl, ap, ◌∙◌, arith}
 use Rattle.std.specs.Prelude.{slice_range}
 use Rattle.std.proofs.lemmas.Result.{err_from_is_err_and}
 use Rattle.std.proofs.lemmas.List.{take_rest}
-use Rattle.acsub.specs.Lines.{rule_at}
+use Rattle.acsub.specs.Rules.Lines.{rule_at}
 use Rattle.acsub.specs.Matches.{left_in}
-use Rattle.acsub.specs.Sides.{replacements_of}
-use Rattle.ac_automaton.proofs.OutputLemmas.{Sent-none, Sent-then}
-use Rattle.acsub.proofs.RewriteLemmas.{replaced-end, replaced-step, replacement_of_rule}
-use Rattle.ac_automaton.proofs.ReplaceLemmas.{lies-first}
-use Rattle.acsub.proofs.SendingLemmas.{sends-last, sends-stopped}
+use Rattle.acsub.specs.Rules.Sides.{replacements_of}
+use Rattle.ac_automaton.proofs.devices.OutputLemmas.{Sent-none, Sent-then}
+use Rattle.acsub.proofs.rewrite.RewriteLemmas.{replaced-end, replaced-step, replacement_of_rule}
+use Rattle.ac_automaton.proofs.lemmas.ReplaceLemmas.{lies-first}
+use Rattle.acsub.proofs.rewrite.SendingLemmas.{sends-last, sends-stopped}
 use Rattle.acsub.proofs.rewrite.send_replaced.Goals as goal
 
 pub loop-found-init : goal.loop-found-init

@@ -1,6 +1,6 @@
 use Rattle.std.proofs.Common.{◌≢◌, ◌+◌, length, sym, ◌∙◌, arith}
 use Rattle.std.proofs.lemmas.Bool.{false≢true, eqb-true, eq-eqb}
-use Rattle.acsub.proofs.LineLemmas.{BeginsWithRules-count, BeginsWithRuleCount-bound, IsRuleFile-from_count, FirstBadLine-from_count}
+use Rattle.acsub.proofs.rules.LineLemmas.{BeginsWithRules-count, BeginsWithRuleCount-bound, IsRuleFile-from_count, FirstBadLine-from_count}
 use Rattle.acsub.proofs.rules.count_rules.Goals as goal
 
 pub loop-line-preserved : goal.loop-line-preserved

@@ -1,5 +1,5 @@
 use Rattle.std.proofs.Common.{length}
-use Rattle.acsub.proofs.LineLemmas.{BeginsWithRuleCount}
+use Rattle.acsub.proofs.rules.LineLemmas.{BeginsWithRuleCount}
 use Rattle.acsub.proofs.rules.count_rules.Given as goal
 
 abbrev pub invariant-loop-line : goal.invariant-loop-line

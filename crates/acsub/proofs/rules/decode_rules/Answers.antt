@@ -1,6 +1,6 @@
-use Rattle.ac_input.proofs.RuleLemmas.{IsRuleFile-from_none}
-use Rattle.acsub.specs.Sides.{rules_of}
-use Rattle.acsub.proofs.LineLemmas.{BeginsWithRules-keep}
+use Rattle.ac_input.proofs.lemmas.RuleLemmas.{IsRuleFile-from_none}
+use Rattle.acsub.specs.Rules.Sides.{rules_of}
+use Rattle.acsub.proofs.rules.LineLemmas.{BeginsWithRules-keep}
 use Rattle.acsub.proofs.rules.decode_rules.Goals as goal
 
 pub loop-line-preserved : goal.loop-line-preserved

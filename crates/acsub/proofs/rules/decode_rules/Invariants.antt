@@ -1,6 +1,6 @@
 use Rattle.std.proofs.Common.{length}
-use Rattle.ac_input.proofs.RuleLemmas.{BeginsWithRules}
-use Rattle.acsub.specs.Sides.{rules_of}
+use Rattle.ac_input.proofs.lemmas.RuleLemmas.{BeginsWithRules}
+use Rattle.acsub.specs.Rules.Sides.{rules_of}
 use Rattle.acsub.proofs.rules.decode_rules.Given as goal
 
 abbrev pub invariant-loop-line : goal.invariant-loop-line

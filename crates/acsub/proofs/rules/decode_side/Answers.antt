@@ -1,4 +1,4 @@
-use Rattle.acsub.proofs.SpellingLemmas.{Spells-from_decode_of}
+use Rattle.acsub.proofs.rules.SpellingLemmas.{Spells-from_decode_of}
 use Rattle.std.proofs.Common.{rules}
 use Rattle.acsub.proofs.rules.decode_side.Goals as goal
 

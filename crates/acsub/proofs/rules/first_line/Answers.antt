@@ -1,5 +1,5 @@
 use Rattle.std.proofs.lemmas.Bool.{false≢true}
-use Rattle.acsub.proofs.LineLemmas.{BeginsWithNoRule-no_tab, BeginsWithNoRule-no_feed, BeginsWithNoRule-no_digits}
+use Rattle.acsub.proofs.rules.LineLemmas.{BeginsWithNoRule-no_tab, BeginsWithNoRule-no_feed, BeginsWithNoRule-no_digits}
 use Rattle.acsub.proofs.rules.first_line.Goals as goal
 use Rattle.acsub.proofs.rules.first_line.Goals.{else-is_spelling-via-then-is_spelling+else-is_spelling-2, else-is_spelling-via-else-is_spelling}
 

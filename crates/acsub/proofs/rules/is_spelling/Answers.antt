@@ -3,7 +3,7 @@ use Rattle.std.specs.Char.{is_ascii_hexdigit}
 use Rattle.std.proofs.lemmas.Bool.{eqb-true}
 use Rattle.std.proofs.lemmas.Iterator.{YieldsList-from_slice}
 use Rattle.std.proofs.lemmas.Iterator.Search.{all_from_yields_List}
-use Rattle.acsub.proofs.SpellingLemmas.{spelling_by_digits, digits_from_spelling}
+use Rattle.acsub.proofs.rules.SpellingLemmas.{spelling_by_digits, digits_from_spelling}
 use Rattle.acsub.proofs.rules.is_spelling.Goals as goal
 
 pub returns-then-text-eq0 : goal.returns-then-text-eq0

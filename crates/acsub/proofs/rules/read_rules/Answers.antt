@@ -1,7 +1,7 @@
 use Rattle.std.proofs.Common.{◌≡◌, ℕ, Err, ap, subst}
 use Rattle.std.proofs.lemmas.Result.{IfErr-at_err}
 use Rattle.ac_input.specs.Rules.{FirstBadLine}
-use Rattle.ac_input.proofs.RuleLemmas.{FirstBadLine-one, FirstBadLine-none}
+use Rattle.ac_input.proofs.lemmas.RuleLemmas.{FirstBadLine-one, FirstBadLine-none}
 use Rattle.acsub.specs.declared.rules.RuleError.{RuleError}
 use Rattle.acsub.specs.declared.rules.RuleError.TheVariants.{Line, Memory}
 use Rattle.acsub.proofs.rules.read_rules.Goals as goal

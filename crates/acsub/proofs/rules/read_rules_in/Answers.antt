@@ -1,4 +1,4 @@
--- Each form has its reader.
+-- Each form of rule file has its own reader.
 use Rattle.acsub.proofs.rules.read_rules_in.Goals as goal
 
 pub returns-then-text : goal.returns-then-text

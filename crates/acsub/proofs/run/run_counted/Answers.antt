@@ -1,5 +1,5 @@
 -- What was read, and the text of it that was written.
-use Rattle.acsub.proofs.RunLemmas.{wrote-text_by}
+use Rattle.acsub.proofs.run.RunLemmas.{wrote-text_by}
 use Rattle.acsub.proofs.run.run_counted.Goals as goal
 
 pub returns-clause-written : goal.returns-clause-written

@@ -1,6 +1,6 @@
--- What is said of the rules is said of their file.
+-- What holds for the rules holds for their file.
 use Rattle.acsub.specs.Plan.{plan_of}
-use Rattle.acsub.proofs.FileLemmas.{costs_in, ran_in, refuses_in, unread_costs, unread_ran, unread_refuses}
+use Rattle.acsub.proofs.run.FileLemmas.{costs_in, ran_in, refuses_in, unread_costs, unread_ran, unread_refuses}
 use Rattle.acsub.proofs.run.run_in.Goals as goal
 
 pub returns-in-Ok-clause-answered : goal.returns-in-Ok-clause-answered

@@ -1,11 +1,11 @@
--- The result of the preparation, or that of the transformation.
+-- The result is that of the preparation if it failed, and else that of the transformation.
 use Rattle.std.proofs.Common.{refl, subst, sym}
 use Rattle.acsub.specs.Plan.{Plan, plan_of}
 use Rattle.acsub.specs.Run.{CostsRun, RanRules, ReadsByBuffer, RunsOutFirst}
 use Rattle.acsub.specs.Settings.{IsAccepted}
-use Rattle.acsub.proofs.CountLemmas.{nothing_cost}
-use Rattle.acsub.proofs.RunLemmas.{HasMoved-nothing, nothing, prepared_answer, unprepared_begun}
-use Rattle.acsub.proofs.StreamedLemmas.{nothing_short}
+use Rattle.acsub.proofs.run.CountLemmas.{nothing_cost}
+use Rattle.acsub.proofs.run.RunLemmas.{HasMoved-nothing, nothing, prepared_answer, unprepared_begun}
+use Rattle.acsub.proofs.stream.StreamedLemmas.{nothing_short}
 use Rattle.acsub.proofs.run.run_plan.Goals as goal
 
 pub transform-requires-clause-accepted : goal.transform-requires-clause-accepted

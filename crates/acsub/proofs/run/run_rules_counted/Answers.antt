@@ -1,5 +1,5 @@
 -- What was read, and the text of it that was written.
-use Rattle.acsub.proofs.RunLemmas.{wrote-text}
+use Rattle.acsub.proofs.run.RunLemmas.{wrote-text}
 use Rattle.acsub.specs.Plan.{plan_for}
 use Rattle.acsub.proofs.run.run_rules_counted.Goals as goal
 

@@ -1,5 +1,5 @@
--- One rule file has one list of rules, and the text goes by nothing else that may differ.
-use Rattle.acsub.proofs.RunLawLemmas as laws
+-- A rule file has one list of rules, and the text depends on nothing else that may differ.
+use Rattle.acsub.proofs.run.RunLawLemmas as laws
 use Rattle.acsub.proofs.run.runs_write_alike.Goals as goal
 
 pub returns : goal.returns

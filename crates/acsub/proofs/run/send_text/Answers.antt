@@ -1,8 +1,8 @@
--- The picks of the whole input lie in order, and overlapping matches are asked under the standard kind alone. Of each search all is
--- counted.
+-- The matches of the whole input lie in order. Overlapping matches are accepted only under the standard kind. Each search counts
+-- all that it does.
 use Rattle.std.proofs.Common.{sym, ◌∙◌}
-use Rattle.acsub.proofs.CountLemmas.{counted-cost}
-use Rattle.acsub.proofs.FinderLemmas.{whole-lies, overlap-standard}
+use Rattle.acsub.proofs.run.CountLemmas.{counted-cost}
+use Rattle.acsub.proofs.prepared.FinderLemmas.{whole-lies, overlap-standard}
 use Rattle.acsub.proofs.run.send_text.Goals as goal
 
 pub send_replaced-requires : goal.send_replaced-requires

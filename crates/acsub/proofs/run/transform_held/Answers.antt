@@ -1,8 +1,8 @@
 -- Nothing was moved before the input was read, and nothing was written before its end.
 use Rattle.std.proofs.Common.{Err, Ok, ◌∙◌}
 use Rattle.std.proofs.lemmas.Result.{err_from_is_err_and}
-use Rattle.acsub.proofs.CountLemmas.{held-cost, nothing_cost, unread-cost}
-use Rattle.acsub.proofs.RunLemmas.{memory_ran, read_answer, write-config, write_answer, written_answer}
+use Rattle.acsub.proofs.run.CountLemmas.{held-cost, nothing_cost, unread-cost}
+use Rattle.acsub.proofs.run.RunLemmas.{memory_ran, read_answer, write-config, write_answer, written_answer}
 use Rattle.acsub.proofs.run.transform_held.Goals as goal
 
 pub returns-in_err-output-clause-ran : goal.returns-in_err-output-clause-ran

@@ -1,8 +1,8 @@
--- What was held back is the last of the text.
+-- The bytes that were held back are the last of the text.
 use Rattle.std.proofs.Common.{[]}
 use Rattle.std.proofs.lemmas.List.{append-nil}
-use Rattle.acsub.specs.Transformed.{output_of}
-use Rattle.acsub.proofs.SendingLemmas.{sends-last}
+use Rattle.acsub.specs.Run.Transformed.{output_of}
+use Rattle.acsub.proofs.rewrite.SendingLemmas.{sends-last}
 use Rattle.acsub.proofs.run.write_text.Goals as goal
 
 pub returns-clause-sent : goal.returns-clause-sent

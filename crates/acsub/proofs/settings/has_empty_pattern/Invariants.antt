@@ -1,5 +1,5 @@
 use Rattle.std.proofs.Common.{◌≢◌, ℕ, ◌<◌, []}
-use Rattle.acsub.specs.Lines.{rule_at}
+use Rattle.acsub.specs.Rules.Lines.{rule_at}
 use Rattle.acsub.proofs.settings.has_empty_pattern.Given as goal
 
 abbrev pub invariant-loop-i : goal.invariant-loop-i

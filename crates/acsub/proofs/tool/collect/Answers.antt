@@ -1,4 +1,4 @@
--- The iterator gives the words that it holds, in their order.
+-- The iterator returns the words that it holds, in order.
 use Rattle.std.proofs.Common.{ℕ, Ok, refl}
 use Rattle.std.specs.Vec.Iter.{into_iter_items}
 use Rattle.std.proofs.lemmas.Iterator.{items_from_collect}

@@ -1,5 +1,5 @@
--- The status is that of the tool over the words, or of the fault for which there are none.
-use Rattle.acsub.proofs.OutcomeLemmas.{ends-collected, ends-uncollected}
+-- The status is that of the tool over the words, or of the fault that kept them from being collected.
+use Rattle.acsub.proofs.tool.OutcomeLemmas.{ends-collected, ends-uncollected}
 use Rattle.acsub.proofs.tool.program.Goals as goal
 use Rattle.acsub.proofs.tool.program.Goals.{in-Ok, in-Err}
 

@@ -1,5 +1,5 @@
--- The run was made of the file's bytes, and then the writer was flushed.
-use Rattle.acsub.proofs.OutcomeLemmas.{run-finished}
+-- The run took its rules from the file's bytes, and then the writer was flushed.
+use Rattle.acsub.proofs.tool.OutcomeLemmas.{run-finished}
 use Rattle.acsub.proofs.tool.run_file.Goals as goal
 
 pub returns : goal.returns

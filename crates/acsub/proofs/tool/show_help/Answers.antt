@@ -1,5 +1,5 @@
 -- The text was written, and then the writer was flushed.
-use Rattle.acsub.proofs.OutcomeLemmas.{help-finished}
+use Rattle.acsub.proofs.tool.OutcomeLemmas.{help-finished}
 use Rattle.acsub.proofs.tool.show_help.Goals as goal
 
 pub returns : goal.returns

@@ -4,10 +4,10 @@ use Rattle.std.specs.Str.Parse.{ExplainsUnsignedError, HasUnsignedDigitsIfOk, Pa
 use Rattle.clap.specs.Words.{IsUnsignedIn, ReadsOne, Text, found_of, one_of, rows_of}
 use Rattle.clap.proofs.WalkLemmas.{one_text-rows}
 use Rattle.acsub.specs.Words.{number_of}
-use Rattle.acsub.specs.Command.{greatest_depth}
+use Rattle.acsub.specs.Words.Command.{greatest_depth}
 use Rattle.acsub.proofs.words.asked_for.Goals as goal
 
--- a number that clap let through reads as that number
+-- a number that clap accepts is read as that number
 depth_read : {E : Type 0} (gives : Text → Result ℕ E → Type 0) (o : Option Text) (r : Option ℕ) → (o ≡ None → r ≡ None) → ((t : Text) → o ≡ Some t → ReadsOne gives t r)
     → ((t : Text) (x : Result ℕ E) → gives t x → ParsesUnsigned 64 10 t x) → ((t : Text) → o ≡ Some t → IsUnsignedIn 0 greatest_depth t) → option_map number_of o ≡ r
 depth_read gives None r none read parses fits = sym (none refl)

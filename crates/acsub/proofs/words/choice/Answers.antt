@@ -1,7 +1,7 @@
 use Rattle.std.proofs.Common.{◌∙◌, ap, [], ◌∷◌}
 use Rattle.clap.specs.Words.{Rule, rule_of}
 use Rattle.clap.specs.declared.builder.arg.Arg.{Arg}
-use Rattle.acsub.proofs.BuiltLemmas.{given_own, given_rule}
+use Rattle.acsub.proofs.words.BuiltLemmas.{given_own, given_rule}
 use Rattle.acsub.proofs.words.choice.Goals as goal
 
 pub returns-clause-rule : goal.returns-clause-rule

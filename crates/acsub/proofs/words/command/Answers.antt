@@ -3,8 +3,8 @@ use Rattle.std.proofs.lemmas.Result.{IfOk-weaker}
 use Rattle.clap.specs.Words.{App, app_of, rule_of, with_rule}
 use Rattle.clap.specs.Walk.{texts}
 use Rattle.clap.specs.Simple.{app_of_fields}
-use Rattle.acsub.specs.Command.{Names, mode_rule, versioned, with_engine, with_matching}
-use Rattle.acsub.proofs.BuiltLemmas.{given_own, given_rule}
+use Rattle.acsub.specs.Words.Command.{Names, mode_rule, versioned, with_engine, with_matching}
+use Rattle.acsub.proofs.words.BuiltLemmas.{given_own, given_rule}
 use Rattle.acsub.proofs.words.command.Goals as goal
 
 pub returns : goal.returns

@@ -1,4 +1,4 @@
-use Rattle.acsub.proofs.BuiltLemmas.{acting_rule, helped_rule, long_rule}
+use Rattle.acsub.proofs.words.BuiltLemmas.{acting_rule, helped_rule, long_rule}
 use Rattle.acsub.proofs.words.flag.Goals as goal
 
 pub returns-clause-rule : goal.returns-clause-rule

@@ -3,7 +3,7 @@ use Rattle.hex.specs.Hex.{decode_of}
 use Rattle.std.proofs.Common.{◌⊎◌, Err, List, subst, ℕ}
 use Rattle.hex.specs.declared.error.FromHexError.TheVariants.{OutOfMemory}
 use Rattle.acsub.specs.Words.{Misspells}
-use Rattle.acsub.proofs.PairsLemmas.{misspells, spells_nothing, spells_odd, spells_these}
+use Rattle.acsub.proofs.words.PairsLemmas.{misspells, spells_nothing, spells_odd, spells_these}
 use Rattle.acsub.proofs.words.pairs_of.Goals.{then-count-eq0-via-then-count-eq0, then-count-eq0-via-else-count-eq0+then-count-eq1}
 use Rattle.acsub.proofs.words.pairs_of.Goals as goal
 

@@ -1,5 +1,5 @@
 use Rattle.std.proofs.lemmas.Result.{err_from_is_err_and}
-use Rattle.acsub.proofs.ParseLemmas.{failed, parsed}
+use Rattle.acsub.proofs.words.ParseLemmas.{failed, parsed}
 use Rattle.acsub.proofs.words.parse.Goals as goal
 
 pub returns-in_err-command : goal.returns-in_err-command

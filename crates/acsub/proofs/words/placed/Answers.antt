@@ -1,4 +1,4 @@
-use Rattle.acsub.proofs.BuiltLemmas.{acting_rule, helped_rule, named_rule, required_rule}
+use Rattle.acsub.proofs.words.BuiltLemmas.{acting_rule, helped_rule, named_rule, required_rule}
 use Rattle.acsub.proofs.words.placed.Goals as goal
 
 pub returns-clause-rule : goal.returns-clause-rule

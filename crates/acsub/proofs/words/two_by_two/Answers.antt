@@ -3,7 +3,7 @@ use Rattle.std.proofs.lemmas.Grind.{common_steps}
 use Rattle.ac_input.specs.Pairing.{named}
 use Rattle.acsub.proofs.words.two_by_two.Goals as goal
 
--- what pairs name, one after the other
+-- two lists of pairs, joined, name the bytes of the first and then of the second
 named-append : (xs ys : List (ℕ × ℕ)) → named (xs ++ ys) ≡ named xs ++ named ys
 named-append [] ys = refl
 named-append (x ∷ xs) ys = ap (λ l. x.0 ∷ (x.1 ∷ l)) (named-append xs ys)

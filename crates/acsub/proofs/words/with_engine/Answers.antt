@@ -2,8 +2,8 @@ use Rattle.std.proofs.Common.{◌≡◌, ◌∙◌, ap, ap₂}
 use Rattle.std.proofs.lemmas.Result.{IfOk-weaker}
 use Rattle.clap.specs.Words.{app_of, rule_of, with_rule}
 use Rattle.clap.specs.Walk.{texts}
-use Rattle.acsub.specs.Command.{depth_rule}
-use Rattle.acsub.proofs.BuiltLemmas.{given_own, given_rule}
+use Rattle.acsub.specs.Words.Command.{depth_rule}
+use Rattle.acsub.proofs.words.BuiltLemmas.{given_own, given_rule}
 use Rattle.acsub.proofs.words.with_engine.Goals as goal
 
 pub returns : goal.returns

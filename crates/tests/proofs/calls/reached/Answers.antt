@@ -1,4 +1,4 @@
--- By one byte more, and from the start of the search.
+-- One byte more leads to the next state, and the empty text to the start.
 use Rattle.std.proofs.Math.Logic.{∥∥₁_map}
 use Rattle.tests.proofs.calls.reached.Goals as goal
 

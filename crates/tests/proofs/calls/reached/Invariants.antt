@@ -1,4 +1,4 @@
--- The state was reached by the bytes so far.
+-- The bytes so far lead to the state.
 use Rattle.ac_automaton.specs.Automaton.{IsReached}
 use Rattle.tests.proofs.calls.reached.Given as goal
 

@@ -1,8 +1,8 @@
--- What is known after one byte more, and where reading on stops.
+-- One byte more is read, and reading on stops or goes on.
 use Rattle.std.proofs.Common.{ℕ, List, IsTrue, sym, ◌∙◌}
 use Rattle.std.proofs.lemmas.Bool.{false≢true}
 use Rattle.std.proofs.lemmas.Option.{slice_get-get_or}
-use Rattle.ac_automaton.proofs.CursorLemmas.{advanced-cost, advanced-more, reached-on, reached-state}
+use Rattle.ac_automaton.proofs.lemmas.CursorLemmas.{advanced-cost, advanced-more, reached-on, reached-state}
 use Rattle.ac_automaton.proofs.automaton.Automaton.advance.Goals as goal
 
 pub next_state_counted-current-requires : goal.next_state_counted-current-requires

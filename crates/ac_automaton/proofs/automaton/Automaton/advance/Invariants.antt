@@ -1,5 +1,5 @@
 -- What is known about the state after the bytes read so far.
-use Rattle.ac_automaton.proofs.CursorLemmas.{HasAdvanced}
+use Rattle.ac_automaton.proofs.lemmas.CursorLemmas.{HasAdvanced}
 use Rattle.ac_automaton.proofs.automaton.Automaton.advance.Given as goal
 
 abbrev pub invariant-loop-read : goal.invariant-loop-read

@@ -1,6 +1,6 @@
 -- What is known about the state after the bytes read so far.
 use Rattle.ac_automaton.specs.Automaton.{is_matching}
-use Rattle.ac_automaton.proofs.CursorLemmas.{HasAdvanced}
+use Rattle.ac_automaton.proofs.lemmas.CursorLemmas.{HasAdvanced}
 use Rattle.ac_automaton.proofs.automaton.Automaton.advance_to_match.Given as goal
 
 abbrev pub invariant-loop-read : goal.invariant-loop-read

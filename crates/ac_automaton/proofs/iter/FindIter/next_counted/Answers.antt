@@ -1,7 +1,7 @@
--- The pick of the input that is left is that of the walk.
+-- The next pick of the rest of the input is the walk's next pick.
 use Rattle.std.proofs.Common.{rules}
 use Rattle.ac_automaton.specs.Iter.{walk_at}
-use Rattle.ac_automaton.proofs.IterLemmas.{idle-cost, pick-counted, pick-of_walk}
+use Rattle.ac_automaton.proofs.iter.IterLemmas.{idle-cost, pick-counted, pick-of_walk}
 use Rattle.ac_automaton.proofs.iter.FindIter.next_counted.Goals as goal
 
 pub returns-in-Some-clause-gives : goal.returns-in-Some-clause-gives

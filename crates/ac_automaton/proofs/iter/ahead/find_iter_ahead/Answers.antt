@@ -1,6 +1,6 @@
--- The walk that begins is all of the walk of its input.
+-- The walk begins with all picks of its input left.
 use Rattle.std.proofs.Common.{rules}
-use Rattle.ac_automaton.proofs.ItemsLemmas.{from-answers, from-few, from-in-order}
+use Rattle.ac_automaton.proofs.iter.ItemsLemmas.{from-answers, from-few, from-in-order}
 use Rattle.ac_automaton.proofs.iter.ahead.find_iter_ahead.Goals as goal
 
 pub returns-clause-answer : goal.returns-clause-answer

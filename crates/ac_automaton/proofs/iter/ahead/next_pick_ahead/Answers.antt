@@ -1,7 +1,7 @@
 -- Where no pattern is empty, no match repeats the last pick.
 use Rattle.ac_input.specs.Walk.{Here}
 use Rattle.ac_automaton.specs.FindAhead.{MayReadAhead}
-use Rattle.ac_automaton.proofs.IterLemmas.{repeat-empty}
+use Rattle.ac_automaton.proofs.iter.IterLemmas.{repeat-empty}
 use Rattle.ac_automaton.proofs.iter.ahead.next_pick_ahead.Goals as goal
 
 pub returns-in-Some-clause-pick : goal.returns-in-Some-clause-pick

@@ -1,8 +1,8 @@
--- What is known after one byte more, and where reading on stops.
+-- One byte more is read, and reading on stops or goes on.
 use Rattle.std.proofs.Common.{arith}
 use Rattle.ac_automaton.specs.ReadOn.{is_between}
-use Rattle.ac_automaton.proofs.CursorLemmas.{advanced-none, reached-on}
-use Rattle.ac_automaton.proofs.ReadOnLemmas.{after-byte, reads-all}
+use Rattle.ac_automaton.proofs.lemmas.CursorLemmas.{advanced-none, reached-on}
+use Rattle.ac_automaton.proofs.skip.ReadOnLemmas.{after-byte, reads-all}
 use Rattle.ac_automaton.proofs.look.LookUp.read_on.Goals as goal
 
 pub loop-read-init : goal.loop-read-init

@@ -1,6 +1,6 @@
--- What is known of the state after so many bytes.
+-- What is known of the state after the bytes read so far.
 use Rattle.ac_automaton.specs.ReadOn.{is_between}
-use Rattle.ac_automaton.proofs.CursorLemmas.{HasAdvanced}
+use Rattle.ac_automaton.proofs.lemmas.CursorLemmas.{HasAdvanced}
 use Rattle.ac_automaton.proofs.look.LookUp.read_on.Given as goal
 
 abbrev pub invariant-loop-read : goal.invariant-loop-read

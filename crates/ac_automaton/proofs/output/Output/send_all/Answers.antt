@@ -1,7 +1,7 @@
--- What the first sending held back the second writes.
+-- The bytes that the first send held back are written by the second.
 use Rattle.std.proofs.Common.{refl}
 use Rattle.std.proofs.lemmas.Result.{err_from_is_err_and}
-use Rattle.ac_automaton.proofs.OutputLemmas.{Sends-and_held}
+use Rattle.ac_automaton.proofs.devices.OutputLemmas.{Sends-and_held}
 use Rattle.ac_automaton.proofs.output.Output.send_all.Goals as goal
 
 pub returns-in_err-send-clause-sent : goal.returns-in_err-send-clause-sent

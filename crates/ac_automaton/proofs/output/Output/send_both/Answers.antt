@@ -1,6 +1,6 @@
--- The second sending follows the first.
+-- The second send follows the first.
 use Rattle.std.proofs.lemmas.Result.{err_from_is_err_and}
-use Rattle.ac_automaton.proofs.OutputLemmas.{Sends-more, Sends-then}
+use Rattle.ac_automaton.proofs.devices.OutputLemmas.{Sends-more, Sends-then}
 use Rattle.ac_automaton.proofs.output.Output.send_both.Goals as goal
 
 pub returns-in_err-send : goal.returns-in_err-send

@@ -1,5 +1,5 @@
 -- What was held back is written unchanged.
-use Rattle.ac_automaton.proofs.OutputLemmas.{Sends-held}
+use Rattle.ac_automaton.proofs.devices.OutputLemmas.{Sends-held}
 use Rattle.ac_automaton.proofs.output.Output.send_held.Goals as goal
 
 pub returns-clause-sent : goal.returns-clause-sent

@@ -1,7 +1,7 @@
--- Where the held bytes could not be written, the others were not either.
+-- Where the held bytes could not be written, neither were the others.
 use Rattle.std.proofs.Common.{[]}
 use Rattle.std.proofs.lemmas.Result.{err_from_is_err_and}
-use Rattle.ac_automaton.proofs.OutputLemmas.{Sends-more, Sends-then}
+use Rattle.ac_automaton.proofs.devices.OutputLemmas.{Sends-more, Sends-then}
 use Rattle.ac_automaton.proofs.output.Output.send_past.Goals as goal
 
 pub returns-in_err-send_held : goal.returns-in_err-send_held

@@ -1,6 +1,6 @@
--- What reading on by notes says of the cursor.
+-- How reading on by notes moves the cursor.
 use Rattle.ac_input.specs.declared.search.Anchored.TheVariants.{No}
-use Rattle.ac_automaton.proofs.OverlappingAheadLemmas.{cursor-read_ahead}
+use Rattle.ac_automaton.proofs.overlapping.OverlappingAheadLemmas.{cursor-read_ahead}
 use Rattle.ac_automaton.proofs.overlapping.ahead.read_on.Goals as goal
 
 pub returns-clause-stands : goal.returns-clause-stands

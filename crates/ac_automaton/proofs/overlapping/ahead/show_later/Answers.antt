@@ -1,9 +1,9 @@
--- What is shown where the walk ends or stands in a state that matches, and what that costs.
+-- What is shown where the walk ends, or stands in a state that matches, and its cost.
 use Rattle.std.proofs.Common.{◌∙◌}
 use Rattle.ac_automaton.specs.declared.cursor.End.TheVariants.{Found}
-use Rattle.ac_automaton.proofs.CandidateLemmas.{pays-walk}
-use Rattle.ac_automaton.proofs.CountedLemmas.{walk-counts}
-use Rattle.ac_automaton.proofs.ShowLemmas.{HasEnded, walked-ends, walked-first, walked-further, walked-over, walked-settled}
+use Rattle.ac_automaton.proofs.lemmas.CandidateLemmas.{pays-walk}
+use Rattle.ac_automaton.proofs.find.CountedLemmas.{walk-counts}
+use Rattle.ac_automaton.proofs.overlapping.ShowLemmas.{HasShownEnd, walked-ends, walked-first, walked-further, walked-over, walked-settled}
 use Rattle.ac_automaton.proofs.overlapping.ahead.show_later.Given.{Over}
 use Rattle.ac_automaton.proofs.overlapping.ahead.show_later.Goals as goal
 
@@ -11,7 +11,7 @@ pub loop-cursor-init : goal.loop-cursor-init
 loop-cursor-init g c = record { walked = walked-first g.A.Automaton c.args.automaton.now c.args.input.now c.args.cursor _ c.requires.stands.cursor; known = c.requires.known }
 
 -- the walk came to the end of the span
-over : (g : Over) (c : goal.After-over g) → HasEnded g.A.Automaton c.args.automaton.now c.args.input.now c.args.cursor (Found c.over.result) c.args.steps.now c.loop-cursor.steps
+over : (g : Over) (c : goal.After-over g) → HasShownEnd g.A.Automaton c.args.automaton.now c.args.input.now c.args.cursor (Found c.over.result) c.args.steps.now c.loop-cursor.steps
 over g c =
     let a = c.args.automaton.now in
     walked-over g.A.Automaton a c.args.input.now c.args.cursor c.loop-cursor.cursor c.over.result _ _ (g.met.A.Automaton.lives a c.args.input.now.anchored) c.loop-cursor.invariant.walked (c.if-cursor-end.true ∙ c.end.ensures.value) c.over.ensures.found c.over.ensures.place
@@ -27,8 +27,8 @@ returns-then-cursor-end-clause-pays g c =
 pub returns-then-cursor-end-clause-counts : goal.returns-then-cursor-end-clause-counts
 returns-then-cursor-end-clause-counts g c = let ended = over g c in walk-counts _ _ _ _ ended.only.scanned ended.looks
 
--- it has read on to a state that has something to show
-ended : (g : Over) (c : goal.In-Some g) → HasEnded g.A.Automaton c.args.automaton.now c.args.input.now c.args.cursor (Found c.in-Some.shown) c.args.steps.now c.read_on-cursor.new.steps
+-- the walk has read on to a state that shows an occurrence
+ended : (g : Over) (c : goal.In-Some g) → HasShownEnd g.A.Automaton c.args.automaton.now c.args.input.now c.args.cursor (Found c.in-Some.shown) c.args.steps.now c.read_on-cursor.new.steps
 ended g c =
     let a = c.args.automaton.now in
     let asked = c.args.input.now in

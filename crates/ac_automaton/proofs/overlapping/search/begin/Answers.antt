@@ -1,19 +1,19 @@
 -- At the start all of the listing is left.
 use Rattle.std.proofs.Common.{rules, ◌≡◌, List, ℕ, ◌≤◌, refl, sym, subst, ◌∙◌, arith}
 use Rattle.ac_input.specs.declared.search.MatchKind.TheVariants.{Standard}
-use Rattle.ac_input.specs.Input.{search_in}
+use Rattle.ac_input.specs.Input.{search_of}
 use Rattle.ac_automaton.specs.Cursor.{read_to, IsCursor}
 use Rattle.ac_automaton.specs.Overlapping.{CanOverlap, IsPlacePaid}
 use Rattle.ac_automaton.specs.declared.overlapping.Position.TheVariants.{At}
-use Rattle.ac_automaton.proofs.OverlappingLemmas.{IsPlace, ending_from-start, ending_from-split}
-use Rattle.ac_automaton.proofs.OverlappingStateLemmas.{read_to-start}
+use Rattle.ac_automaton.proofs.overlapping.OverlappingLemmas.{IsPlace, ending_from-start, ending_from-split}
+use Rattle.ac_automaton.proofs.overlapping.OverlappingStateLemmas.{read_to-start}
 use Rattle.ac_automaton.proofs.overlapping.search.begin.Goals as goal
 
 pub returns : goal.returns
 returns g c =
     let asked = c.args.input.now in
     let m = (g.A.Automaton.built c.args.automaton.now).dictionary in
-    let s = search_in m asked in
+    let s = search_of m asked.anchored asked.haystack asked.span in
     let sid = c.in_ok-start.start in
     let R = g.A.Automaton.Reaches c.args.automaton.now asked.anchored in
     let value = c.get_span-span.ensures.value in

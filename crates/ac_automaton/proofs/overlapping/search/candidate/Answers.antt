@@ -1,11 +1,11 @@
 -- The prefilter's candidate for the rest of the span, and its scans.
 use Rattle.std.proofs.Common.{◌≡◌, ℕ, Option, sym, subst, ◌∙◌, ap, unwrap_or, arith}
 use Rattle.ac_input.specs.Candidate.{IsCandidate, start_of}
-use Rattle.ac_input.specs.Input.{search_in, search_of}
+use Rattle.ac_input.specs.Input.{search_of}
 use Rattle.ac_input.specs.Occurrence.{Search, starting_at}
 use Rattle.ac_input.specs.declared.search.Anchored.TheVariants.{No}
-use Rattle.ac_automaton.proofs.CandidateLemmas.{ahead-same, candidate-before, candidate-begins, scanned-in_span, scanned-near}
-use Rattle.ac_automaton.proofs.CountedLemmas.{scan-covers}
+use Rattle.ac_automaton.proofs.lemmas.CandidateLemmas.{ahead-same, candidate-before, candidate-begins, scanned-in_span, scanned-near}
+use Rattle.ac_automaton.proofs.find.CountedLemmas.{scan-covers}
 use Rattle.ac_automaton.proofs.overlapping.search.candidate.Goals as goal
 
 pub returns-clause-begins : goal.returns-clause-begins
@@ -15,7 +15,7 @@ returns-clause-begins c = λ m made.
     let found = c.find_in_counted-candidate.result in
     let is : n ≡ m = rw c.in-Some.is at made in
     let same = ahead-same m n asked c.haystack.result.now c.args.at c.end.result is c.haystack.ensures c.end.ensures.value c.requires.free in
-    candidate-begins n.kind (starting_at (search_in m asked) c.args.at) found c.into_option.result
+    candidate-begins n.kind (starting_at (search_of m asked.anchored asked.haystack asked.span) c.args.at) found c.into_option.result
     (subst (λ (s : Search). IsCandidate n.kind s found) same c.find_in_counted-candidate.ensures.candidate) c.into_option.ensures
 
 pub returns-clause-work : goal.returns-clause-work

@@ -1,4 +1,4 @@
--- Where the walk is back at the start, what is left begins here or later.
+-- Where the walk is back at the start, the occurrences left begin here or later.
 use Rattle.std.proofs.Common.{◌≡◌, [], length, Some, refl, ap, subst}
 use Rattle.ac_input.specs.declared.search.Anchored.{Anchored}
 use Rattle.ac_input.specs.declared.search.Anchored.TheVariants.{No}
@@ -7,8 +7,8 @@ use Rattle.ac_input.specs.Input.{is_anchored}
 use Rattle.ac_input.specs.Tells.{Tells}
 use Rattle.ac_automaton.specs.Automaton.{searched}
 use Rattle.ac_automaton.specs.Cursor.{read_to, walked}
-use Rattle.ac_automaton.proofs.OverlappingLemmas.{IsPlace, place_of-cursor}
-use Rattle.ac_automaton.proofs.CandidateLemmas.{ending_from-back, start-empty, told_from-nil}
+use Rattle.ac_automaton.proofs.overlapping.OverlappingLemmas.{IsPlace, place_of-cursor}
+use Rattle.ac_automaton.proofs.lemmas.CandidateLemmas.{ending_from-back, start-empty, occurrences_from-nil}
 use Rattle.ac_automaton.proofs.overlapping.search.end_at.Goals as goal
 
 pub returns-then-is_back : goal.returns-then-is_back
@@ -22,7 +22,7 @@ returns-then-is_back g c =
     let reads = c.requires.cursor.reads in
     let ns = g.A.Automaton.matches a cursor.sid in
     let free : asked.anchored ≡ No = c.is_back.ensures.free c.if-is_back.true in
-    let empty : ns ≡ [] = told_from-nil b.dictionary t cursor.at ns (ap is_anchored free) c.in_default.ensures in
+    let empty : ns ≡ [] = occurrences_from-nil b.dictionary t cursor.at ns (ap is_anchored free) c.in_default.ensures in
     let live : IsLive b.dictionary (is_anchored asked.anchored) text (Some (length text)) = c.is_back.ensures.empty asked.anchored text reads c.if-is_back.true empty in
     let pairs = g.met.A.Automaton.pairs a asked.anchored text cursor.sid reads in
     let place = subst (λ (x : Anchored). IsPlace b.dictionary x t cursor.at) free (place_of-cursor (g.A.Automaton.Reaches a asked.anchored) b.dictionary asked cursor c.requires.standard c.requires.cursor) in

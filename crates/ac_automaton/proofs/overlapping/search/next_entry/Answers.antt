@@ -1,7 +1,7 @@
--- The first entry that counts is the next one.
+-- The first entry that counts is returned, or none where no entry counts.
 use Rattle.std.proofs.Common.{length, sym, ap, ◌∙◌, arith, true≢false}
 use Rattle.ac_input.specs.Input.{is_anchored}
-use Rattle.ac_automaton.proofs.OverlappingLemmas.{nil_or_not, counted-here, counted-skip, counted-past}
+use Rattle.ac_automaton.proofs.overlapping.OverlappingLemmas.{nil_or_not, counted-here, counted-skip, counted-past}
 use Rattle.ac_automaton.proofs.overlapping.search.next_entry.Goals as goal
 
 pub returns : goal.returns

@@ -1,4 +1,4 @@
--- What counts from here on is what counts from the index on.
+-- The entries that count from here on are those that count from the index on.
 use Rattle.std.proofs.Common.{drop, ◌≡◌}
 use Rattle.ac_input.specs.Input.{is_anchored}
 use Rattle.ac_automaton.specs.Cursor.{counted}

@@ -1,7 +1,7 @@
--- What is shown where the walk ends or is back at the start, and what that costs.
+-- What is shown where the walk ends, or is back at the start, and its cost.
 use Rattle.std.proofs.Common.{◌∙◌}
 use Rattle.ac_automaton.specs.declared.cursor.End.TheVariants.{Found}
-use Rattle.ac_automaton.proofs.ShowLemmas.{HasEnded, walked-first, walked-further, walked-settled, walked-over, walked-ends}
+use Rattle.ac_automaton.proofs.overlapping.ShowLemmas.{HasShownEnd, walked-first, walked-further, walked-settled, walked-over, walked-ends}
 use Rattle.ac_automaton.proofs.overlapping.search.read_to_start.Given.{Over}
 use Rattle.ac_automaton.proofs.overlapping.search.read_to_start.Goals as goal
 
@@ -9,7 +9,7 @@ pub loop-cursor-init : goal.loop-cursor-init
 loop-cursor-init g c = walked-first g.A.Automaton c.args.automaton.now c.args.input.now c.args.cursor _ c.requires.cursor
 
 -- the walk came to the end of the span
-over : (g : Over) (c : goal.After-over g) → HasEnded g.A.Automaton c.args.automaton.now c.args.input.now c.args.cursor (Found c.over.result) c.args.steps.now c.loop-cursor.steps
+over : (g : Over) (c : goal.After-over g) → HasShownEnd g.A.Automaton c.args.automaton.now c.args.input.now c.args.cursor (Found c.over.result) c.args.steps.now c.loop-cursor.steps
 over g c =
     let a = c.args.automaton.now in
     walked-over g.A.Automaton a c.args.input.now c.args.cursor c.loop-cursor.cursor c.over.result _ _ (g.met.A.Automaton.lives a c.args.input.now.anchored) c.loop-cursor.invariant (c.if-cursor-end.true ∙ c.end.ensures.value) c.over.ensures.found c.over.ensures.place
@@ -23,8 +23,8 @@ returns-then-cursor-end-clause-pays g c = (over g c).pays
 pub returns-then-cursor-end-clause-looks : goal.returns-then-cursor-end-clause-looks
 returns-then-cursor-end-clause-looks g c = (over g c).looks
 
--- it ended at a state
-ended : (g : Over) (c : goal.In-Some g) → HasEnded g.A.Automaton c.args.automaton.now c.args.input.now c.args.cursor c.in-Some.end c.args.steps.now c.read_on-cursor.new.steps
+-- the walk ended at a state
+ended : (g : Over) (c : goal.In-Some g) → HasShownEnd g.A.Automaton c.args.automaton.now c.args.input.now c.args.cursor c.in-Some.end c.args.steps.now c.read_on-cursor.new.steps
 ended g c =
     let a = c.args.automaton.now in
     let asked = c.args.input.now in

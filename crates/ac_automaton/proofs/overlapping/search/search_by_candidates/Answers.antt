@@ -1,18 +1,18 @@
--- What is shown after several candidates is the first of what was left.
+-- What is shown after several candidates is the first of what was left before them.
 use Rattle.std.proofs.Common.{ℕ, ◌-◌, sym, arith}
 use Rattle.ac_input.specs.Computed.{listing_of}
-use Rattle.ac_input.specs.Input.{search_in}
+use Rattle.ac_input.specs.Input.{search_of}
 use Rattle.ac_input.specs.Occurrence.{starting_at}
 use Rattle.ac_automaton.specs.declared.cursor.End.TheVariants.{Found}
 use Rattle.ac_automaton.specs.Automaton.{prefilter_for}
-use Rattle.ac_automaton.proofs.CountedLemmas.{counted-join, counted-none}
-use Rattle.ac_automaton.proofs.CandidateLemmas.{searched_on-first, searched_on-further, searched_on-shows, reads_on-earlier}
+use Rattle.ac_automaton.proofs.find.CountedLemmas.{counted-join, counted-none}
+use Rattle.ac_automaton.proofs.lemmas.CandidateLemmas.{searched_on-first, searched_on-further, searched_on-shows, reads_on-earlier}
 use Rattle.ac_automaton.proofs.overlapping.search.search_by_candidates.Goals as goal
 
 pub loop-shown-init : goal.loop-shown-init
 loop-shown-init g c =
     let b = g.A.Automaton.built c.args.automaton.now in (
-      searched_on-first _ (search_in b.dictionary c.args.input.now) c.args.at c.args.steps.now c.requires.to,
+      searched_on-first _ (search_of b.dictionary c.args.input.now.anchored c.args.input.now.haystack c.args.input.now.span) c.args.at c.args.steps.now c.requires.to,
       counted-none (prefilter_for b c.args.input.now.anchored) (c.args.at - c.args.at) c.args.steps.now (omega arith),
     )
 
@@ -33,7 +33,7 @@ pub returns-in-Found-clause-reads : goal.returns-in-Found-clause-reads
 returns-in-Found-clause-reads g c =
     let m = (g.A.Automaton.built c.args.automaton.now).dictionary in
     let asked = c.args.input.now in
-    let s = search_in m asked in
+    let s = search_of m asked.anchored asked.haystack asked.span in
     let R = g.A.Automaton.Reaches c.args.automaton.now asked.anchored in
     let E = g.A.Automaton.matches c.args.automaton.now in
     let d = (g.A.Automaton.built c.args.automaton.now).deterministic in
@@ -45,7 +45,7 @@ pub returns-in-Found-clause-cost : goal.returns-in-Found-clause-cost
 returns-in-Found-clause-cost g c =
     let m = (g.A.Automaton.built c.args.automaton.now).dictionary in
     let asked = c.args.input.now in
-    let s = search_in m asked in
+    let s = search_of m asked.anchored asked.haystack asked.span in
     let R = g.A.Automaton.Reaches c.args.automaton.now asked.anchored in
     let E = g.A.Automaton.matches c.args.automaton.now in
     let d = (g.A.Automaton.built c.args.automaton.now).deterministic in
@@ -64,7 +64,7 @@ pub loop-shown-preserved : goal.loop-shown-preserved
 loop-shown-preserved g c =
     let m = (g.A.Automaton.built c.args.automaton.now).dictionary in
     let asked = c.args.input.now in
-    let s = search_in m asked in
+    let s = search_of m asked.anchored asked.haystack asked.span in
     let R = g.A.Automaton.Reaches c.args.automaton.now asked.anchored in
     let E = g.A.Automaton.matches c.args.automaton.now in
     let d = (g.A.Automaton.built c.args.automaton.now).deterministic in

@@ -1,12 +1,12 @@
 -- Nothing begins before the candidate, so what is shown from there is the first of what is left.
 use Rattle.std.proofs.Common.{ℕ, ◌+◌, [], List, subst, sym, arith}
 use Rattle.ac_input.specs.Computed.{listing_of}
-use Rattle.ac_input.specs.Input.{search_in}
+use Rattle.ac_input.specs.Input.{search_of}
 use Rattle.ac_input.specs.Occurrence.{starting_at}
 use Rattle.ac_automaton.specs.Overlapping.{ending_from}
-use Rattle.ac_automaton.proofs.OverlappingStateLemmas.{read_to-start}
-use Rattle.ac_automaton.proofs.CandidateLemmas.{listing-none, listing-begins, over-reads, reads_on-earlier, candidate-read}
-use Rattle.ac_automaton.proofs.CountedLemmas.{skip-over, skip-read}
+use Rattle.ac_automaton.proofs.overlapping.OverlappingStateLemmas.{read_to-start}
+use Rattle.ac_automaton.proofs.lemmas.CandidateLemmas.{listing-none, listing-begins, over-reads, reads_on-earlier, candidate-read}
+use Rattle.ac_automaton.proofs.find.CountedLemmas.{skip-over, skip-read}
 use Rattle.ac_automaton.proofs.overlapping.search.search_from_candidate.Goals as goal
 
 pub returns-in_default-clause-reads : goal.returns-in_default-clause-reads
@@ -14,7 +14,7 @@ returns-in_default-clause-reads g c =
     let a = c.args.automaton.now in
     let m = (g.A.Automaton.built a).dictionary in
     let asked = c.args.input.now in
-    let s = search_in m asked in
+    let s = search_of m asked.anchored asked.haystack asked.span in
     let t = starting_at s c.args.at in
     let none = listing-none t c.requires.inside (c.in_default.ensures.begins m c.requires.made) in
     over-reads (g.A.Automaton.Reaches a asked.anchored) (g.A.Automaton.matches a) m s c.args.at (listing_of t) c.over.result none c.over.ensures.found c.over.ensures.place
@@ -33,7 +33,7 @@ read_to_start-requires g c =
         ordered = omega arith;
         within = before.within;
         inside = c.requires.inside;
-        reads = subst (λ (text : List ℕ). g.A.Automaton.Reaches a asked.anchored text c.args.start) (sym (read_to-start (starting_at (search_in m asked) from))) c.requires.starts;
+        reads = subst (λ (text : List ℕ). g.A.Automaton.Reaches a asked.anchored text c.args.start) (sym (read_to-start (starting_at (search_of m asked.anchored asked.haystack asked.span) from))) c.requires.starts;
       };
     }
 
@@ -42,7 +42,7 @@ returns-clause-reads g c =
     let a = c.args.automaton.now in
     let m = (g.A.Automaton.built a).dictionary in
     let asked = c.args.input.now in
-    let s = search_in m asked in
+    let s = search_of m asked.anchored asked.haystack asked.span in
     let from = c.in-Some.from in
     let before = c.in-Some.ensures.begins m c.requires.made in
     let tells = g.met.A.Automaton.tells a asked.anchored [] c.args.start c.requires.starts in
@@ -54,7 +54,7 @@ returns-clause-cost g c =
     let a = c.args.automaton.now in
     let b = g.A.Automaton.built a in
     let asked = c.args.input.now in
-    let s = search_in b.dictionary asked in
+    let s = search_of b.dictionary asked.anchored asked.haystack asked.span in
     let from = c.in-Some.from in
     let before = c.in-Some.ensures.begins b.dictionary c.requires.made in
     candidate-read (g.A.Automaton.Reaches a asked.anchored) (g.A.Automaton.matches a) b.dictionary b.deterministic s c.args.at from (ending_from (starting_at s from) (from + 1)) c.read_to_start.result _ _ _ c.requires.from c.requires.inside before c.in-Some.ensures.work c.read_to_start.ensures.reads c.read_to_start.ensures.pays c.read_to_start.ensures.only

@@ -1,7 +1,7 @@
 -- What the state shows first ends here.
 use Rattle.ac_automaton.specs.Automaton.{searched}
 use Rattle.ac_automaton.specs.Cursor.{read_to, walked}
-use Rattle.ac_automaton.proofs.ShowLemmas.{shows-dead, shows-told}
+use Rattle.ac_automaton.proofs.overlapping.ShowLemmas.{shows-dead, shows-told}
 use Rattle.ac_automaton.proofs.overlapping.search.show_at.Goals as goal
 
 pub returns-then-is_dead : goal.returns-then-is_dead

@@ -1,12 +1,12 @@
--- What ends later is found by the walk, or by candidates.
+-- The occurrences that end later are found by a walk, or by candidates.
 use Rattle.std.proofs.Common.{ℕ, ◌+◌, ◌-◌, [], List, ap, subst, sym, ◌∙◌, arith}
-use Rattle.ac_input.specs.Input.{search_in}
+use Rattle.ac_input.specs.Input.{search_of}
 use Rattle.ac_input.specs.Occurrence.{Occurrence, starting_at}
 use Rattle.ac_automaton.specs.Automaton.{prefilter_for}
 use Rattle.ac_automaton.specs.Find.{MayGoOnFrom}
 use Rattle.ac_automaton.specs.Overlapping.{ending_from, ShowsFirst}
-use Rattle.ac_automaton.proofs.CountedLemmas.{counted-join, walk-counts}
-use Rattle.ac_automaton.proofs.CandidateLemmas.{listing-begins, pays-walk, pays-candidates, pays-both, usable-some}
+use Rattle.ac_automaton.proofs.find.CountedLemmas.{counted-join, walk-counts}
+use Rattle.ac_automaton.proofs.lemmas.CandidateLemmas.{listing-begins, pays-walk, pays-candidates, pays-both, usable-some}
 use Rattle.ac_automaton.proofs.overlapping.search.show_later.Goals as goal
 
 pub returns-then-cursor-clause-shows : goal.returns-then-cursor-clause-shows
@@ -14,7 +14,7 @@ returns-then-cursor-clause-shows g c =
     let a = c.args.automaton.now in
     let b = g.A.Automaton.built a in
     let asked = c.args.input.now in
-    let s = search_in b.dictionary asked in
+    let s = search_of b.dictionary asked.anchored asked.haystack asked.span in
     let at : ℕ = c.args.cursor.at in
     let usable = usable-some b (g.A.Automaton.matches a) c.get_anchored.result c.args.start c.usable_prefilter-prefilter.result c.usable_prefilter-prefilter.ensures (sym c.is_some.ensures ∙ c.if-is_some.true) in
     let stands = c.requires.stands.cursor in

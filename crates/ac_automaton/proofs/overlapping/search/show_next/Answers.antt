@@ -1,7 +1,7 @@
 -- What the state has to show is the first of what is left.
 use Rattle.std.proofs.Common.{refl}
 use Rattle.ac_automaton.specs.Automaton.{searched}
-use Rattle.ac_automaton.proofs.OverlappingReadLemmas.{shows-some}
+use Rattle.ac_automaton.proofs.overlapping.OverlappingReadLemmas.{shows-some}
 use Rattle.ac_automaton.proofs.overlapping.search.show_next.Goals as goal
 
 pub returns-in-Some-clause-shows : goal.returns-in-Some-clause-shows

@@ -1,4 +1,4 @@
--- What the automaton may skip by is what each way asks.
+-- What the automaton may skip by meets what each way of skipping requires.
 use Rattle.std.proofs.Common.{sym, subst}
 use Rattle.ac_input.specs.declared.search.Anchored.{Anchored}
 use Rattle.ac_automaton.specs.Automaton.{IsReached}

@@ -1,7 +1,7 @@
 -- Turn by turn, up to an item or to the end.
 use Rattle.std.proofs.Common.{[], refl, arith}
-use Rattle.ac_automaton.proofs.StreamSearchLemmas.{counts-none}
-use Rattle.ac_automaton.proofs.StreamIterLemmas.{GoesOnReading, counts-join, ended-smaller, gained-none, stopped-failed, stopped-found, stopped-over, turn-smaller, turned-ended, turned-failed, turned-found, turned-more, turned-over}
+use Rattle.ac_automaton.proofs.stream.StreamSearchLemmas.{counts-none}
+use Rattle.ac_automaton.proofs.stream.StreamIterLemmas.{GoesOnReading, counts-join, ended-smaller, gained-none, stopped-failed, stopped-found, stopped-over, turn-smaller, turned-ended, turned-failed, turned-found, turned-more, turned-over}
 use Rattle.ac_automaton.proofs.stream.StreamFindIter.next_counted.Goals as goal
 
 pub loop-found-init : goal.loop-found-init

@@ -1,8 +1,7 @@
--- Some turns have been made, by the same reference to the reader.
+-- Some turns have been made, each with the same reference to the reader.
 use Rattle.std.proofs.Common.{◌≡◌, length}
 use Rattle.ac_automaton.specs.Stream.{read_by}
-use Rattle.ac_automaton.specs.Watched.{has_ended}
-use Rattle.ac_automaton.proofs.StreamIterLemmas.{HasTurned, turns_left}
+use Rattle.ac_automaton.proofs.stream.StreamIterLemmas.{HasTurned, turns_left}
 use Rattle.ac_automaton.proofs.stream.StreamFindIter.next_counted.Given as goal
 
 abbrev pub invariant-loop-found : goal.invariant-loop-found
@@ -12,4 +11,4 @@ invariant-loop-found g l = record {
 }
 
 abbrev pub decreases-loop-found : goal.decreases-loop-found
-decreases-loop-found g l = turns_left (length (read_by l.self.stream)) (has_ended l.self.reader.now)
+decreases-loop-found g l = turns_left (length (read_by l.self.stream)) l.self.reader.now.ended

@@ -1,5 +1,5 @@
 -- Each call that returns an item leaves fewer.
-use Rattle.ac_automaton.proofs.StreamLeftLemmas.{items-fewer}
+use Rattle.ac_automaton.proofs.stream.StreamLeftLemmas.{items-fewer}
 use Rattle.ac_automaton.proofs.stream.StreamFindIterIterator.next.Goals as goal
 
 pub returns-clause-goes : goal.returns-clause-goes

@@ -1,8 +1,8 @@
--- Both buffers are taken first; then the search reads on.
+-- Both buffers are allocated first, and then the search reads on.
 use Rattle.std.proofs.Common.{map}
 use Rattle.std.proofs.lemmas.Result.{err_from_is_err_and}
 use Rattle.ac_automaton.specs.declared.error.StreamError.TheVariants.{Memory}
-use Rattle.ac_automaton.proofs.StreamAnswerLemmas.{accepted-any_kind, cost-none-any_kind, cost-read-any_kind, not-begun-any_kind, nothing-moved-any_kind}
+use Rattle.ac_automaton.proofs.stream.StreamAnswerLemmas.{accepted-any_kind, cost-none, cost-read, not-begun-any_kind, nothing-moved-any_kind}
 use Rattle.ac_automaton.proofs.stream.replace.replace_all_any_kind_counted.Goals as goal
 
 pub returns-in_err-stream-clause-replaced : goal.returns-in_err-stream-clause-replaced
@@ -18,7 +18,7 @@ returns-in_err-stream-clause-accepted g c =
 pub returns-in_err-stream-clause-cost : goal.returns-in_err-stream-clause-cost
 returns-in_err-stream-clause-cost g c =
     let p = err_from_is_err_and c.from_residual.result c.from_residual.ensures.1 in
-    rw p.1 (cost-none-any_kind (g.A.Automaton.built c.args.automaton.now) c.args.reader.now c.args.steps.now p.0)
+    rw p.1 (cost-none (g.A.Automaton.built c.args.automaton.now) c.args.reader.now c.args.steps.now p.0)
 
 pub returns-in_err-output-clause-replaced : goal.returns-in_err-output-clause-replaced
 returns-in_err-output-clause-replaced g c =
@@ -33,7 +33,7 @@ returns-in_err-output-clause-accepted g c =
 pub returns-in_err-output-clause-cost : goal.returns-in_err-output-clause-cost
 returns-in_err-output-clause-cost g c =
     let p = err_from_is_err_and c.from_residual-in_err-output.result c.from_residual-in_err-output.ensures.1 in
-    rw p.1 (cost-none-any_kind (g.A.Automaton.built c.args.automaton.now) c.args.reader.now c.args.steps.now p.0)
+    rw p.1 (cost-none (g.A.Automaton.built c.args.automaton.now) c.args.reader.now c.args.steps.now p.0)
 
 pub returns-clause-replaced : goal.returns-clause-replaced
 returns-clause-replaced g c = rw c.in_ok-stream.ensures.1 at c.replace_read.ensures.replaced
@@ -42,4 +42,4 @@ pub returns-clause-accepted : goal.returns-clause-accepted
 returns-clause-accepted g c = accepted-any_kind (g.A.Automaton.built c.args.automaton.now) (g.A.Automaton.supports c.args.automaton.now) c.args.reader.now c.replace_read.new.reader c.args.writer.now c.replace_read.new.writer c.replace_read.result c.in_ok-stream.ensures.0 c.replace_read.ensures.begun
 
 pub returns-clause-cost : goal.returns-clause-cost
-returns-clause-cost g c = cost-read-any_kind (g.A.Automaton.built c.args.automaton.now) c.in_ok-stream.stream c.replace_read.new.stream c.args.reader.now c.replace_read.new.reader c.args.steps.now c.replace_read.new.steps c.replace_read.result c.in_ok-stream.ensures.1 c.replace_read.ensures.begun c.replace_read.ensures.read
+returns-clause-cost g c = cost-read (g.A.Automaton.built c.args.automaton.now) c.in_ok-stream.stream c.replace_read.new.stream c.args.reader.now c.replace_read.new.reader c.args.steps.now c.replace_read.new.steps c.replace_read.result c.in_ok-stream.ensures.1 c.replace_read.ensures.begun c.replace_read.ensures.read

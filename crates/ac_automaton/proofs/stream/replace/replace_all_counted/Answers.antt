@@ -1,8 +1,8 @@
--- Both buffers are taken first; then the search reads on.
+-- Both buffers are allocated first, and then the search reads on.
 use Rattle.std.proofs.Common.{map}
 use Rattle.std.proofs.lemmas.Result.{err_from_is_err_and}
 use Rattle.ac_automaton.specs.declared.error.StreamError.TheVariants.{Memory}
-use Rattle.ac_automaton.proofs.StreamAnswerLemmas.{accepted-later, cost-none, cost-read, not-begun, nothing-moved}
+use Rattle.ac_automaton.proofs.stream.StreamAnswerLemmas.{accepted-later, cost-none, cost-read, not-begun, nothing-moved}
 use Rattle.ac_automaton.proofs.stream.replace.replace_all_counted.Goals as goal
 
 pub returns-in_err-stream-clause-replaced : goal.returns-in_err-stream-clause-replaced
@@ -42,4 +42,4 @@ pub returns-clause-accepted : goal.returns-clause-accepted
 returns-clause-accepted g c = accepted-later (g.A.Automaton.built c.args.automaton.now) (g.A.Automaton.supports c.args.automaton.now) c.args.reader.now c.replace_read.new.reader c.args.writer.now c.replace_read.new.writer c.replace_read.result c.in_ok-stream.ensures.0 c.replace_read.ensures.begun
 
 pub returns-clause-cost : goal.returns-clause-cost
-returns-clause-cost g c = cost-read (g.A.Automaton.built c.args.automaton.now) c.in_ok-stream.stream c.replace_read.new.stream c.args.reader.now c.replace_read.new.reader c.args.steps.now c.replace_read.new.steps c.replace_read.result c.in_ok-stream.ensures.0.1 c.in_ok-stream.ensures.1 c.replace_read.ensures.read
+returns-clause-cost g c = cost-read (g.A.Automaton.built c.args.automaton.now) c.in_ok-stream.stream c.replace_read.new.stream c.args.reader.now c.replace_read.new.reader c.args.steps.now c.replace_read.new.steps c.replace_read.result c.in_ok-stream.ensures.1 c.replace_read.ensures.begun c.replace_read.ensures.read

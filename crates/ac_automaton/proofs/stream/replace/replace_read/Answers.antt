@@ -1,11 +1,10 @@
--- Before each read all that is decided is written, and at the end what is left.
+-- All that is decided is written before each read, and the rest is written at the end.
 use Rattle.std.proofs.Common.{◌≡◌, ◌≤◌, ◌++◌, ap, map, arith, sym, subst, ◌∙◌}
 use Rattle.std.proofs.lemmas.Result.{err_from_is_err_and}
-use Rattle.ac_automaton.specs.Moved.{HasGiven}
+use Rattle.ac_automaton.specs.Devices.Moved.{HasGiven}
 use Rattle.ac_automaton.specs.Stream.{IsOnCourse, StreamCounts, StreamProgress}
-use Rattle.ac_automaton.specs.Watched.{pieces_of}
-use Rattle.ac_automaton.proofs.StreamCountLemmas.{StreamCounts-none, StreamCounts-then}
-use Rattle.ac_automaton.proofs.StreamReplaceLemmas.{all-filled, all-whole, closing, given-closed, given-more, less-left, on-ok, piece-none, piece-some, read-kept, read-stopped, read-unclosed, reading, reading-more, replaced-fresh, replaced-more, rest-answers, rest-read, sending-stopped, still-open, HasReplaced}
+use Rattle.ac_automaton.proofs.stream.StreamCountLemmas.{StreamCounts-none, StreamCounts-then}
+use Rattle.ac_automaton.proofs.stream.StreamReplaceLemmas.{all-filled, all-whole, closing, given-closed, given-more, less-left, on-ok, piece-none, piece-some, read-kept, read-stopped, read-unclosed, reading, reading-more, replaced-fresh, replaced-more, rest-answers, rest-read, sending-stopped, still-open, HasReplaced}
 use Rattle.ac_automaton.proofs.stream.replace.replace_read.Goals as goal
 
 pub loop-stream-init : goal.loop-stream-init
@@ -100,7 +99,7 @@ pub returns-in_err-end-clause-read : goal.returns-in_err-end-clause-read
 returns-in_err-end-clause-read g c =
     let p = err_from_is_err_and c.from_residual-in_err-end.result c.from_residual-in_err-end.ensures.1 in
     let told = read-kept _ _ _ _ c.loop-stream.stream c.read_more.new.self _ _ _ _ _ _ c.loop-stream.invariant.replaced c.read_more.result c.read_more.ensures.read in
-    let over = subst (λ (v : StreamProgress). (v.built ≡ c.args.stream.now.built) × (pieces_of c.read_more.new.reader ≡ pieces_of c.args.reader.now ++ v.pieces)) (sym c.finish.ensures.closed) told in
+    let over = subst (λ (v : StreamProgress). (v.built ≡ c.args.stream.now.built) × (c.read_more.new.reader.pieces.items ≡ c.args.reader.now.pieces.items ++ v.pieces)) (sym c.finish.ensures.closed) told in
     let same = c.in_err-end.ensures.sent.0.same in
     let first = StreamCounts-then c.args.stream.now c.loop-stream.stream c.read_more.new.self c.args.steps.now c.loop-stream.steps c.read_more.new.steps c.loop-stream.invariant.counted c.read_more.ensures.counts in
     let closed = subst (λ (v : StreamProgress). StreamCounts c.args.stream.now v c.args.steps.now c.read_more.new.steps) (sym c.finish.ensures.closed) first in
@@ -132,7 +131,7 @@ returns-clause-replaced g c =
 pub returns-clause-read : goal.returns-clause-read
 returns-clause-read g c =
     let told = read-kept _ _ _ _ c.loop-stream.stream c.read_more.new.self _ _ _ _ _ _ c.loop-stream.invariant.replaced c.read_more.result c.read_more.ensures.read in
-    let over = subst (λ (v : StreamProgress). (v.built ≡ c.args.stream.now.built) × (pieces_of c.read_more.new.reader ≡ pieces_of c.args.reader.now ++ v.pieces)) (sym c.finish.ensures.closed) told in
+    let over = subst (λ (v : StreamProgress). (v.built ≡ c.args.stream.now.built) × (c.read_more.new.reader.pieces.items ≡ c.args.reader.now.pieces.items ++ v.pieces)) (sym c.finish.ensures.closed) told in
     let sent = c.in_ok-end.ensures.sent in
     let same = sent.0.same in
     let first = StreamCounts-then c.args.stream.now c.loop-stream.stream c.read_more.new.self c.args.steps.now c.loop-stream.steps c.read_more.new.steps c.loop-stream.invariant.counted c.read_more.ensures.counts in

@@ -1,9 +1,9 @@
--- One match after another, and then what stands before the cut.
+-- One match after another is sent, and then the text before the cut.
 use Rattle.std.proofs.Common.{◌≤◌, map, arith, refl, ◌∙◌}
 use Rattle.std.proofs.lemmas.Result.{err_from_is_err_and}
-use Rattle.ac_automaton.proofs.OutputLemmas.{IsOfWrite-then}
-use Rattle.ac_automaton.proofs.StreamCountLemmas.{StreamCounts-none, StreamCounts-then}
-use Rattle.ac_automaton.proofs.StreamSendLemmas.{SendsTo-none, SendsTo-then, StopsSending-then, part-read, plain-sent, plain-stopped}
+use Rattle.ac_automaton.proofs.devices.OutputLemmas.{IsOfWrite-then}
+use Rattle.ac_automaton.proofs.stream.StreamCountLemmas.{StreamCounts-none, StreamCounts-then}
+use Rattle.ac_automaton.proofs.stream.StreamSendLemmas.{SendsTo-none, SendsTo-then, StopsSending-then, part-read, plain-sent, plain-stopped}
 use Rattle.ac_automaton.proofs.stream.replace.send_decided.Goals as goal
 
 pub loop-end-init : goal.loop-end-init

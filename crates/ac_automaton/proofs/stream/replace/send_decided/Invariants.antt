@@ -1,6 +1,6 @@
 use Rattle.std.proofs.Common.{◌-◌, length, map}
 use Rattle.ac_automaton.specs.Stream.{StreamCounts, read_by}
-use Rattle.ac_automaton.specs.StreamReplace.{SendsTo}
+use Rattle.ac_automaton.specs.Stream.StreamReplace.{SendsTo}
 use Rattle.ac_automaton.proofs.stream.replace.send_decided.Given as goal
 
 abbrev pub invariant-loop-end : goal.invariant-loop-end

@@ -1,10 +1,10 @@
--- The text goes on with what stands before the next match, and with what it is replaced by.
+-- The text goes on with what precedes the next match, and with its replacement.
 use Rattle.std.proofs.Common.{◌≡◌, ◌≤◌, ◌<◌, length, map, arith, ap, ◌∙◌}
 use Rattle.std.proofs.lemmas.Result.{err_from_is_err_and}
 use Rattle.std.specs.List.{concat}
 use Rattle.std.proofs.lemmas.List.{length-drop}
 use Rattle.ac_automaton.specs.Stream.{read_by}
-use Rattle.ac_automaton.proofs.StreamSendLemmas.{match-behind, match-none, match-sent, match-stopped, part-read, replacement-at}
+use Rattle.ac_automaton.proofs.stream.StreamSendLemmas.{match-behind, match-none, match-sent, match-stopped, part-read, replacement-at}
 use Rattle.ac_automaton.proofs.stream.replace.send_match.Goals as goal
 
 pub returns-in_default-clause-sent : goal.returns-in_default-clause-sent

@@ -1,5 +1,5 @@
--- The buffer is taken first; then the search reads on.
-use Rattle.ac_automaton.proofs.StreamWithReadLemmas.{accepted-any_kind-with}
+-- The buffer is allocated first, and then the search reads on.
+use Rattle.ac_automaton.proofs.stream.StreamWithReadLemmas.{accepted-any_kind-with}
 use Rattle.ac_automaton.proofs.stream.replace_with.replace_all_any_kind_with.Goals as goal
 
 pub returns : goal.returns

@@ -1,9 +1,9 @@
--- One match after another, and then what stands before the cut.
+-- One match after another is replaced, and then the text before the cut is written.
 use Rattle.std.proofs.Common.{◌≤◌, arith, refl}
 use Rattle.std.proofs.lemmas.Result.{err_from_is_err_and}
-use Rattle.ac_automaton.proofs.StreamSendLemmas.{cut-placed, part-read}
-use Rattle.ac_automaton.proofs.StreamWithLemmas.{ContinuesChain-then, StopsChain-then, cut-passed, cut-stopped}
-use Rattle.ac_automaton.proofs.WriterChainLemmas.{HasTaken-from_all}
+use Rattle.ac_automaton.proofs.stream.StreamSendLemmas.{cut-placed, part-read}
+use Rattle.ac_automaton.proofs.stream.StreamWithLemmas.{ContinuesChain-then, StopsChain-then, cut-passed, cut-stopped}
+use Rattle.ac_automaton.proofs.stream.WriterChainLemmas.{HasTaken-from_all}
 use Rattle.ac_automaton.proofs.stream.replace_with.replace_decided.Goals as goal
 
 pub returns-in_err-end-clause-stops : goal.returns-in_err-end-clause-stops

@@ -1,6 +1,6 @@
 use Rattle.std.proofs.Common.{◌-◌, length}
 use Rattle.ac_automaton.specs.Stream.{read_by}
-use Rattle.ac_automaton.specs.StreamReplaceWith.{ContinuesChain}
+use Rattle.ac_automaton.specs.Stream.StreamReplaceWith.{ContinuesChain}
 use Rattle.ac_automaton.proofs.stream.replace_with.replace_decided.Given as goal
 
 abbrev pub invariant-loop-end : goal.invariant-loop-end

@@ -1,9 +1,9 @@
--- What stands before the next match is written, and then the closure is called.
+-- The text before the next match is written, and then the closure is called.
 use Rattle.std.proofs.Common.{[], ◌≤◌, arith, ◌∙◌}
 use Rattle.std.proofs.lemmas.Result.{err_from_is_err_and}
-use Rattle.ac_automaton.proofs.StreamSendLemmas.{match-behind, part-read}
-use Rattle.ac_automaton.proofs.StreamWithLemmas.{before-stopped, match-passed, match-refused}
-use Rattle.ac_automaton.proofs.WriterChainLemmas.{HasTaken-from_all}
+use Rattle.ac_automaton.proofs.stream.StreamSendLemmas.{match-behind, part-read}
+use Rattle.ac_automaton.proofs.stream.StreamWithLemmas.{before-stopped, match-passed, match-refused}
+use Rattle.ac_automaton.proofs.stream.WriterChainLemmas.{HasTaken-from_all}
 use Rattle.ac_automaton.proofs.stream.replace_with.replace_match.Goals as goal
 
 pub part-before-requires-clause-order : goal.part-before-requires-clause-order

@@ -1,9 +1,9 @@
--- Before each read all that is decided is written, and at the end what is left.
+-- All that is decided is written before each read, and the rest is written at the end.
 use Rattle.std.proofs.Common.{◌≡◌, ◌≤◌, ◌∙◌, ap, arith, refl, sym, subst}
 use Rattle.std.proofs.lemmas.Result.{err_from_is_err_and}
 use Rattle.ac_automaton.specs.Stream.{IsOnCourse, StreamProgress}
-use Rattle.ac_automaton.proofs.StreamReplaceLemmas.{given-closed, less-left, piece-none, piece-some, rest-read, still-open}
-use Rattle.ac_automaton.proofs.StreamWithReadLemmas.{closing-with, goes-on-with, more-with, read-stopped-with, read-whole, read-with, replaced-with-fresh, rest-answered, stops-at, stops-with, HasReplacedWith}
+use Rattle.ac_automaton.proofs.stream.StreamReplaceLemmas.{given-closed, less-left, piece-none, piece-some, rest-read, still-open}
+use Rattle.ac_automaton.proofs.stream.StreamWithReadLemmas.{closing-with, goes-on-with, more-with, read-stopped-with, read-whole, read-with, replaced-with-fresh, rest-answered, stops-at, stops-with, HasReplacedWith}
 use Rattle.ac_automaton.proofs.stream.replace_with.replace_read.Goals as goal
 
 pub loop-stream-init : goal.loop-stream-init

@@ -2,11 +2,11 @@
 use Rattle.std.proofs.Common.{drop, ◌-◌, sym, subst, refl, ◌∙◌, true, false}
 use Rattle.std.proofs.lemmas.Bool.{false≢true}
 use Rattle.ac_input.specs.declared.search.Anchored.TheVariants.{No}
-use Rattle.ac_automaton.specs.StreamSearch.{SearchesOn}
+use Rattle.ac_automaton.specs.Stream.StreamSearch.{SearchesOn}
 use Rattle.ac_automaton.specs.declared.stream.search.Searched.{Searched}
-use Rattle.ac_automaton.proofs.CursorLemmas.{reached-on, reached-state}
-use Rattle.ac_automaton.proofs.DecideWalkLemmas.{met-held, met-then}
-use Rattle.ac_automaton.proofs.SearchLemmas.{reached-text, searched-state, searches-anew, searches-none, searches-some, stopped-at, wait-none, wait-standard}
+use Rattle.ac_automaton.proofs.lemmas.CursorLemmas.{reached-on, reached-state}
+use Rattle.ac_automaton.proofs.stream.DecideWalkLemmas.{met-held, met-then}
+use Rattle.ac_automaton.proofs.stream.SearchLemmas.{reached-text, searched-state, searches-anew, searches-none, searches-some, stopped-at, wait-none, wait-standard}
 use Rattle.ac_automaton.proofs.stream.search.search_first.Goals as goal
 
 pub is_match-requires : goal.is_match-requires

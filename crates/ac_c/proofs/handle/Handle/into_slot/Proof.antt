@@ -8,8 +8,8 @@ use denote.Steps.{nothing}
 use denote.Triple.Walked.{says, Stays, stay_dropped, walk_of, ends_at, Goes-dropped}
 use Rattle.std.proofs.raw_atomic.Walks.{proved_at}
 use Rattle.aho_corasick.specs.contracts.ahocorasick.AhoCorasick.{the_row as Value}
-use Rattle.ac_c.proofs.SlotMoves.{moves}
-use Rattle.ac_c.proofs.SlotSteps.{S, word}
+use Rattle.ac_c.proofs.slot.SlotMoves.{moves}
+use Rattle.ac_c.proofs.slot.SlotSteps.{S, word}
 use Rattle.ac_c.specs.contracts.handle.Handle as Handle
 use Rattle.ac_c.specs.contracts.handle.Handle.into_slot as F
 use Rattle.ac_c.proofs.handle.Handle.into_slot.Statement.{statement}

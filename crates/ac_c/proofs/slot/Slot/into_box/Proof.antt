@@ -1,4 +1,4 @@
--- `into_box`: at null there is no box. Elsewhere what lies at the pointer is what a box owns, and `from_raw` makes that box.
+-- `into_box`: a null pointer gives no box. Any other pointer owns what a box owns, and `from_raw` makes that box.
 use Rattle.std.proofs.Common.{◌≡◌, List, [], ◌∷◌, ◌++◌, refl, sym, ap, ◌∙◌, subst, lit<}
 use lib.Dec.{T as True}
 use mir.Syntax.{Body, a_type, place, copy, assign, rv_opd, aggregate, int, w8, seq}
@@ -41,12 +41,12 @@ use Rattle.std_alloc.proofs.boxed.Box.from_raw.Met.{met}
 use Rattle.std_heap.specs.contracts.Global as Heap
 use Rattle.std_heap.specs.contracts.GlobalAllocator.TheImpl.{ghosts, dict}
 use Rattle.std_heap.proofs.GlobalAllocator.TheImpl.Met.{passed}
-use Rattle.ac_c.proofs.SlotSteps.{S, Passed, passed_laws, global, no_drop, undropped, word, word_fits, pointer_fits, slot_out, slot_either}
+use Rattle.ac_c.proofs.slot.SlotSteps.{S, Passed, passed_laws, global, no_drop, undropped, word, word_fits, pointer_fits, slot_out, slot_either}
 use Rattle.ac_c.specs.contracts.slot.Slot.into_box as F
 use Rattle.ac_c.proofs.slot.Slot.into_box.Statement.{statement}
 use Rattle.ac_c.proofs.slot.Slot.into_box.Code as code
 
--- what is run after the call: the box goes into the result
+-- what runs after the call: the box goes into the result
 abbrev wraps : Body
 wraps = seq (assign (place 7 []) (rv_opd (copy (place 8 [])))) (assign (place 6 []) (aggregate (int w8 1 ∷ copy (place 7 []) ∷ [])))
 

@@ -1,4 +1,4 @@
--- `none`: at null a slot owns nothing but its allocator.
+-- `none`: a slot at null owns nothing but its allocator.
 use Rattle.std.proofs.Common.{List, [], ◌∷◌, ◌++◌, refl, sym, subst}
 use mir.Syntax.{a_type}
 use mir.MapTy.{inst_fn}
@@ -22,7 +22,7 @@ use Rattle.std.proofs.raw_atomic.Walks.{proved_at}
 use Rattle.std.proofs.alloc.Calls.{handle_tells}
 use Rattle.std.specs.declared.option.Option.TheVariants.{None}
 use Rattle.std_heap.specs.contracts.Global as Heap
-use Rattle.ac_c.proofs.SlotSteps.{S, global, word, word_fits, slot_in}
+use Rattle.ac_c.proofs.slot.SlotSteps.{S, global, word, word_fits, slot_in}
 use Rattle.ac_c.specs.contracts.slot.Slot.none as F
 use Rattle.ac_c.proofs.slot.Slot.none.Statement.{statement}
 use Rattle.ac_c.proofs.slot.Slot.none.Code as code

@@ -38,7 +38,7 @@ use Rattle.std_alloc.proofs.boxed.Box.into_raw_with_allocator.Met.{met}
 use Rattle.std_heap.specs.contracts.Global as Heap
 use Rattle.std_heap.specs.contracts.GlobalAllocator.TheImpl.{ghosts, dict}
 use Rattle.std_heap.proofs.GlobalAllocator.TheImpl.Met.{passed}
-use Rattle.ac_c.proofs.SlotSteps.{S, Passed, passed_laws, global, no_drop, undropped, word, word_fits, pointer_fits, slot_in}
+use Rattle.ac_c.proofs.slot.SlotSteps.{S, Passed, passed_laws, global, no_drop, undropped, word, word_fits, pointer_fits, slot_in}
 use Rattle.ac_c.specs.contracts.slot.Slot.of as F
 use Rattle.ac_c.proofs.slot.Slot.of.Statement.{statement}
 use Rattle.ac_c.proofs.slot.Slot.of.Code as code

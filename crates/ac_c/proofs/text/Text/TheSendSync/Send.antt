@@ -1,4 +1,4 @@
--- What a handle owns, a slot does, so it goes to another thread where that does.
+-- A handle owns what its slot owns, so it may go to another thread if the slot's value may.
 use denote.Struct.Struct.{exits_of}
 use denote.Struct.Owning.{shape, fields, to}
 use denote.Param.Send.{IsSend, AllSend, owning_send, struct_send, sendable}
@@ -6,7 +6,7 @@ use Rattle.std_alloc.proofs.SendSync.{quiet}
 use Rattle.std_heap.proofs.Global.TheSendSync as alloc
 use Rattle.ac_c.specs.contracts.bytes.Bytes.{the_row as Value}
 use Rattle.ac_c.proofs.bytes.Bytes.TheSendSync.{the_send as value}
-use Rattle.ac_c.proofs.SlotSends.{slot-keyless}
+use Rattle.ac_c.proofs.slot.SlotSends.{slot-keyless}
 use Rattle.ac_c.specs.contracts.text.Text.{the_row, the_type}
 
 pub send : IsSend the_row

@@ -1,4 +1,4 @@
--- It owns nothing, so it may go to another thread.
+-- A history of pieces owns nothing, so it may go to another thread.
 use denote.Param.Send.{IsSend, owning_send, sendable}
 use Rattle.ac_input.specs.contracts.history.Pieces.{the_row, the_type}
 

@@ -1,4 +1,4 @@
--- It owns nothing, so threads may share it.
+-- A history of pieces owns nothing, so threads may share it.
 use denote.Param.Send.{IsSync, cell_keyless}
 use denote.Memory.{part_of, raw_all}
 use Rattle.ac_input.specs.contracts.history.Pieces.{the_row}

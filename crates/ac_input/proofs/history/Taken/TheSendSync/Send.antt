@@ -1,4 +1,4 @@
--- It owns nothing, so it may go to another thread.
+-- A history of bytes owns nothing, so it may go to another thread.
 use denote.Param.Send.{IsSend, owning_send, sendable}
 use Rattle.ac_input.specs.contracts.history.Taken.{the_row, the_type}
 

@@ -1,6 +1,6 @@
 use Rattle.std.proofs.Common.{◌≡◌, ℕ, length}
 use Rattle.ac_input.specs.Same.{other}
-use Rattle.ac_input.proofs.PairingLemmas.{cased}
+use Rattle.ac_input.proofs.pairing.PairingLemmas.{cased}
 use Rattle.ac_input.proofs.pairing.Pairing.ascii.Given as goal
 
 abbrev pub invariant-loop-i : goal.invariant-loop-i

@@ -1,4 +1,4 @@
--- A byte that isn't its own partner was found, so not every byte is.
+-- Where a byte that isn't its own partner is found, not every byte is its own partner.
 use Rattle.std.proofs.Common.{arith, ◌∙◌}
 use Rattle.std.proofs.lemmas.List.{get_or_default}
 use Rattle.ac_input.proofs.pairing.Pairing.is_none.Goals as goal

@@ -1,7 +1,7 @@
--- Each mark is left, or its place has no fingerprint in the set.
+-- Each mark is still left, or the fingerprint of its place isn't in the set.
 use Rattle.std.proofs.Common.{◌≡◌, ◌⊎◌, ℕ, ◌+◌, ◌<◌, drop, take}
 use Rattle.std.specs.Int.{bit_at}
-use Rattle.ac_literal.specs.Fingerprints.{IsPrinted}
+use Rattle.ac_literal.specs.Openings.Fingerprints.{IsPrinted}
 use Rattle.ac_literal.proofs.openings.Openings.first_printed.Given as goal
 
 abbrev pub invariant-loop-left : goal.invariant-loop-left

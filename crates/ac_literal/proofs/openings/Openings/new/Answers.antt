@@ -3,9 +3,9 @@ use Rattle.std.proofs.Common.{ℕ, List, subst, arith}
 use Rattle.std.proofs.lemmas.List.{length-map}
 use Rattle.std.specs.Borrow.{Bor}
 use Rattle.ac_input.specs.Pairing.{IsPairing}
-use Rattle.ac_input.proofs.SameLemmas.{own_inverse-pairing}
+use Rattle.ac_input.proofs.lemmas.SameLemmas.{own_inverse-pairing}
 use Rattle.ac_literal.specs.Packed.{bytes_of}
-use Rattle.ac_literal.proofs.OpeningLemmas.{opening-marked, opening-printed, none-shorter}
+use Rattle.ac_literal.proofs.openings.OpeningLemmas.{opening-marked, opening-printed, none-shorter}
 use Rattle.ac_literal.proofs.openings.Openings.new.Goals as goal
 
 pub returns : goal.returns

@@ -1,6 +1,6 @@
--- What is passed has no mark.
+-- No place that is passed has a mark.
 use Rattle.std.proofs.Common.{arith}
-use Rattle.ac_literal.proofs.OpeningLemmas.{passed-none, block-before, block-passed}
+use Rattle.ac_literal.proofs.openings.OpeningLemmas.{passed-none, block-before, block-passed}
 use Rattle.ac_literal.proofs.openings.Openings.pass.Goals as goal
 
 pub returns-then-marks-eq0-clause-passed : goal.returns-then-marks-eq0-clause-passed

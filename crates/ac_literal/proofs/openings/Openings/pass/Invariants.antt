@@ -1,4 +1,4 @@
--- What is passed has no mark.
+-- No place that is passed has a mark.
 use Rattle.std.proofs.Common.{ℕ, ◌-◌, ◌<◌, ◌≤◌}
 use Rattle.ac_literal.specs.Openings.{MayOpen}
 use Rattle.ac_literal.proofs.openings.Openings.pass.Given as goal

@@ -1,8 +1,8 @@
 use Rattle.std.proofs.Common.{ℕ, List, ◌+◌, length, sym, ap, ◌∙◌}
 use Rattle.ac_input.specs.Occurrence.{Occurrence}
-use Rattle.ac_input.proofs.OrderLemmas.{occurrence_from_parts}
+use Rattle.ac_input.proofs.lemmas.OrderLemmas.{occurrence_from_parts}
 use Rattle.ac_literal.specs.Packed.{search_kind}
-use Rattle.ac_literal.proofs.OnlyLemmas.{needle-best, needle-none}
+use Rattle.ac_literal.proofs.packed.OnlyLemmas.{needle-best, needle-none}
 use Rattle.ac_literal.proofs.packed.needle.find_needle.Goals as goal
 
 pub returns-in_default : goal.returns-in_default

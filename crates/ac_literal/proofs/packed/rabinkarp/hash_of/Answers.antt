@@ -1,8 +1,8 @@
--- The hash of the bytes so far, a byte at a time.
+-- The hash of the bytes so far is computed, one byte at a time.
 use Rattle.std.proofs.Common.{ap, sym, ◌∙◌, take, get_or}
 use Rattle.std.proofs.lemmas.List.{take_more}
-use Rattle.ac_literal.specs.RabinKarp.{hash_of}
-use Rattle.ac_literal.proofs.HashLemmas.{hash_of-nil, hash_of-push}
+use Rattle.ac_literal.specs.Packed.RabinKarp.{hash_of}
+use Rattle.ac_literal.proofs.packed.HashLemmas.{hash_of-nil, hash_of-push}
 use Rattle.ac_literal.proofs.packed.rabinkarp.hash_of.Goals as goal
 
 pub loop-byte-init : goal.loop-byte-init

@@ -4,7 +4,7 @@ use Rattle.std.specs.Prelude.{slice_range}
 use Rattle.std.proofs.lemmas.Bool.{false≢true}
 use Rattle.std.proofs.lemmas.Bool.Decides.{Decides-eqb}
 use Rattle.std.proofs.lemmas.Slice.Eq.{slice_eq-Decides}
-use Rattle.ac_literal.proofs.TextLemmas.{lies, lies-bytes}
+use Rattle.ac_literal.proofs.packed.TextLemmas.{lies, lies-bytes}
 use Rattle.ac_literal.proofs.packed.rabinkarp.match_at.Goals as goal
 
 pub returns-then-eq : goal.returns-then-eq

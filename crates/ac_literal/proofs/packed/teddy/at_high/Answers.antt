@@ -1,7 +1,7 @@
 use Rattle.std.proofs.Common.{◌≡◌, ℕ, ◌/◌, ◌^◌, ◌<◌, List, length, get_or, arith, w8, Fits}
 use Rattle.std.specs.Simd.Lanes.{Each1}
 use Rattle.std.proofs.lemmas.Simd.{Each1-get_or}
-use Rattle.ac_literal.proofs.LaneLemmas.{lanes-one, may-look, lanes-looked}
+use Rattle.ac_literal.proofs.packed.LaneLemmas.{lanes-one, may-look, lanes-looked}
 use Rattle.ac_literal.proofs.packed.teddy.at_high.Goals as goal
 
 -- a byte's high half is below 16

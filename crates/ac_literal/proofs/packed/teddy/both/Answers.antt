@@ -1,5 +1,5 @@
 use Rattle.std.proofs.Common.{bit_and}
-use Rattle.ac_literal.proofs.LaneLemmas.{lanes-two}
+use Rattle.ac_literal.proofs.packed.LaneLemmas.{lanes-two}
 use Rattle.ac_literal.proofs.packed.teddy.both.Goals as goal
 
 pub returns : goal.returns

@@ -1,10 +1,10 @@
 use Rattle.std.proofs.Common.{◌≡◌, ℕ, Bool, true, false, not, eqb, refl}
 use Rattle.std.proofs.lemmas.Bool.{eqb-true}
 use Rattle.std.specs.Prelude.{IsFalse}
-use Rattle.ac_literal.proofs.LaneLemmas.{or-none}
+use Rattle.ac_literal.proofs.packed.LaneLemmas.{or-none}
 use Rattle.ac_literal.proofs.packed.teddy.has_lane.Goals as goal
 
--- a number that doesn't fail to be 0 is 0
+-- a number that fails the test for not being 0 is 0
 is_zero : (x : ℕ) → IsFalse (not (eqb x 0)) → x ≡ 0
 is_zero x h = by (eqb x 0) refl h
   where

@@ -1,5 +1,5 @@
 use Rattle.std.proofs.Common.{arith, w64}
-use Rattle.ac_literal.proofs.BucketLemmas.{lowest-few}
+use Rattle.ac_literal.proofs.packed.BucketLemmas.{lowest-few}
 use Rattle.std.proofs.lemmas.Nat.Bits.{bit_at-trailing_zeros}
 use Rattle.ac_literal.proofs.packed.teddy.lowest.Goals as goal
 

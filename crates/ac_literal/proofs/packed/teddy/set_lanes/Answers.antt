@@ -1,4 +1,4 @@
-use Rattle.ac_literal.proofs.LaneLemmas.{set-lane, few-lanes}
+use Rattle.ac_literal.proofs.packed.LaneLemmas.{set-lane, few-lanes}
 use Rattle.ac_literal.proofs.packed.teddy.set_lanes.Goals as goal
 
 pub returns-clause-set : goal.returns-clause-set

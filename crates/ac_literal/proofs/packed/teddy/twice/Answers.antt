@@ -1,4 +1,4 @@
--- A lane reads the table once more after its sixteenth.
+-- After its sixteenth lane the vector repeats the table.
 use Rattle.std.proofs.Common.{◌≡◌, ◌%◌, ◌++◌, take, length, get_or, refl, ◌∙◌, arith, get_or-take, length-take-le}
 use Rattle.std.proofs.lemmas.List.{get_or_append_left}
 use Rattle.std.proofs.lemmas.List.FromFn.{get_or-map-range_with_len}

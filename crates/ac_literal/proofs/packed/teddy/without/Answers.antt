@@ -1,6 +1,6 @@
 use Rattle.std.proofs.Common.{arith, w64}
 use Rattle.std.proofs.lemmas.Nat.Bits.{bit_at_clear_other}
-use Rattle.ac_literal.proofs.BucketLemmas.{without-less}
+use Rattle.ac_literal.proofs.packed.BucketLemmas.{without-less}
 use Rattle.ac_literal.proofs.packed.teddy.without.Goals as goal
 
 pub returns-clause-kept : goal.returns-clause-kept

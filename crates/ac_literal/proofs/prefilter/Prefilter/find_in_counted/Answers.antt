@@ -1,4 +1,4 @@
--- The promise of a scan for needles is that of the prefilter: its model names those needles.
+-- What a scan for needles ensures is what the prefilter ensures: its model names those needles.
 use Rattle.std.proofs.Common.{sym, subst}
 use Rattle.ac_input.specs.Dictionary.{Dictionary}
 use Rattle.ac_input.specs.Candidate.{Filter}

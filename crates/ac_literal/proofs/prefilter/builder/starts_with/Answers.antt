@@ -1,7 +1,7 @@
-use Rattle.ac_literal.specs.Needles.{with_byte}
-use Rattle.ac_literal.specs.Strategy.{is_start}
+use Rattle.ac_literal.specs.Prefilter.Needles.{with_byte}
+use Rattle.ac_literal.specs.Prefilter.Strategies.{is_start}
 use Rattle.std.specs.Prelude.{slice_index}
-use Rattle.ac_literal.proofs.BuilderLemmas.{starts-push}
+use Rattle.ac_literal.proofs.prefilter.BuilderLemmas.{starts-push}
 use Rattle.ac_literal.proofs.prefilter.builder.starts_with.Goals as goal
 
 pub returns : goal.returns

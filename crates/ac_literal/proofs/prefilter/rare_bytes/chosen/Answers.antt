@@ -1,5 +1,5 @@
 use Rattle.std.proofs.Common.{sym}
-use Rattle.ac_literal.proofs.ChoiceLemmas.{chosen-added}
+use Rattle.ac_literal.proofs.prefilter.ChoiceLemmas.{chosen-added}
 use Rattle.ac_literal.proofs.prefilter.rare_bytes.chosen.Goals as goal
 
 pub returns : goal.returns

@@ -1,5 +1,5 @@
 use Rattle.std.proofs.Common.{◌≡◌, ◌<◌, length, refl, sym, ap, slice_index, length-set, arith}
-use Rattle.ac_literal.proofs.ChoiceLemmas.{recorded}
+use Rattle.ac_literal.proofs.prefilter.ChoiceLemmas.{recorded}
 use Rattle.ac_literal.proofs.prefilter.rare_bytes.record.Goals as goal
 
 pub loop-at-preserved : goal.loop-at-preserved

@@ -1,7 +1,7 @@
 use Rattle.std.proofs.Common.{ℕ, List, ◌+◌, length, sym, ap, ◌∙◌}
 use Rattle.ac_input.specs.Occurrence.{Occurrence}
-use Rattle.ac_input.proofs.OrderLemmas.{occurrence_from_parts}
-use Rattle.ac_literal.proofs.MemmemLemmas.{memmem_found, memmem_none}
+use Rattle.ac_input.proofs.lemmas.OrderLemmas.{occurrence_from_parts}
+use Rattle.ac_literal.proofs.prefilter.MemmemLemmas.{memmem_found, memmem_none}
 use Rattle.ac_literal.proofs.prefilter.strategy.find_memmem.Goals as goal
 
 pub returns-in_default : goal.returns-in_default

@@ -1,4 +1,4 @@
-use Rattle.ac_literal.proofs.PackedLemmas.{packed_found, packed_none}
+use Rattle.ac_literal.proofs.prefilter.PackedLemmas.{packed_found, packed_none}
 use Rattle.ac_literal.proofs.prefilter.strategy.find_packed.Goals as goal
 
 pub returns-in-Some : goal.returns-in-Some

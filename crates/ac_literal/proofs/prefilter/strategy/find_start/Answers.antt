@@ -1,6 +1,6 @@
 use Rattle.std.proofs.Common.{◌≤◌, arith}
-use Rattle.ac_literal.proofs.CandidateLemmas.{scanned_none, scanned_some}
-use Rattle.ac_literal.proofs.StartBytesLemmas.{start_hold, start_known, start_no_earlier}
+use Rattle.ac_literal.proofs.prefilter.CandidateLemmas.{scanned_none, scanned_some}
+use Rattle.ac_literal.proofs.prefilter.StartBytesLemmas.{start_hold, start_known, start_no_earlier}
 use Rattle.ac_literal.proofs.prefilter.strategy.find_start.Goals as goal
 
 pub returns-in-None : goal.returns-in-None

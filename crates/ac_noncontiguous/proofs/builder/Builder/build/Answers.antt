@@ -1,10 +1,11 @@
--- The automaton is made of the tables, the lengths and the prefilter of the patterns.
+-- The automaton is made from the tables, the lengths and the prefilter of the patterns.
 use Rattle.std.proofs.Common.{◌≡◌, ℕ, List, ap, subst, sym, ◌∙◌}
 use Rattle.ac_input.specs.Dictionary.{dictionary_of}
 use Rattle.ac_literal.specs.Packed.{bytes_of}
-use Rattle.ac_automaton.specs.Passing.{AreOpenedBy}
+use Rattle.std.specs.Prelude.{IfSome}
+use Rattle.ac_literal.specs.Openings.{AreOpenings}
 use Rattle.ac_noncontiguous.specs.Builder.{Settings, dictionary_by}
-use Rattle.ac_noncontiguous.proofs.BuilderLemmas.{opened-kind, parts-of}
+use Rattle.ac_noncontiguous.proofs.builder.BuilderLemmas.{opened-kind, parts-of}
 use Rattle.ac_noncontiguous.proofs.builder.Builder.build.Goals as goal
 
 pub from_parts-requires-clause-parts : goal.from_parts-requires-clause-parts
@@ -18,5 +19,5 @@ pub from_parts-requires-clause-opened : goal.from_parts-requires-clause-opened
 from_parts-requires-clause-opened c =
     let pairing = c.self.inside.pairing in
     let kind = c.self.inside.kind in
-    subst (λ (q : List (List ℕ)). ∥ AreOpenedBy (dictionary_of q pairing kind) c.new-openings.result ∥₁) (sym c.in_ok-lens.ensures)
+    subst (λ (q : List (List ℕ)). ∥ IfSome c.new-openings.result (AreOpenings (dictionary_of q pairing kind)) ∥₁) (sym c.in_ok-lens.ensures)
     ∣ opened-kind (bytes_of c.args.patterns.now) pairing kind c.new-openings.result c.new-openings.ensures ∣₁

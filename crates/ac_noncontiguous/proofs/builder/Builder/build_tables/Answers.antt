@@ -2,7 +2,7 @@
 use Rattle.std.proofs.Common.{subst}
 use Rattle.ac_input.specs.Limits.{IsWithinLimits}
 use Rattle.ac_noncontiguous.specs.Builder.{Settings, AreCompiled, dictionary_by}
-use Rattle.ac_noncontiguous.proofs.TrieLemmas.{trie-within}
+use Rattle.ac_noncontiguous.proofs.trie.TrieLemmas.{trie-within}
 use Rattle.ac_noncontiguous.proofs.builder.Builder.build_tables.Goals as goal
 
 pub returns-clause-made : goal.returns-clause-made

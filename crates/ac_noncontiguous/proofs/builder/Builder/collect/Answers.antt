@@ -5,7 +5,7 @@ use Rattle.std.specs.Borrow.{Bor}
 use Rattle.ac_input.specs.Dictionary.{Dictionary}
 use Rattle.ac_input.specs.Limits.{with_pattern}
 use Rattle.ac_noncontiguous.specs.Builder.{dictionary_by}
-use Rattle.ac_noncontiguous.proofs.BuildLemmas.{first-more, first-all, pattern-at}
+use Rattle.ac_noncontiguous.proofs.builder.BuildLemmas.{first-more, first-all, pattern-at}
 use Rattle.ac_noncontiguous.proofs.builder.Builder.collect.Goals as goal
 
 pub loop-pattern-preserved : goal.loop-pattern-preserved

@@ -1,8 +1,8 @@
--- The child of the trie state, or what stands for none.
+-- Each byte leads to the trie state's child for it, or to the number given for no child.
 use Rattle.std.proofs.Common.{◌≡◌, ℕ, ◌<◌, ◌∙◌, sym, subst, arith, slice_index, length}
 use Rattle.std.proofs.lemmas.List.{get_or_read}
-use Rattle.ac_noncontiguous.specs.Edges.{missing, IsEdgeTo}
-use Rattle.ac_noncontiguous.proofs.EdgeLemmas.{edge-target, edge-dead, missing-start, missing-other}
+use Rattle.ac_noncontiguous.specs.Compiler.Edges.{missing, IsEdgeTo}
+use Rattle.ac_noncontiguous.proofs.compiler.EdgeLemmas.{edge-target, edge-dead, missing-start, missing-other}
 use Rattle.ac_noncontiguous.proofs.compiler.edges.edges.Goals as goal
 use Rattle.ac_noncontiguous.proofs.compiler.edges.edges.Goals.{then-state-as_usize, else-state-as_usize}
 

@@ -1,4 +1,4 @@
--- A list of one element, over and over.
+-- A list that repeats one element.
 use Rattle.std.proofs.lemmas.List.{get_or-replicate}
 use Rattle.ac_noncontiguous.proofs.compiler.edges.filled.Goals as goal
 

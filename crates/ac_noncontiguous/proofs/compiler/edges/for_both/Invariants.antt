@@ -1,5 +1,5 @@
 use Rattle.std.proofs.Common.{◌≡◌, ℕ, ◌<◌, slice_index}
-use Rattle.ac_input.specs.LiveLaws.{canonical}
+use Rattle.ac_input.specs.Laws.LiveLaws.{canonical}
 use Rattle.ac_noncontiguous.proofs.compiler.edges.for_both.Given as goal
 
 abbrev pub invariant-loop-byte : goal.invariant-loop-byte

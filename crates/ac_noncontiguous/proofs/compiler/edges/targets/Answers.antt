@@ -3,8 +3,8 @@ use Rattle.std.proofs.Common.{◌≡◌, ◌<◌, rules, ap, ◌∙◌, sym, sub
 use Rattle.std.proofs.lemmas.Bool.Decides.{nat_tests}
 use Rattle.std.proofs.lemmas.List.{get_or_read}
 use Rattle.ac_noncontiguous.specs.declared.trie.State.{State}
-use Rattle.ac_noncontiguous.specs.Tree.{IsFirstChild, parent, byte, child, sibling}
-use Rattle.ac_noncontiguous.proofs.EdgeLemmas.{targets-none, targets-set, targets-all, sibling-first, sibling-rises}
+use Rattle.ac_noncontiguous.specs.Trie.Tree.{IsFirstChild, parent, byte, child, sibling}
+use Rattle.ac_noncontiguous.proofs.compiler.EdgeLemmas.{targets-none, targets-set, targets-all, sibling-first, sibling-rises}
 use Rattle.ac_noncontiguous.proofs.compiler.edges.targets.Goals as goal
 
 pub loop-at-init : goal.loop-at-init

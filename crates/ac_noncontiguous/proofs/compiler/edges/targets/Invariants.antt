@@ -1,7 +1,7 @@
 use Rattle.std.proofs.Common.{◌≡◌, ℕ, ◌-◌, ◌==◌, if◌then◌else◌, length}
-use Rattle.ac_noncontiguous.specs.Tree.{IsFirstChild, parent, byte}
+use Rattle.ac_noncontiguous.specs.Trie.Tree.{IsFirstChild, parent, byte}
 use Rattle.ac_noncontiguous.proofs.compiler.edges.targets.Given as goal
-use Rattle.ac_noncontiguous.proofs.EdgeLemmas.{AreTargetsBelow}
+use Rattle.ac_noncontiguous.proofs.compiler.EdgeLemmas.{AreTargetsBelow}
 
 abbrev pub invariant-loop-at : goal.invariant-loop-at
 invariant-loop-at l =

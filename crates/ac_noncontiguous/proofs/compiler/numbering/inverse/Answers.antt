@@ -1,8 +1,8 @@
 -- From the last state back, so that the first one that stands for a trie state gives it its number.
 use Rattle.std.proofs.Common.{◌≡◌, ℕ, ◌+◌, ◌-◌, ◌<◌, length, subst, ◌∙◌, arith, length-set}
 use Rattle.std.proofs.lemmas.List.{get_or_read}
-use Rattle.ac_noncontiguous.specs.Numbering.{AreFirstNumbers}
-use Rattle.ac_noncontiguous.proofs.NumberingLemmas.{first-none, first-set}
+use Rattle.ac_noncontiguous.specs.Compiler.Numbering.{AreFirstNumbers}
+use Rattle.ac_noncontiguous.proofs.compiler.NumberingLemmas.{first-none, first-set}
 use Rattle.ac_noncontiguous.proofs.compiler.numbering.inverse.Goals as goal
 
 pub loop-from-init : goal.loop-from-init

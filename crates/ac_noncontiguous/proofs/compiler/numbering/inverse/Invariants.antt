@@ -1,5 +1,5 @@
 use Rattle.std.proofs.Common.{◌≡◌, ◌≤◌, length}
-use Rattle.ac_noncontiguous.specs.Numbering.{AreFirstNumbers}
+use Rattle.ac_noncontiguous.specs.Compiler.Numbering.{AreFirstNumbers}
 use Rattle.ac_noncontiguous.proofs.compiler.numbering.inverse.Given as goal
 
 abbrev pub invariant-loop-from : goal.invariant-loop-from

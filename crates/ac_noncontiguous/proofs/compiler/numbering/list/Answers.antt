@@ -1,7 +1,7 @@
--- No more states are chosen than there are.
+-- At most as many states are chosen as there are.
 use Rattle.std.proofs.Common.{◌≡◌, ◌+◌, true, false, length, refl, ap, arith, ◌∙◌, length-append}
 use Rattle.std.proofs.lemmas.List.Filters.{length-filter_both}
-use Rattle.ac_noncontiguous.specs.Numbering.{is_chosen, chosen}
+use Rattle.ac_noncontiguous.specs.Compiler.Numbering.{is_chosen, chosen}
 use Rattle.ac_noncontiguous.proofs.compiler.numbering.list.Goals as goal
 
 pub must-start-requires : goal.must-start-requires

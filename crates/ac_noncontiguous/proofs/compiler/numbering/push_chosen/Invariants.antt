@@ -1,6 +1,6 @@
 use Rattle.std.proofs.Common.{◌≡◌, ◌++◌, take}
 use Rattle.std.specs.List.{filter}
-use Rattle.ac_noncontiguous.specs.Numbering.{is_chosen}
+use Rattle.ac_noncontiguous.specs.Compiler.Numbering.{is_chosen}
 use Rattle.ac_noncontiguous.proofs.compiler.numbering.push_chosen.Given as goal
 
 abbrev pub invariant-loop-id : goal.invariant-loop-id

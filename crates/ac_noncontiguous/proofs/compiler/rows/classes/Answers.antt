@@ -1,13 +1,13 @@
--- Each byte of a state, and its partner, is parted from the others, and no other one is.
+-- Each byte of a state, and its partner, is parted from all others, and no other byte is.
 use Rattle.std.proofs.Common.{◌≡◌, ap, subst, ◌∙◌, ℕ, length, arith}
 use Rattle.ac_noncontiguous.specs.declared.trie.State.{State}
-use Rattle.ac_noncontiguous.specs.Tree.{byte}
-use Rattle.ac_noncontiguous.specs.Layout.{AreStateEdges}
-use Rattle.ac_noncontiguous.proofs.RowLemmas.{parted-more, parted-all}
-use Rattle.ac_noncontiguous.proofs.ByteLemmas.{edges-more}
+use Rattle.ac_noncontiguous.specs.Trie.Tree.{byte}
+use Rattle.ac_noncontiguous.specs.Compiler.Layout.{AreStateEdges}
+use Rattle.ac_noncontiguous.proofs.compiler.RowLemmas.{parted-more, parted-all}
+use Rattle.ac_noncontiguous.proofs.nfa.ByteLemmas.{edges-more}
 use Rattle.ac_noncontiguous.proofs.compiler.rows.classes.Goals as goal
 use Rattle.std.specs.Prelude.{◌<◌}
-use Rattle.ac_input.specs.Classes.{IsParted}
+use Rattle.ac_input.specs.Alphabet.Classes.{IsParted}
 use Rattle.ac_input.specs.Same.{other}
 
 pub loop-id-preserved : goal.loop-id-preserved

@@ -1,5 +1,5 @@
 use Rattle.std.proofs.Common.{◌≡◌, ◌+◌, length}
-use Rattle.ac_noncontiguous.specs.Layout.{KeepsRows}
+use Rattle.ac_noncontiguous.specs.Compiler.Layout.{KeepsRows}
 use Rattle.ac_noncontiguous.proofs.compiler.rows.push_blank.Given as goal
 
 abbrev pub invariant-loop : goal.invariant-loop

@@ -2,8 +2,8 @@
 use Rattle.std.proofs.Common.{◌≡◌, ◌+◌, ◌<◌, ℕ, length, get_or, subst, ◌∙◌, arith, length-set}
 use Rattle.std.proofs.lemmas.List.{get_or_default}
 use Rattle.ac_input.specs.Alphabet.{class}
-use Rattle.ac_noncontiguous.specs.Layout.{IsRowAppended}
-use Rattle.ac_noncontiguous.proofs.RowLemmas.{row-none, row-more}
+use Rattle.ac_noncontiguous.specs.Compiler.Layout.{IsRowAppended}
+use Rattle.ac_noncontiguous.proofs.compiler.RowLemmas.{row-none, row-more}
 use Rattle.ac_noncontiguous.proofs.compiler.rows.push_row.Goals as goal
 
 pub loop-byte-init : goal.loop-byte-init

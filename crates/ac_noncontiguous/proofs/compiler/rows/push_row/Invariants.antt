@@ -1,6 +1,6 @@
 use Rattle.std.proofs.Common.{◌≡◌, ◌+◌, length}
 use Rattle.ac_input.specs.Alphabet.{alphabet_len}
-use Rattle.ac_noncontiguous.specs.Layout.{IsRowAppended}
+use Rattle.ac_noncontiguous.specs.Compiler.Layout.{IsRowAppended}
 use Rattle.ac_noncontiguous.proofs.compiler.rows.push_row.Given as goal
 
 abbrev pub invariant-loop-byte : goal.invariant-loop-byte

@@ -1,6 +1,6 @@
 use Rattle.std.proofs.Common.{◌≡◌, ◌+◌, ◌<◌, ℕ, slice_index}
 use Rattle.ac_input.specs.Alphabet.{class}
-use Rattle.ac_noncontiguous.specs.Layout.{or_failure}
+use Rattle.ac_noncontiguous.specs.Compiler.Layout.{or_failure}
 use Rattle.ac_noncontiguous.proofs.compiler.rows.with_failures.Given as goal
 
 abbrev pub invariant-loop-byte : goal.invariant-loop-byte

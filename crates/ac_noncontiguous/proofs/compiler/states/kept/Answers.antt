@@ -1,16 +1,16 @@
--- What is stored is read off the numbering, the links and the trie.
+-- What is stored for a state is read from the numbering, the links and the trie.
 use Rattle.std.proofs.Common.{◌≡◌, ℕ, ◌<◌, ◌∙◌, length, slice_index, slice_index_or, refl, ap, subst, arith}
 use Rattle.std.proofs.lemmas.List.{get_or_read}
 use Rattle.ac_noncontiguous.specs.declared.links.Range.{Range}
 use Rattle.ac_noncontiguous.specs.declared.trie.State.{State}
-use Rattle.ac_noncontiguous.specs.Tree.{depth}
+use Rattle.ac_noncontiguous.specs.Trie.Tree.{depth}
 use Rattle.ac_noncontiguous.specs.Links.{no_range}
-use Rattle.ac_noncontiguous.specs.Numbering.{IsNumbering}
-use Rattle.ac_noncontiguous.specs.Assembly.{IsFailureOf}
+use Rattle.ac_noncontiguous.specs.Compiler.Numbering.{IsNumbering}
+use Rattle.ac_noncontiguous.specs.Compiler.Assembly.{IsFailureOf}
 use Rattle.ac_noncontiguous.specs.declared.compiler.numbering.Numbering.{Numbering}
 use Rattle.ac_noncontiguous.proofs.compiler.states.kept.Goals as goal
 
--- the trie state, as it is read
+-- the trie state that is read for a state
 read : (states : ℕ) (n : Numbering) (j id : ℕ) → IsNumbering states n → j < length n.at.items → id ≡ slice_index_or n.at.items j id → (id ≡ slice_index n.at.items j) × (id < states)
 read states n j id numbering within at =
     let is : id ≡ slice_index n.at.items j = get_or_read n.at.items j id within at 0 in

@@ -1,9 +1,9 @@
--- One state after another, and the end.
+-- The entries of one state after another are appended, and then the end entry.
 use Rattle.std.proofs.Common.{◌≡◌, ◌+◌, List, length, slice_index, subst, sym, ap, refl, arith}
 use Rattle.ac_noncontiguous.specs.declared.nfa.tables.State.{State}
 use Rattle.ac_noncontiguous.specs.Nfa.{no_row}
-use Rattle.ac_noncontiguous.specs.Assembly.{AreKept}
-use Rattle.ac_noncontiguous.proofs.AssemblyLemmas.{kept-more, kept-all, AreKeptBelow}
+use Rattle.ac_noncontiguous.specs.Compiler.Assembly.{AreKept}
+use Rattle.ac_noncontiguous.proofs.compiler.AssemblyLemmas.{kept-more, kept-all, AreKeptBelow}
 use Rattle.ac_noncontiguous.proofs.compiler.states.states.Goals as goal
 
 pub loop-state-preserved : goal.loop-state-preserved

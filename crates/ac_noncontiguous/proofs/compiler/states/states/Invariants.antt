@@ -1,5 +1,5 @@
 use Rattle.ac_noncontiguous.proofs.compiler.states.states.Given as goal
-use Rattle.ac_noncontiguous.proofs.AssemblyLemmas.{AreKeptBelow}
+use Rattle.ac_noncontiguous.proofs.compiler.AssemblyLemmas.{AreKeptBelow}
 
 abbrev pub invariant-loop-state : goal.invariant-loop-state
 invariant-loop-state l = AreKeptBelow l.trie l.numbering l.links l.transitions l.rows l.state l.states.items

@@ -1,4 +1,4 @@
-use Rattle.ac_noncontiguous.specs.Layout.{AreAppended}
+use Rattle.ac_noncontiguous.specs.Compiler.Layout.{AreAppended}
 use Rattle.ac_noncontiguous.proofs.compiler.transitions.push_edges.Given as goal
 
 abbrev pub invariant-loop-byte : goal.invariant-loop-byte

@@ -1,12 +1,12 @@
--- The transitions to the only child, or those by the edges; the fail state has none.
+-- A state gets the transitions to its only child, or those of its edges; the fail state gets none.
 use Rattle.std.proofs.Common.{◌<◌, List, length, sym, subst, arith}
 use Rattle.std.proofs.lemmas.List.{get_or_read}
 use Rattle.std.proofs.lemmas.Result.{IfOk-weaker}
-use Rattle.ac_input.proofs.SameLemmas.{own_inverse-pairing}
+use Rattle.ac_input.proofs.lemmas.SameLemmas.{own_inverse-pairing}
 use Rattle.ac_noncontiguous.specs.declared.nfa.tables.Transition.{Transition}
-use Rattle.ac_noncontiguous.specs.Layout.{HasAll, IsAppended}
-use Rattle.ac_noncontiguous.proofs.LayoutLemmas.{laid-edges, laid-fail}
-use Rattle.ac_noncontiguous.proofs.OnlyLemmas.{laid-only}
+use Rattle.ac_noncontiguous.specs.Compiler.Layout.{HasAll, IsAppended}
+use Rattle.ac_noncontiguous.proofs.compiler.LayoutLemmas.{laid-edges, laid-fail}
+use Rattle.ac_noncontiguous.proofs.compiler.OnlyLemmas.{laid-only}
 use Rattle.ac_noncontiguous.proofs.compiler.transitions.push_state.Goals as goal
 
 pub has_one_at_most-requires : goal.has_one_at_most-requires

@@ -1,8 +1,8 @@
 -- Each state's list is its own patterns and the list of its failure, which was made before.
 use Rattle.std.proofs.Common.{◌<◌, length, arith, rules}
-use Rattle.ac_noncontiguous.proofs.FailLemmas.{stands-of}
-use Rattle.ac_noncontiguous.proofs.FailsLemmas.{order-read}
-use Rattle.ac_noncontiguous.proofs.ListLemmas.{room-none, rest-above, room-more, lists-more, lists-all}
+use Rattle.ac_noncontiguous.proofs.trie.FailLemmas.{stands-of}
+use Rattle.ac_noncontiguous.proofs.trie.FailsLemmas.{order-read}
+use Rattle.ac_noncontiguous.proofs.links.ListLemmas.{room-none, rest-above, room-more, lists-more, lists-all}
 use Rattle.ac_noncontiguous.proofs.links.Links.from_fails.Goals as goal
 
 pub loop-id-init : goal.loop-id-init

@@ -1,7 +1,7 @@
 use Rattle.ac_input.specs.Dictionary.{Dictionary}
-use Rattle.ac_noncontiguous.specs.Kept.{IsTrieOf}
+use Rattle.ac_noncontiguous.specs.Trie.Kept.{IsTrieOf}
 use Rattle.ac_noncontiguous.specs.Links.{AreFails}
-use Rattle.ac_noncontiguous.proofs.ListLemmas.{AreFirstLists, AreRoom}
+use Rattle.ac_noncontiguous.proofs.links.ListLemmas.{AreFirstLists, AreRoom}
 use Rattle.ac_noncontiguous.proofs.links.Links.from_fails.Given as goal
 
 abbrev pub invariant-loop-id : goal.invariant-loop-id

@@ -1,4 +1,4 @@
-use Rattle.ac_noncontiguous.proofs.ReadCallLemmas.{alike-in}
+use Rattle.ac_noncontiguous.proofs.nfa.ReadCallLemmas.{alike-in}
 use Rattle.ac_noncontiguous.proofs.nfa.NFA.byte_classes.Goals as goal
 
 pub returns-clause-alike : goal.returns-clause-alike

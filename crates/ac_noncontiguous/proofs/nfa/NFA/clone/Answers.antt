@@ -1,11 +1,12 @@
 use Rattle.std.proofs.Common.{sym, subst, ap, ◌∙◌, List, ℕ}
-use Rattle.ac_input.specs.Classes.{AreByteClasses}
+use Rattle.ac_input.specs.Alphabet.Classes.{AreByteClasses}
 use Rattle.ac_input.specs.Dictionary.{dictionary_of}
 use Rattle.ac_input.specs.Limits.{IsWithinLimits}
-use Rattle.ac_automaton.specs.Passing.{AreOpenedBy}
-use Rattle.ac_noncontiguous.specs.Nfa.{AreTablesOf}
-use Rattle.ac_noncontiguous.specs.Reads.{dictionary}
-use Rattle.ac_noncontiguous.proofs.ReadCallLemmas.{same-tables}
+use Rattle.std.specs.Prelude.{IfSome}
+use Rattle.ac_literal.specs.Openings.{AreOpenings}
+use Rattle.ac_noncontiguous.specs.Nfa.{AreTables}
+use Rattle.ac_noncontiguous.specs.Nfa.Reads.{dictionary}
+use Rattle.ac_noncontiguous.proofs.nfa.ReadCallLemmas.{same-tables}
 use Rattle.ac_noncontiguous.proofs.nfa.NFA.clone.Goals as goal
 
 pub from_parts-requires-clause-parts : goal.from_parts-requires-clause-parts
@@ -14,7 +15,7 @@ from_parts-requires-clause-parts c =
     let same = sym c.in_ok-lens.ensures in
     record {
       within = subst (λ (patterns : List (List ℕ)). ∥ IsWithinLimits (dictionary_of patterns a.pairing a.kind) ∥₁) same a.within;
-      stands = subst (λ (patterns : List (List ℕ)). ∥ AreTablesOf (dictionary_of patterns a.pairing a.kind) c.in_ok-tables.tables ∥₁) same (same-tables (dictionary a) a.tables c.in_ok-tables.tables c.in_ok-tables.ensures a.stands);
+      stands = subst (λ (patterns : List (List ℕ)). ∥ ((text : ℕ → List ℕ) × AreTables (dictionary_of patterns a.pairing a.kind) text c.in_ok-tables.tables) ∥₁) same (same-tables (dictionary a) a.tables c.in_ok-tables.tables c.in_ok-tables.ensures a.stands);
       classed =
           subst (λ (patterns : List (List ℕ)). ∥ AreByteClasses (dictionary_of patterns a.pairing a.kind) c.in_ok-tables.tables.classes ∥₁) same
           (subst (λ (classes : List ℕ). ∥ AreByteClasses (dictionary a) classes ∥₁) (sym c.in_ok-tables.ensures.classes) a.classed);
@@ -25,4 +26,4 @@ from_parts-requires-clause-parts c =
 pub from_parts-requires-clause-opened : goal.from_parts-requires-clause-opened
 from_parts-requires-clause-opened c =
     let a = c.args.self.now in
-    subst (λ (patterns : List (List ℕ)). ∥ AreOpenedBy (dictionary_of patterns a.pairing a.kind) a.skips.openings ∥₁) (sym c.in_ok-lens.ensures) a.opened
+    subst (λ (patterns : List (List ℕ)). ∥ IfSome a.skips.openings (AreOpenings (dictionary_of patterns a.pairing a.kind)) ∥₁) (sym c.in_ok-lens.ensures) a.opened

@@ -1,8 +1,8 @@
 use Rattle.std.proofs.Common.{◌≡◌, ap, subst}
 use Rattle.ac_noncontiguous.specs.declared.nfa.tables.State.{State}
-use Rattle.ac_noncontiguous.specs.ReadCalls.{fail_in, FailsIn}
-use Rattle.ac_noncontiguous.proofs.LookupLemmas.{kept-read}
-use Rattle.ac_noncontiguous.proofs.ReadCallLemmas.{below-kept, fails-in}
+use Rattle.ac_noncontiguous.specs.Nfa.ReadCalls.{fail_in, FailsIn}
+use Rattle.ac_noncontiguous.proofs.nfa.LookupLemmas.{kept-read}
+use Rattle.ac_noncontiguous.proofs.nfa.ReadCallLemmas.{below-kept, fails-in}
 use Rattle.ac_noncontiguous.proofs.nfa.NFA.fail.Goals as goal
 
 pub returns-clause-fails : goal.returns-clause-fails

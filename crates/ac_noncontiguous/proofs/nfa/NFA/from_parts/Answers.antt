@@ -1,5 +1,5 @@
 use Rattle.ac_input.specs.Dictionary.{dictionary_of}
-use Rattle.ac_noncontiguous.proofs.IdleLemmas.{start-kept}
+use Rattle.ac_noncontiguous.proofs.nfa.IdleLemmas.{start-kept}
 use Rattle.ac_noncontiguous.proofs.nfa.NFA.from_parts.Goals as goal
 
 pub starters-requires : goal.starters-requires

@@ -1,7 +1,7 @@
 use Rattle.std.proofs.Common.{ap, length, arith}
 use Rattle.ac_noncontiguous.specs.declared.nfa.tables.State.{State}
-use Rattle.ac_noncontiguous.proofs.LookupLemmas.{kept-read, kept-read_next, kept-ordered, kept-ends}
-use Rattle.ac_noncontiguous.proofs.ReadCallLemmas.{below-kept, edges-lead}
+use Rattle.ac_noncontiguous.proofs.nfa.LookupLemmas.{kept-read, kept-read_next, kept-ordered, kept-ends}
+use Rattle.ac_noncontiguous.proofs.nfa.ReadCallLemmas.{below-kept, edges-lead}
 use Rattle.ac_noncontiguous.proofs.nfa.NFA.iter_trans.Goals as goal
 
 pub overflow_sub-end : goal.overflow_sub-end

@@ -1,4 +1,4 @@
-use Rattle.ac_noncontiguous.proofs.ReadCallLemmas.{met-visited, leads-in}
+use Rattle.ac_noncontiguous.proofs.nfa.ReadCallLemmas.{met-visited, leads-in}
 use Rattle.ac_noncontiguous.proofs.nfa.NFA.lead.Goals as goal
 
 pub next-requires : goal.next-requires

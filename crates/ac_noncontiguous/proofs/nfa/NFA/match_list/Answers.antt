@@ -1,9 +1,9 @@
 use Rattle.std.proofs.Common.{◌≡◌, ℕ, List, take, drop, ap, ap₂, sym, subst, ◌∙◌, length, arith}
 use Rattle.ac_noncontiguous.specs.declared.nfa.tables.State.{State}
-use Rattle.ac_noncontiguous.specs.Reads.{matches_at}
-use Rattle.ac_noncontiguous.specs.ReadCalls.{ListsIn}
-use Rattle.ac_noncontiguous.proofs.LookupLemmas.{kept-read}
-use Rattle.ac_noncontiguous.proofs.ReadCallLemmas.{below-kept, kept-matches, lists-in}
+use Rattle.ac_noncontiguous.specs.Nfa.Reads.{matches_at}
+use Rattle.ac_noncontiguous.specs.Nfa.ReadCalls.{ListsIn}
+use Rattle.ac_noncontiguous.proofs.nfa.LookupLemmas.{kept-read}
+use Rattle.ac_noncontiguous.proofs.nfa.ReadCallLemmas.{below-kept, kept-matches, lists-in}
 use Rattle.ac_noncontiguous.proofs.nfa.NFA.match_list.Goals as goal
 
 pub part-requires : goal.part-requires

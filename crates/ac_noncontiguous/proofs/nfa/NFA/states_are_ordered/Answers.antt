@@ -1,4 +1,4 @@
-use Rattle.ac_noncontiguous.proofs.ReadCallLemmas.{ordered-in}
+use Rattle.ac_noncontiguous.proofs.nfa.ReadCallLemmas.{ordered-in}
 use Rattle.ac_noncontiguous.proofs.nfa.NFA.states_are_ordered.Goals as goal
 
 pub returns : goal.returns

@@ -1,4 +1,4 @@
-use Rattle.ac_noncontiguous.proofs.ReadCallLemmas.{texts-begin}
+use Rattle.ac_noncontiguous.proofs.nfa.ReadCallLemmas.{texts-begin}
 use Rattle.ac_noncontiguous.proofs.nfa.NFA.states_stand.Goals as goal
 
 pub returns-clause-begin : goal.returns-clause-begin

@@ -1,8 +1,8 @@
 -- One more pattern makes the trie that of the dictionary with one more pattern.
 use Rattle.std.proofs.Common.{arith}
 use Rattle.std.proofs.lemmas.Result.{IfOk-weaker, err_from_is_err_and}
-use Rattle.ac_noncontiguous.proofs.TrieLemmas.{trie-entered, trie-left_out}
-use Rattle.ac_noncontiguous.proofs.StuckLemmas.{trie-stuck}
+use Rattle.ac_noncontiguous.proofs.trie.TrieLemmas.{trie-entered, trie-left_out}
+use Rattle.ac_noncontiguous.proofs.trie.StuckLemmas.{trie-stuck}
 use Rattle.ac_noncontiguous.proofs.trie.Trie.add.Goals as goal
 
 pub returns-in-Some-clause-added : goal.returns-in-Some-clause-added

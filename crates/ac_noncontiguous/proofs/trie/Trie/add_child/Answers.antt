@@ -3,10 +3,10 @@ use Rattle.std.proofs.Common.{◌≡◌, ◌<◌, ◌+◌, ◌++◌, ◌∷◌, 
 use Rattle.std.proofs.lemmas.Bool.Decides.{nat_tests}
 use Rattle.ac_noncontiguous.specs.declared.trie.State.{State}
 use Rattle.ac_noncontiguous.specs.declared.trie.Trie.{Trie}
-use Rattle.ac_noncontiguous.specs.Tree.{depth, IsAdded}
-use Rattle.ac_noncontiguous.proofs.OwnLemmas.{ends-set}
-use Rattle.ac_noncontiguous.proofs.GrownLemmas.{tree-grown, added-grown, no-such}
-use Rattle.ac_noncontiguous.proofs.LinkedLemmas.{fresh, linked-child, linked-sibling, depth-le, few-set}
+use Rattle.ac_noncontiguous.specs.Trie.Tree.{depth, IsAdded}
+use Rattle.ac_noncontiguous.proofs.trie.OwnLemmas.{ends-set}
+use Rattle.ac_noncontiguous.proofs.trie.GrownLemmas.{tree-grown, added-grown, no-such}
+use Rattle.ac_noncontiguous.proofs.trie.LinkedLemmas.{fresh, linked-child, linked-sibling, depth-le, few-set}
 use Rattle.ac_noncontiguous.proofs.trie.Trie.add_child.Goals as goal
 use Rattle.ac_noncontiguous.proofs.trie.Trie.add_child.Goals.{then-eq, else-eq}
 

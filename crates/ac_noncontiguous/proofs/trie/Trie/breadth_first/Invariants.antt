@@ -1,4 +1,4 @@
-use Rattle.ac_noncontiguous.specs.Order.{AreInOrder}
+use Rattle.ac_noncontiguous.specs.Links.Order.{AreInOrder}
 use Rattle.ac_noncontiguous.proofs.trie.Trie.breadth_first.Given as goal
 
 abbrev pub invariant-loop-depth : goal.invariant-loop-depth

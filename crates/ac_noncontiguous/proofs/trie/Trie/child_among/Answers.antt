@@ -1,7 +1,7 @@
 -- Each place looked at holds a child of the state, and in the end all of them were looked at.
 use Rattle.std.proofs.Common.{◌+◌, ◌∙◌, arith, sym}
 use Rattle.std.proofs.lemmas.List.{get_or_read}
-use Rattle.ac_noncontiguous.proofs.ChildrenLemmas.{first-read, among-within, one-among, none-among}
+use Rattle.ac_noncontiguous.proofs.trie.ChildrenLemmas.{first-read, among-within, one-among, none-among}
 use Rattle.ac_noncontiguous.proofs.trie.Trie.child_among.Goals as goal
 
 pub index-requires : goal.index-requires

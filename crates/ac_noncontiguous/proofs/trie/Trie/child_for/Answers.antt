@@ -1,5 +1,5 @@
--- What is known to be a child needs no walk.
-use Rattle.ac_noncontiguous.proofs.StepLemmas.{step-known}
+-- A child that is known already needs no walk.
+use Rattle.ac_noncontiguous.proofs.trie.StepLemmas.{step-known}
 use Rattle.ac_noncontiguous.proofs.trie.Trie.child_for.Goals as goal
 
 pub returns-in-Some-clause-step : goal.returns-in-Some-clause-step

@@ -1,4 +1,4 @@
--- What is known to be the child needs no look through all.
+-- A child that is known already needs no search among all children.
 use Rattle.ac_noncontiguous.proofs.trie.Trie.child_of.Goals as goal
 
 pub returns-in-Some : goal.returns-in-Some

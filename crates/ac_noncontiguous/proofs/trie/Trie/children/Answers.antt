@@ -1,7 +1,7 @@
--- One state after another.
+-- The children of one state after another are appended.
 use Rattle.std.proofs.Common.{◌≡◌, ◌∷◌, ◌++◌, [], ℕ, length, subst, ap, ◌∙◌, arith, rules}
-use Rattle.ac_noncontiguous.specs.Children.{AppendsChildren}
-use Rattle.ac_noncontiguous.proofs.ChildrenLemmas.{all-none, all-more}
+use Rattle.ac_noncontiguous.specs.Links.Children.{AppendsChildren}
+use Rattle.ac_noncontiguous.proofs.trie.ChildrenLemmas.{all-none, all-more}
 use Rattle.ac_noncontiguous.proofs.trie.Trie.children.Goals as goal
 
 pub loop-of-init : goal.loop-of-init

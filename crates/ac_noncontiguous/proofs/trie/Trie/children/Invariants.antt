@@ -1,4 +1,4 @@
-use Rattle.ac_noncontiguous.specs.Children.{AreAllChildren}
+use Rattle.ac_noncontiguous.specs.Links.Children.{AreAllChildren}
 use Rattle.ac_noncontiguous.proofs.trie.Trie.children.Given as goal
 
 abbrev pub invariant-loop-of : goal.invariant-loop-of

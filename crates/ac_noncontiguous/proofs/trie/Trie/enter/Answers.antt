@@ -2,9 +2,9 @@
 use Rattle.std.proofs.Common.{◌≡◌, ◌<◌, ℕ, List, map, length, get_or, sym, ap, ◌∙◌, subst, arith, rules}
 use Rattle.std.proofs.lemmas.List.{get_or-map, length-map}
 use Rattle.std.proofs.lemmas.Result.{err_from_is_err_and}
-use Rattle.ac_input.specs.LiveLaws.{canonical}
-use Rattle.ac_noncontiguous.specs.Entering.{IsChildRefused}
-use Rattle.ac_noncontiguous.proofs.WalkLemmas.{walk-start, walk-step}
+use Rattle.ac_input.specs.Laws.LiveLaws.{canonical}
+use Rattle.ac_noncontiguous.specs.Trie.Entering.{IsChildRefused}
+use Rattle.ac_noncontiguous.proofs.trie.WalkLemmas.{walk-start, walk-step}
 use Rattle.ac_noncontiguous.proofs.trie.Trie.enter.Goals as goal
 
 pub loop-byte-init : goal.loop-byte-init

@@ -1,7 +1,7 @@
 use Rattle.std.proofs.Common.{map}
-use Rattle.ac_input.specs.LiveLaws.{canonical}
-use Rattle.ac_noncontiguous.specs.Entering.{IsWalked}
-use Rattle.ac_noncontiguous.specs.Kept.{KeepsSettings}
+use Rattle.ac_input.specs.Laws.LiveLaws.{canonical}
+use Rattle.ac_noncontiguous.specs.Trie.Entering.{IsWalked}
+use Rattle.ac_noncontiguous.specs.Trie.Kept.{KeepsSettings}
 use Rattle.ac_noncontiguous.proofs.trie.Trie.enter.Given as goal
 
 abbrev pub invariant-loop-byte : goal.invariant-loop-byte

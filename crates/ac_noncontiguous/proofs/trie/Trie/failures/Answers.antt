@@ -1,6 +1,6 @@
--- Each state fails by the failures of those before it, which are all of lesser depth.
+-- Each state's failure is computed from the failures of the states before it, which include all shallower ones.
 use Rattle.std.proofs.Common.{◌<◌, length, arith, rules}
-use Rattle.ac_noncontiguous.proofs.FailsLemmas.{order-read, fails-filled, fails-above, shallower-more, fails-more, fails-all}
+use Rattle.ac_noncontiguous.proofs.trie.FailsLemmas.{order-read, fails-filled, fails-above, shallower-more, fails-more, fails-all}
 use Rattle.ac_noncontiguous.proofs.trie.Trie.failures.Goals as goal
 
 pub loop-id-init : goal.loop-id-init

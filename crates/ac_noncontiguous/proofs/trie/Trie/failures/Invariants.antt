@@ -1,7 +1,7 @@
 use Rattle.ac_input.specs.Dictionary.{Dictionary}
-use Rattle.ac_noncontiguous.specs.Kept.{IsTrieOf}
-use Rattle.ac_noncontiguous.specs.Failures.{AreShallower}
-use Rattle.ac_noncontiguous.proofs.FailsLemmas.{AreFirstFails}
+use Rattle.ac_noncontiguous.specs.Trie.Kept.{IsTrieOf}
+use Rattle.ac_noncontiguous.specs.Links.Failures.{AreShallower}
+use Rattle.ac_noncontiguous.proofs.trie.FailsLemmas.{AreFirstFails}
 use Rattle.ac_noncontiguous.proofs.trie.Trie.failures.Given as goal
 
 abbrev pub invariant-loop-id : goal.invariant-loop-id

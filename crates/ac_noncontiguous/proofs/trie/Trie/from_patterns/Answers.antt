@@ -5,9 +5,9 @@ use Rattle.std.proofs.lemmas.Result.{err_from_is_err_and}
 use Rattle.std.specs.Borrow.{Bor}
 use Rattle.ac_input.specs.Dictionary.{Dictionary, dictionary_of}
 use Rattle.ac_literal.specs.Packed.{bytes_of}
-use Rattle.ac_noncontiguous.specs.Kept.{IsTrieOf}
-use Rattle.ac_noncontiguous.proofs.TrieLemmas.{trie-within}
-use Rattle.ac_noncontiguous.proofs.BuildLemmas.{first-more, first-all, refused-at, pattern-at}
+use Rattle.ac_noncontiguous.specs.Trie.Kept.{IsTrieOf}
+use Rattle.ac_noncontiguous.proofs.trie.TrieLemmas.{trie-within}
+use Rattle.ac_noncontiguous.proofs.builder.BuildLemmas.{first-more, first-all, refused-at, pattern-at}
 use Rattle.ac_noncontiguous.proofs.trie.Trie.from_patterns.Goals as goal
 
 pub loop-pattern-init : goal.loop-pattern-init

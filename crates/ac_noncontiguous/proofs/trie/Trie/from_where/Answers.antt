@@ -1,4 +1,4 @@
--- A hint is a child for a lesser byte, so a way may begin at it.
+-- A hint is a child with a lesser byte, so a walk may begin at it.
 use Rattle.ac_noncontiguous.proofs.trie.Trie.from_where.Goals as goal
 
 pub state-requires : goal.state-requires

@@ -1,5 +1,5 @@
 use Rattle.std.proofs.Common.{◌≤◌, length}
-use Rattle.ac_noncontiguous.specs.Order.{AreLevels}
+use Rattle.ac_noncontiguous.specs.Links.Order.{AreLevels}
 use Rattle.ac_noncontiguous.proofs.trie.Trie.levels.Given as goal
 
 abbrev pub invariant-loop-from : goal.invariant-loop-from

@@ -1,8 +1,8 @@
--- The state that is set is the one, as a match state.
+-- The state is set to itself, made a match state.
 use Rattle.std.proofs.Common.{arith}
-use Rattle.ac_noncontiguous.proofs.OwnLemmas.{ends-set}
-use Rattle.ac_noncontiguous.proofs.MarkLemmas.{tree-marked, marked-marked}
-use Rattle.ac_noncontiguous.proofs.LinkedLemmas.{few-set}
+use Rattle.ac_noncontiguous.proofs.trie.OwnLemmas.{ends-set}
+use Rattle.ac_noncontiguous.proofs.trie.MarkLemmas.{tree-marked, marked-marked}
+use Rattle.ac_noncontiguous.proofs.trie.LinkedLemmas.{few-set}
 use Rattle.ac_noncontiguous.proofs.trie.Trie.mark.Goals as goal
 
 pub invariant_of-self-clause-tree : goal.invariant_of-self-clause-tree

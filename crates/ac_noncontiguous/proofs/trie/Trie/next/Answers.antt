@@ -1,8 +1,8 @@
--- Along the failures each state is less deep, and a byte leads from each to where it leads from the first one.
+-- Each failure that is followed is shallower, and the byte leads from it to where it leads from the first state.
 use Rattle.std.proofs.Common.{◌≡◌, ◌<◌, ◌∙◌, sym, refl, Some, None, length, subst, slice_get, arith}
 use Rattle.std.proofs.lemmas.Option.{slice_get_read}
-use Rattle.ac_noncontiguous.specs.Failures.{IsToldBy}
-use Rattle.ac_noncontiguous.proofs.FailLemmas.{follows-more, left-less, failure-within, told-returns, stands-of, none-of}
+use Rattle.ac_noncontiguous.specs.Links.Failures.{IsToldBy}
+use Rattle.ac_noncontiguous.proofs.trie.FailLemmas.{follows-more, left-less, failure-within, told-returns, stands-of, none-of}
 use Rattle.ac_noncontiguous.proofs.trie.Trie.next.Goals as goal
 
 pub told_by-told-requires-clause-within : goal.told_by-told-requires-clause-within

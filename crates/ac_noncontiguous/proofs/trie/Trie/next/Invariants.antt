@@ -1,10 +1,10 @@
 use Rattle.std.proofs.Common.{◌≡◌, ◌+◌}
 use Rattle.ac_input.specs.Dictionary.{Dictionary}
-use Rattle.ac_input.specs.LiveLaws.{canonical}
-use Rattle.ac_noncontiguous.specs.Tree.{depth}
-use Rattle.ac_noncontiguous.specs.Kept.{IsTrieOf}
-use Rattle.ac_noncontiguous.specs.Failures.{AreFailsAbove, IsWithinDepth, GoesOnFromStart}
-use Rattle.ac_noncontiguous.proofs.FailLemmas.{Follows, failures_left}
+use Rattle.ac_input.specs.Laws.LiveLaws.{canonical}
+use Rattle.ac_noncontiguous.specs.Trie.Tree.{depth}
+use Rattle.ac_noncontiguous.specs.Trie.Kept.{IsTrieOf}
+use Rattle.ac_noncontiguous.specs.Links.Failures.{AreFailsAbove, IsWithinDepth, GoesOnFromStart}
+use Rattle.ac_noncontiguous.proofs.trie.FailLemmas.{Follows, failures_left}
 use Rattle.ac_noncontiguous.proofs.trie.Trie.next.Given as goal
 
 abbrev pub invariant-loop-at : goal.invariant-loop-at

@@ -1,8 +1,9 @@
 -- A pass from the last pattern back makes the list of each state.
 use Rattle.std.proofs.Common.{◌≡◌, ℕ, ◌+◌, ◌-◌, ◌<◌, length, subst, sym, arith}
 use Rattle.std.proofs.lemmas.List.{get_or_read}
-use Rattle.ac_noncontiguous.specs.Own.{EndsIn, AreOwnChains}
-use Rattle.ac_noncontiguous.proofs.OwnLemmas.{own-filled, own-skipped, own-more, own-read, none-read}
+use Rattle.ac_noncontiguous.specs.Links.Own.{AreOwnChains}
+use Rattle.std.specs.Prelude.{Some, slice_get}
+use Rattle.ac_noncontiguous.proofs.trie.OwnLemmas.{own-filled, own-skipped, own-more, own-read, none-read}
 use Rattle.ac_noncontiguous.proofs.trie.Trie.own_patterns.Goals as goal
 
 pub loop-from-init : goal.loop-from-init
@@ -44,7 +45,7 @@ loop-from-preserved-in-Some c =
     let first = c.loop-from.first.items in
     let back : c.loop-from.from ≡ from + 1 = omega arith in
     let within : from < length ends = omega (arith, c.loop-from.invariant.0) in
-    let here = subst (λ (i : ℕ). EndsIn ends i from) (sym c.as_usize-id.ensures.value) (own-read ends from c.in-Some.id c.index.result.now within c.index.ensures c.in-Some.is) in
+    let here = subst (λ (i : ℕ). (slice_get ends from ≡ Some (Some i))) (sym c.as_usize-id.ensures.value) (own-read ends from c.in-Some.id c.index.result.now within c.index.ensures c.in-Some.is) in
     let id_in = c.args.self.now.placed from c.as_usize-id.result here in
     let o = subst (λ (n : ℕ). AreOwnChains states ends n first c.loop-from.next.items) back c.loop-from.invariant.1 in
     let read = get_or_read first c.as_usize-id.result c.index-in-Some.result.now (omega (arith, id_in, o.lens.0)) c.index-in-Some.ensures 0 in

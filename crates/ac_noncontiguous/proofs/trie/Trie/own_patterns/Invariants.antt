@@ -1,5 +1,5 @@
 use Rattle.std.proofs.Common.{◌≤◌, length}
-use Rattle.ac_noncontiguous.specs.Own.{AreOwnChains}
+use Rattle.ac_noncontiguous.specs.Links.Own.{AreOwnChains}
 use Rattle.ac_noncontiguous.proofs.trie.Trie.own_patterns.Given as goal
 
 abbrev pub invariant-loop-from : goal.invariant-loop-from

@@ -1,7 +1,7 @@
 -- The walk along the children stays among them, and each has a greater byte than the one before.
 use Rattle.std.proofs.Common.{◌<◌, arith}
 use Rattle.std.proofs.lemmas.Bool.Decides.{nat_tests}
-use Rattle.ac_noncontiguous.proofs.TreeLemmas.{way-at, way-more, place-from, byte-rises}
+use Rattle.ac_noncontiguous.proofs.trie.TreeLemmas.{way-at, way-more, place-from, byte-rises}
 use Rattle.ac_noncontiguous.proofs.trie.Trie.place.Goals as goal
 use Rattle.ac_noncontiguous.proofs.trie.Trie.place.Goals.{then-loop-at-test+else-state-byte, else-loop-at-test}
 

@@ -1,5 +1,5 @@
 use Rattle.std.proofs.Common.{◌-◌, ◌==◌, if◌then◌else◌}
-use Rattle.ac_noncontiguous.specs.Tree.{IsSiblingWalk, byte}
+use Rattle.ac_noncontiguous.specs.Trie.Tree.{IsSiblingWalk, byte}
 use Rattle.ac_noncontiguous.proofs.trie.Trie.place.Given as goal
 
 abbrev pub invariant-loop-at : goal.invariant-loop-at

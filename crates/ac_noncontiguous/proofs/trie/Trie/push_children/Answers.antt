@@ -3,8 +3,8 @@ use Rattle.std.proofs.Common.{ℕ, ◌+◌, ◌<◌, ◌∷◌, ◌++◌, [], Li
 use Rattle.std.proofs.lemmas.Bool.Decides.{nat_tests}
 use Rattle.std.proofs.lemmas.List.{map-append}
 use Rattle.ac_noncontiguous.specs.declared.trie.State.{State}
-use Rattle.ac_noncontiguous.specs.Tree.{IsFirstChild, parent, byte, sibling}
-use Rattle.ac_noncontiguous.proofs.ChildrenLemmas.{below-none, below-more, below-all}
+use Rattle.ac_noncontiguous.specs.Trie.Tree.{IsFirstChild, parent, byte, sibling}
+use Rattle.ac_noncontiguous.proofs.trie.ChildrenLemmas.{below-none, below-more, below-all}
 use Rattle.ac_noncontiguous.proofs.trie.Trie.push_children.Goals as goal
 
 pub loop-at-init : goal.loop-at-init

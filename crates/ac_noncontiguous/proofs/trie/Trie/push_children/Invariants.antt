@@ -1,6 +1,6 @@
 use Rattle.std.proofs.Common.{◌≡◌, ℕ, ◌-◌, ◌==◌, ◌++◌, map, List, length, if◌then◌else◌}
-use Rattle.ac_noncontiguous.specs.Tree.{IsFirstChild, parent, byte}
-use Rattle.ac_noncontiguous.proofs.ChildrenLemmas.{AreChildrenBelow}
+use Rattle.ac_noncontiguous.specs.Trie.Tree.{IsFirstChild, parent, byte}
+use Rattle.ac_noncontiguous.proofs.trie.ChildrenLemmas.{AreChildrenBelow}
 use Rattle.ac_noncontiguous.proofs.trie.Trie.push_children.Given as goal
 
 abbrev pub invariant-loop-at : goal.invariant-loop-at

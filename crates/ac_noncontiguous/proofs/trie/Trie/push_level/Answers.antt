@@ -1,8 +1,8 @@
 -- The list of a depth leads from each state to the next one.
 use Rattle.std.proofs.Common.{◌≡◌, ℕ, ◌+◌, ◌<◌, ◌∷◌, ◌++◌, [], length, slice_index, subst, sym, ap, ◌∙◌, arith}
 use Rattle.std.proofs.lemmas.List.{get_or_read}
-use Rattle.ac_noncontiguous.specs.Order.{IsNextOf, AreInOrder}
-use Rattle.ac_noncontiguous.proofs.OrderLemmas.{order-more, order-next}
+use Rattle.ac_noncontiguous.specs.Links.Order.{IsNextOf, AreInOrder}
+use Rattle.ac_noncontiguous.proofs.lemmas.OrderLemmas.{order-more, order-next}
 use Rattle.ac_noncontiguous.proofs.trie.Trie.push_level.Goals as goal
 
 pub loop-at-init : goal.loop-at-init

@@ -1,5 +1,5 @@
 use Rattle.std.proofs.Common.{ℕ, ◌-◌, length}
-use Rattle.ac_noncontiguous.specs.Order.{IsNextOf, AreInOrder}
+use Rattle.ac_noncontiguous.specs.Links.Order.{IsNextOf, AreInOrder}
 use Rattle.ac_noncontiguous.proofs.trie.Trie.push_level.Given as goal
 
 abbrev pub invariant-loop-at : goal.invariant-loop-at

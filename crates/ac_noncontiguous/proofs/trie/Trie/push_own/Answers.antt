@@ -1,8 +1,8 @@
 -- The list of a state leads from each pattern to the next one.
 use Rattle.std.proofs.Common.{◌≡◌, ℕ, ◌+◌, ◌<◌, ◌∷◌, ◌++◌, [], List, length, slice_index, subst, sym, ap, ◌∙◌, append-nil, append_assoc, arith}
 use Rattle.std.proofs.lemmas.List.{get_or_read}
-use Rattle.ac_noncontiguous.specs.Own.{IsNextEnd}
-use Rattle.ac_noncontiguous.proofs.OwnLemmas.{list-none, list-more, list-all, next-nearer}
+use Rattle.ac_noncontiguous.specs.Links.Own.{IsNextEnd}
+use Rattle.ac_noncontiguous.proofs.trie.OwnLemmas.{list-none, list-more, list-all, next-nearer}
 use Rattle.ac_noncontiguous.proofs.trie.Trie.push_own.Goals as goal
 
 pub loop-at-init : goal.loop-at-init

@@ -1,7 +1,7 @@
 use Rattle.std.proofs.Common.{◌≡◌, ℕ, ◌-◌, ◌++◌, List, length}
-use Rattle.ac_noncontiguous.specs.Own.{IsNextEnd}
+use Rattle.ac_noncontiguous.specs.Links.Own.{IsNextEnd}
 use Rattle.ac_noncontiguous.proofs.trie.Trie.push_own.Given as goal
-use Rattle.ac_noncontiguous.proofs.OwnLemmas.{AreOwnBefore}
+use Rattle.ac_noncontiguous.proofs.trie.OwnLemmas.{AreOwnBefore}
 
 abbrev pub invariant-loop-at : goal.invariant-loop-at
 invariant-loop-at l =

@@ -1,6 +1,6 @@
 use Rattle.std.proofs.Common.{◌≡◌, true}
 use Rattle.std.specs.Prelude.{is_some}
-use Rattle.ac_plain.proofs.Places.{best_at_start}
+use Rattle.ac_plain.proofs.plain.Places.{best_at_start}
 use Rattle.ac_plain.proofs.plain.Naive.best_by_start.Goals as goal
 
 pub returns-then-is_some : goal.returns-then-is_some

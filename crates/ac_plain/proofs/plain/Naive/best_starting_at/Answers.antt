@@ -1,7 +1,7 @@
 use Rattle.std.proofs.Common.{arith}
 use Rattle.ac_input.specs.Occurrence.{StartsAt}
-use Rattle.ac_plain.proofs.Occurrences.{pattern_within}
-use Rattle.ac_plain.proofs.Least.{least_step, least_done}
+use Rattle.ac_plain.proofs.plain.Occurrences.{pattern_within}
+use Rattle.ac_plain.proofs.plain.Least.{least_step, least_done}
 use Rattle.ac_plain.proofs.plain.Naive.best_starting_at.Goals as goal
 
 pub loop-number-preserved : goal.loop-number-preserved

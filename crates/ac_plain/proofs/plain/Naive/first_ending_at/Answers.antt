@@ -1,8 +1,8 @@
 use Rattle.std.proofs.Common.{arith}
 use Rattle.ac_input.specs.declared.search.MatchKind.TheVariants.{Standard}
 use Rattle.ac_plain.specs.Naive.{EndsAfter}
-use Rattle.ac_plain.proofs.Occurrences.{pattern_within}
-use Rattle.ac_plain.proofs.Least.{least_step, least_done}
+use Rattle.ac_plain.proofs.plain.Occurrences.{pattern_within}
+use Rattle.ac_plain.proofs.plain.Least.{least_step, least_done}
 use Rattle.ac_plain.proofs.plain.Naive.first_ending_at.Goals as goal
 
 pub loop-number-preserved : goal.loop-number-preserved

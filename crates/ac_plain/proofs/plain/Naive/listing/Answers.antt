@@ -1,7 +1,7 @@
 use Rattle.std.proofs.Common.{◌≡◌, subst}
 use Rattle.ac_input.specs.Occurrence.{Occurs}
-use Rattle.ac_plain.proofs.Ranks.{ranks_fall}
-use Rattle.ac_plain.proofs.Lists.{lists_more}
+use Rattle.ac_plain.proofs.plain.Ranks.{ranks_fall}
+use Rattle.ac_plain.proofs.plain.Lists.{lists_more}
 use Rattle.ac_plain.proofs.plain.Naive.listing.Goals as goal
 
 pub loop-next-smaller : goal.loop-next-smaller

@@ -1,7 +1,7 @@
 use Rattle.std.proofs.Common.{◌≡◌, Some}
 use Rattle.ac_input.specs.Occurrence.{Occurrence, Occurs}
-use Rattle.ac_plain.proofs.Ranks.{ranks_left}
-use Rattle.ac_plain.proofs.Lists.{ListsUpTo}
+use Rattle.ac_plain.proofs.plain.Ranks.{ranks_left}
+use Rattle.ac_plain.proofs.plain.Lists.{ListsUpTo}
 use Rattle.ac_plain.proofs.plain.Naive.listing.Given as goal
 
 abbrev pub invariant-loop-next : goal.invariant-loop-next

@@ -1,7 +1,7 @@
 use Rattle.std.proofs.Common.{refl, ap, arith}
 use Rattle.ac_input.specs.Occurrence.{Occurrence}
-use Rattle.ac_plain.proofs.Occurrences.{pattern_within}
-use Rattle.ac_plain.proofs.Places.{alike_more, alike_least}
+use Rattle.ac_plain.proofs.plain.Occurrences.{pattern_within}
+use Rattle.ac_plain.proofs.plain.Places.{alike_more, alike_least}
 use Rattle.ac_plain.proofs.plain.Naive.next_alike.Goals as goal
 
 pub returns-then-occurs : goal.returns-then-occurs

@@ -1,6 +1,6 @@
 use Rattle.std.proofs.Common.{◌<◌, ◌⊎◌, inl, inr, length, sym, ap, subst, refl, arith}
 use Rattle.ac_input.specs.Occurrence.{Search, Occurs}
-use Rattle.ac_plain.proofs.Occurrences.{fits_too, only_to, none_to}
+use Rattle.ac_plain.proofs.plain.Occurrences.{fits_too, only_to, none_to}
 use Rattle.ac_plain.proofs.plain.Naive.pattern_ending_at.Goals as goal
 use Rattle.ac_plain.proofs.plain.Naive.pattern_ending_at.Goals.{then-self-end-via-then-self-end, then-self-end-via-else-self-end+then-end-pattern}
 

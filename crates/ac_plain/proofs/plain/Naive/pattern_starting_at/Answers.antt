@@ -1,6 +1,6 @@
 use Rattle.std.proofs.Common.{◌+◌, ◌<◌, length, sym, ap, subst, refl, arith}
 use Rattle.ac_input.specs.Occurrence.{Search, Occurs}
-use Rattle.ac_plain.proofs.Occurrences.{fits_too, only_from, none_from}
+use Rattle.ac_plain.proofs.plain.Occurrences.{fits_too, only_from, none_from}
 use Rattle.ac_plain.proofs.plain.Naive.pattern_starting_at.Goals as goal
 use Rattle.ac_plain.proofs.plain.Naive.pattern_starting_at.Goals.{then-end-at-via-then-end-at, then-end-at-via-else-end-at+then-end-at-2}
 

@@ -1,7 +1,7 @@
 use Rattle.std.proofs.Common.{length, ap, arith, append_assoc, append-nil}
 use Rattle.ac_input.specs.Occurrence.{Search, Occurrence}
-use Rattle.ac_input.proofs.WalkLemmas.{walk_after-some, walk_after-none, walk-from_computed, pick-within}
-use Rattle.ac_plain.proofs.Occurrences.{fits_too}
+use Rattle.ac_input.proofs.lemmas.WalkLemmas.{walk_after-some, walk_after-none, walk-from_computed, pick-within}
+use Rattle.ac_plain.proofs.plain.Occurrences.{fits_too}
 use Rattle.ac_plain.proofs.plain.Naive.walk.Goals as goal
 
 pub loop-found-smaller : goal.loop-found-smaller

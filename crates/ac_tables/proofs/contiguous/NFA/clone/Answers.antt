@@ -1,11 +1,12 @@
--- A copy of the table has the same states.
+-- A copy of the table holds the states of the old one.
 use Rattle.std.proofs.Common.{List, ℕ, sym, subst, ap, ◌∙◌}
 use Rattle.ac_input.specs.Dictionary.{dictionary_of}
 use Rattle.ac_input.specs.Limits.{IsWithinLimits}
-use Rattle.ac_automaton.specs.Passing.{AreOpenedBy}
-use Rattle.ac_tables.specs.ContiguousTable.{AreSomeStates}
-use Rattle.ac_tables.specs.ContiguousReads.{contiguous_dictionary}
-use Rattle.ac_tables.proofs.WordTableLemmas.{states-copied}
+use Rattle.std.specs.Prelude.{IfSome}
+use Rattle.ac_literal.specs.Openings.{AreOpenings}
+use Rattle.ac_tables.specs.Contiguous.ContiguousTable.{AreSomeStates}
+use Rattle.ac_tables.specs.Contiguous.ContiguousReads.{contiguous_dictionary}
+use Rattle.ac_tables.proofs.contiguous.WordTableLemmas.{states-copied}
 use Rattle.ac_tables.proofs.contiguous.NFA.clone.Goals as goal
 
 pub from_parts-requires-clause-parts : goal.from_parts-requires-clause-parts
@@ -22,4 +23,4 @@ from_parts-requires-clause-parts c =
 pub from_parts-requires-clause-opened : goal.from_parts-requires-clause-opened
 from_parts-requires-clause-opened c =
     let a = c.args.self.now in
-    subst (λ (patterns : List (List ℕ)). ∥ AreOpenedBy (dictionary_of patterns a.pairing a.kind) a.skips.openings ∥₁) (sym c.in_ok-lens.ensures) a.opened
+    subst (λ (patterns : List (List ℕ)). ∥ IfSome a.skips.openings (AreOpenings (dictionary_of patterns a.pairing a.kind)) ∥₁) (sym c.in_ok-lens.ensures) a.opened

@@ -1,6 +1,6 @@
 use Rattle.std.proofs.Common.{◌+◌, ◌∙◌, arith}
-use Rattle.ac_tables.proofs.FollowLemmas.{met-place, fail-small}
-use Rattle.ac_tables.proofs.StateLemmas.{fail-within, fail-read}
+use Rattle.ac_tables.proofs.contiguous.FollowLemmas.{met-place, fail-small}
+use Rattle.ac_tables.proofs.contiguous.StateLemmas.{fail-within, fail-read}
 use Rattle.ac_tables.proofs.contiguous.NFA.fail.Goals as goal
 
 pub index-requires : goal.index-requires

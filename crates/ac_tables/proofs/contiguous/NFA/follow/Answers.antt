@@ -1,8 +1,8 @@
 use Rattle.std.proofs.Common.{false, refl, ◌∙◌, sym, subst, arith}
-use Rattle.ac_automaton.proofs.LinkedLemmas.{followed-none, followed-more, followed-end, followed-few}
-use Rattle.ac_tables.specs.ContiguousReads.{contiguous_dictionary, IsLaidOut}
-use Rattle.ac_tables.specs.WordReads.{ByteLeadsTo}
-use Rattle.ac_tables.proofs.FollowLemmas.{met-place, met-fail, laid-numbers, laid-edge, laid-failure}
+use Rattle.ac_automaton.proofs.automaton.LinkedLemmas.{followed-none, followed-more, followed-end, followed-few}
+use Rattle.ac_tables.specs.Contiguous.ContiguousReads.{contiguous_dictionary, IsLaidOut}
+use Rattle.ac_tables.specs.Contiguous.WordReads.{ByteLeadsTo}
+use Rattle.ac_tables.proofs.contiguous.FollowLemmas.{met-place, met-fail, laid-numbers, laid-edge, laid-failure}
 use Rattle.ac_tables.proofs.contiguous.NFA.follow.Goals as goal
 
 pub loop-from-init : goal.loop-from-init

@@ -1,9 +1,8 @@
 use Rattle.std.proofs.Common.{false, ◌+◌, ◌-◌}
-use Rattle.ac_input.specs.Steps.{looked_of}
 use Rattle.ac_input.specs.Work.{longest}
-use Rattle.ac_automaton.proofs.LinkedLemmas.{HasFollowed}
-use Rattle.ac_tables.specs.ContiguousReads.{contiguous_dictionary, IsLaidOut, IsMet}
-use Rattle.ac_tables.specs.WordReads.{ByteLeadsTo}
+use Rattle.ac_automaton.proofs.automaton.LinkedLemmas.{HasFollowed}
+use Rattle.ac_tables.specs.Contiguous.ContiguousReads.{contiguous_dictionary, IsLaidOut, IsMet}
+use Rattle.ac_tables.specs.Contiguous.WordReads.{ByteLeadsTo}
 use Rattle.ac_tables.proofs.contiguous.NFA.follow.Given as goal
 
 abbrev pub invariant-loop-from : goal.invariant-loop-from
@@ -14,4 +13,4 @@ invariant-loop-from l = record {
 }
 
 abbrev pub decreases-loop-from : goal.decreases-loop-from
-decreases-loop-from l = longest (contiguous_dictionary l.self).patterns + looked_of l.initial.steps - looked_of l.steps
+decreases-loop-from l = longest (contiguous_dictionary l.self).patterns + l.initial.steps.looked.value - l.steps.looked.value

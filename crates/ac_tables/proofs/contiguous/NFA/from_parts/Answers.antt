@@ -1,5 +1,5 @@
 use Rattle.ac_input.specs.Dictionary.{dictionary_of}
-use Rattle.ac_tables.proofs.SkipLemmas.{start-place}
+use Rattle.ac_tables.proofs.contiguous.SkipLemmas.{start-place}
 use Rattle.ac_tables.proofs.contiguous.NFA.from_parts.Goals as goal
 
 pub starters-requires : goal.starters-requires

@@ -1,8 +1,8 @@
 use Rattle.std.proofs.Common.{Bool, ◌∙◌, ap, sym, subst, refl}
 use Rattle.ac_input.specs.Input.{is_anchored}
-use Rattle.ac_tables.specs.ContiguousReads.{IsMet}
-use Rattle.ac_tables.specs.WordReads.{ByteLeadsTo}
-use Rattle.ac_tables.proofs.FollowLemmas.{met-place, leads-straight, leads-to_dead, leads-followed}
+use Rattle.ac_tables.specs.Contiguous.ContiguousReads.{IsMet}
+use Rattle.ac_tables.specs.Contiguous.WordReads.{ByteLeadsTo}
+use Rattle.ac_tables.proofs.contiguous.FollowLemmas.{met-place, leads-straight, leads-to_dead, leads-followed}
 use Rattle.ac_tables.proofs.contiguous.NFA.next.Goals as goal
 
 pub step-next-requires : goal.step-next-requires

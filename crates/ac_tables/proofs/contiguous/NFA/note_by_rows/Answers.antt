@@ -1,14 +1,14 @@
--- What is noted of rows holds of their places.
+-- The notes of rows hold of their places.
 use Rattle.std.proofs.Common.{◌<◌, length, refl, rules, replicate, sym, subst}
 use Rattle.std.proofs.Math.Logic.{∥∥₁_map}
 use Rattle.std.proofs.lemmas.List.Elements.{All-replicate}
 use Rattle.ac_input.specs.declared.search.Anchored.TheVariants.{No}
 use Rattle.ac_automaton.specs.Ahead.{IsBlank}
-use Rattle.ac_automaton.proofs.AheadLemmas.{blank-notes}
-use Rattle.ac_automaton.proofs.LaneLemmas.{notes-put}
-use Rattle.ac_tables.specs.ContiguousReads.{IsContiguousRead, contiguous_matches_at}
-use Rattle.ac_tables.proofs.ByRowLemmas.{row-read}
-use Rattle.ac_tables.proofs.NoteRowLemmas.{may-note-rows, placed-each}
+use Rattle.ac_automaton.proofs.ahead.AheadLemmas.{blank-notes}
+use Rattle.ac_automaton.proofs.lanes.LaneLemmas.{notes-put}
+use Rattle.ac_tables.specs.Contiguous.ContiguousReads.{IsContiguousRead, contiguous_matches_at}
+use Rattle.ac_tables.proofs.contiguous.ByRowLemmas.{row-read}
+use Rattle.ac_tables.proofs.contiguous.NoteRowLemmas.{may-note-rows, placed-each}
 use Rattle.ac_tables.proofs.contiguous.NFA.note_by_rows.Goals as goal
 
 pub note_ahead-read-requires-clause-may : goal.note_ahead-read-requires-clause-may

@@ -1,9 +1,9 @@
--- The row is that of the place, and the rows between two of them are those of the places between two others.
+-- The row is that of the place, and the rows between the two bounds are those of the places between the two given ones.
 use Rattle.std.proofs.Common.{ℕ, sym, subst}
 use Rattle.ac_input.specs.declared.search.Anchored.TheVariants.{No}
 use Rattle.ac_automaton.specs.Automaton.{IsReached}
 use Rattle.ac_automaton.specs.ReadOn.{ReadsTo}
-use Rattle.ac_tables.specs.ContiguousReads.{contiguous_built_as, IsContiguousRead}
+use Rattle.ac_tables.specs.Contiguous.ContiguousReads.{contiguous_built_as, IsContiguousRead}
 use Rattle.ac_tables.proofs.contiguous.NFA.read_rows.Goals as goal
 
 pub read_rows_from-requires-clause-reached : goal.read_rows_from-requires-clause-reached

@@ -2,9 +2,9 @@
 use Rattle.std.proofs.Common.{ℕ, refl, sym, subst}
 use Rattle.std.proofs.Math.Logic.{∥∥₁_map}
 use Rattle.ac_input.specs.declared.search.Anchored.TheVariants.{No}
-use Rattle.ac_automaton.proofs.CursorLemmas.{reached-on}
-use Rattle.ac_tables.specs.ByRows.{IsRowRead, ReadsRows}
-use Rattle.ac_tables.proofs.ByRowLemmas.{reached-row, row-read, reads-by_rows}
+use Rattle.ac_automaton.proofs.lemmas.CursorLemmas.{reached-on}
+use Rattle.ac_tables.specs.Contiguous.ByRows.{IsRowRead, ReadsRows}
+use Rattle.ac_tables.proofs.contiguous.ByRowLemmas.{reached-row, row-read, reads-by_rows}
 use Rattle.ac_tables.proofs.contiguous.NFA.read_rows_from.Goals as goal
 
 pub read_on-stop-requires : goal.read_on-stop-requires

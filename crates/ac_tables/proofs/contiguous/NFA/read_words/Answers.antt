@@ -1,9 +1,9 @@
--- What is known after one byte more, and where reading on stops.
+-- What is known after one more byte, and where reading on stops.
 use Rattle.std.proofs.Common.{arith}
 use Rattle.ac_automaton.specs.ReadOn.{is_between}
-use Rattle.ac_automaton.proofs.CursorLemmas.{advanced-none, reached-on}
-use Rattle.ac_automaton.proofs.ReadOnLemmas.{after-byte, reads-all}
-use Rattle.ac_tables.specs.ContiguousReads.{contiguous_built_as, IsContiguousRead}
+use Rattle.ac_automaton.proofs.lemmas.CursorLemmas.{advanced-none, reached-on}
+use Rattle.ac_automaton.proofs.skip.ReadOnLemmas.{after-byte, reads-all}
+use Rattle.ac_tables.specs.Contiguous.ContiguousReads.{contiguous_built_as, IsContiguousRead}
 use Rattle.ac_tables.proofs.contiguous.NFA.read_words.Goals as goal
 
 pub loop-read-init : goal.loop-read-init

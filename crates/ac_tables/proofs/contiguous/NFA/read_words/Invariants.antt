@@ -1,7 +1,7 @@
 -- What is known of the state after so many bytes.
-use Rattle.ac_automaton.proofs.CursorLemmas.{HasAdvanced}
+use Rattle.ac_automaton.proofs.lemmas.CursorLemmas.{HasAdvanced}
 use Rattle.ac_automaton.specs.ReadOn.{is_between}
-use Rattle.ac_tables.specs.ContiguousReads.{contiguous_built_as, IsContiguousRead}
+use Rattle.ac_tables.specs.Contiguous.ContiguousReads.{contiguous_built_as, IsContiguousRead}
 use Rattle.ac_tables.proofs.contiguous.NFA.read_words.Given as goal
 
 abbrev pub invariant-loop-read : goal.invariant-loop-read

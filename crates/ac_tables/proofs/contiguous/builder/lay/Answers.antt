@@ -2,12 +2,12 @@
 use Rattle.std.proofs.Common.{◌≡◌, ◌<◌, ◌∙◌, slice_index, ap, subst, arith}
 use Rattle.std.proofs.lemmas.List.{get_or_read}
 use Rattle.ac_noncontiguous.specs.declared.nfa.read.Special.{Special}
-use Rattle.ac_noncontiguous.specs.ReadCalls.{state_len, special_in, SpecialIn}
+use Rattle.ac_noncontiguous.specs.Nfa.ReadCalls.{state_len, special_in, OfTexts, AreBounds}
 use Rattle.ac_tables.specs.declared.contiguous.table.Table.{Table}
-use Rattle.ac_tables.proofs.LaidRowLemmas.{places-rise}
-use Rattle.ac_tables.proofs.WordTableLemmas.{specials-within, places-small, some-states}
+use Rattle.ac_tables.proofs.contiguous.LaidRowLemmas.{places-rise}
+use Rattle.ac_tables.proofs.contiguous.WordTableLemmas.{specials-within, places-small, some-states}
 use Rattle.ac_tables.proofs.contiguous.builder.lay.Goals as goal
-use Rattle.ac_tables.proofs.StatesLemmas.{IsWordTableOf}
+use Rattle.ac_tables.proofs.contiguous.StatesLemmas.{IsWordTableOf}
 
 pub rows_of-requires-clause-rise : goal.rows_of-requires-clause-rise
 rows_of-requires-clause-rise c = places-rise c.args.nfa.now c.args.dense_depth c.args.classes c.in_ok-layout.layout.places.items c.in_ok-layout.ensures.made
@@ -21,7 +21,7 @@ returns-clause-made c =
     let places = c.in_ok-layout.layout.places.items in
     let value = c.special-special.ensures.value in
     let whole = c.special-special.ensures.whole in
-    let bounds : SpecialIn nfa (special_in nfa) = subst (SpecialIn nfa) value c.special-special.ensures.order in
+    let bounds : OfTexts nfa (λ text. AreBounds nfa text (special_in nfa)) = subst (λ special. OfTexts nfa (λ text. AreBounds nfa text special)) value c.special-special.ensures.order in
     let within = specials-within nfa whole.stand bounds in
     let next = within.0 in
     let max = within.1 in

@@ -1,9 +1,9 @@
 -- The rows are those of the automaton, one for each place.
 use Rattle.std.proofs.Common.{refl, ap, arith}
 use Rattle.ac_noncontiguous.specs.declared.nfa.read.Special.{Special}
-use Rattle.ac_noncontiguous.specs.ReadCalls.{state_len}
-use Rattle.ac_tables.proofs.DfaBuildLemmas.{stride-is}
-use Rattle.ac_tables.proofs.LaidRowLemmas.{plan-fit, rows-from, rows-len}
+use Rattle.ac_noncontiguous.specs.Nfa.ReadCalls.{state_len}
+use Rattle.ac_tables.proofs.dfa.DfaBuildLemmas.{stride-is}
+use Rattle.ac_tables.proofs.contiguous.LaidRowLemmas.{plan-fit, rows-from, rows-len}
 use Rattle.ac_tables.proofs.contiguous.filled.fill.Goals as goal
 
 pub invariant_of-filler : goal.invariant_of-filler

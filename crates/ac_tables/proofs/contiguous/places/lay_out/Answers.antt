@@ -1,10 +1,10 @@
--- One more place, or one that is too great.
+-- One more place is found, or a place is too great.
 use Rattle.std.proofs.Common.{◌+◌, refl, sym, subst, arith, rules}
 use Rattle.std.proofs.lemmas.Result.{err_from_is_err_and}
 use Rattle.ac_input.specs.Number.{greatest_number}
 use Rattle.ac_noncontiguous.specs.declared.error.BuildErrorKind.TheVariants.{StateIDOverflow}
-use Rattle.ac_tables.specs.ContiguousBuild.{ArePlacesOf, IsRefusedFor}
-use Rattle.ac_tables.proofs.LenLemmas.{places-more, before-more, place-too_great}
+use Rattle.ac_tables.specs.Contiguous.ContiguousBuild.{ArePlacesOf, IsRefusedFor}
+use Rattle.ac_tables.proofs.contiguous.LenLemmas.{places-more, before-more, place-too_great}
 use Rattle.ac_tables.proofs.contiguous.places.lay_out.Goals as goal
 
 pub returns-in_err-place_of-clause-refused : goal.returns-in_err-place_of-clause-refused

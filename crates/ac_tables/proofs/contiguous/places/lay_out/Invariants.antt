@@ -1,9 +1,9 @@
 use Rattle.std.proofs.Common.{◌≡◌}
-use Rattle.ac_tables.specs.ContiguousTable.{len_before}
-use Rattle.ac_tables.specs.ContiguousBuild.{ArePlacesOf}
+use Rattle.ac_tables.specs.Contiguous.ContiguousTable.{len_before}
+use Rattle.ac_tables.specs.Contiguous.ContiguousBuild.{ArePlacesOf}
 use Rattle.ac_tables.proofs.contiguous.places.lay_out.Given as goal
 
--- those so far, and where the next one stands
+-- the places so far, and how many words come before the next one
 abbrev pub invariant-loop-state : goal.invariant-loop-state
 invariant-loop-state l = record {
   made : ArePlacesOf l.nfa l.dense_depth l.classes l.state l.places.items;

@@ -1,12 +1,12 @@
--- What is known of the state says how many words it has.
+-- A state's depth, transitions and patterns give the number of its words.
 use Rattle.std.proofs.Common.{ℕ, List, length, sym, ap, ◌∙◌}
 use Rattle.std.specs.Prelude.{◌==◌, nat_lt}
 use Rattle.std.proofs.lemmas.Bool.{cond-false}
 use Rattle.ac_input.specs.Alphabet.{alphabet_len}
-use Rattle.ac_noncontiguous.specs.ReadCalls.{depth_in, edges_in}
-use Rattle.ac_noncontiguous.specs.Reads.{matches_at}
-use Rattle.ac_tables.specs.Words.{word_count}
-use Rattle.ac_tables.proofs.LenLemmas.{not-equal}
+use Rattle.ac_noncontiguous.specs.Nfa.ReadCalls.{depth_in, edges_in}
+use Rattle.ac_noncontiguous.specs.Nfa.Reads.{matches_at}
+use Rattle.ac_tables.specs.Contiguous.Words.{word_count}
+use Rattle.ac_tables.proofs.contiguous.LenLemmas.{not-equal}
 use Rattle.ac_tables.proofs.contiguous.places.len_of.Goals as goal
 
 pub returns-clause-len : goal.returns-clause-len

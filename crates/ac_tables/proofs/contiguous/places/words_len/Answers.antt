@@ -1,4 +1,4 @@
--- By the form of the state.
+-- The number of words depends on the form of the state.
 use Rattle.std.proofs.Common.{arith}
 use Rattle.std.proofs.lemmas.Bool.Decides.{nat_tests}
 use Rattle.ac_tables.proofs.contiguous.places.words_len.Goals as goal

@@ -1,6 +1,6 @@
--- The first byte that is the class stands in the first word that has it.
+-- The first byte equal to the class is in the first word that has it.
 use Rattle.std.proofs.Common.{◌≢◌, ℕ, get_or, arith, below_none, below_more}
-use Rattle.ac_tables.proofs.PackedLemmas.{first-there, none-before, unpack-long}
+use Rattle.ac_tables.proofs.contiguous.PackedLemmas.{first-there, none-before, unpack-long}
 use Rattle.ac_tables.proofs.contiguous.reads.place_of.Goals as goal
 
 pub returns-then-a-class : goal.returns-then-a-class

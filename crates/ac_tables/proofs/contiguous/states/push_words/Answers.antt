@@ -1,13 +1,13 @@
--- What was read of the state are its words.
+-- The words that are written are those of the state.
 use Rattle.std.proofs.Common.{◌≡◌, ◌≢◌, ◌<◌, ◌∙◌, ℕ, map, slice_index, ap, sym, subst, arith}
 use Rattle.std.specs.Prelude.{nat_lt}
 use Rattle.std.specs.List.{All}
 use Rattle.std.proofs.lemmas.List.{get_or_default}
 use Rattle.std.proofs.lemmas.Result.{IfOk-weaker}
-use Rattle.ac_noncontiguous.specs.ReadCalls.{edges_in, fail_in, FailsIn, ListsIn}
-use Rattle.ac_tables.specs.ContiguousTable.{placed_edge}
-use Rattle.ac_tables.specs.ContiguousBuild.{IsKnown}
-use Rattle.ac_tables.proofs.BuildLemmas.{read-fits, state-written}
+use Rattle.ac_noncontiguous.specs.Nfa.ReadCalls.{edges_in, fail_in, FailsIn, ListsIn}
+use Rattle.ac_tables.specs.Contiguous.ContiguousTable.{placed_edge}
+use Rattle.ac_tables.specs.Contiguous.ContiguousBuild.{IsKnown}
+use Rattle.ac_tables.proofs.contiguous.BuildLemmas.{read-fits, state-written}
 use Rattle.ac_tables.proofs.contiguous.states.push_words.Goals as goal
 
 pub push_state-requires : goal.push_state-requires

@@ -1,8 +1,8 @@
--- One transition more is read.
+-- One more transition is read.
 use Rattle.std.proofs.Common.{◌∙◌, List, ℕ, length, slice_index, ap, sym, subst, arith}
 use Rattle.std.proofs.lemmas.List.{get_or_default}
-use Rattle.ac_noncontiguous.specs.ReadCalls.{edges_in}
-use Rattle.ac_tables.proofs.BuildLemmas.{left-first, read-more, AreReadTo}
+use Rattle.ac_noncontiguous.specs.Nfa.ReadCalls.{edges_in}
+use Rattle.ac_tables.proofs.contiguous.BuildLemmas.{left-first, read-more, AreReadTo}
 use Rattle.ac_tables.proofs.contiguous.states.read_edges.Goals as goal
 
 pub bounds-places-as_usize : goal.bounds-places-as_usize

@@ -1,7 +1,7 @@
--- The words of one state more.
+-- The words of one more state are appended.
 use Rattle.std.proofs.Common.{ℕ, subst}
-use Rattle.ac_tables.specs.ContiguousBuild.{IsWritten}
-use Rattle.ac_tables.proofs.BuildLemmas.{words-more, known-more}
+use Rattle.ac_tables.specs.Contiguous.ContiguousBuild.{IsWritten}
+use Rattle.ac_tables.proofs.contiguous.BuildLemmas.{words-more, known-more}
 use Rattle.ac_tables.proofs.contiguous.states.words.Goals as goal
 
 pub loop-state-preserved : goal.loop-state-preserved

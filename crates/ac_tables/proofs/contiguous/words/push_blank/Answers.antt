@@ -1,6 +1,6 @@
--- One more entry that leads nowhere.
+-- One more entry that leads nowhere is written.
 use Rattle.std.proofs.Common.{◌∙◌}
-use Rattle.ac_tables.proofs.WordsLemmas.{blank-more}
+use Rattle.ac_tables.proofs.contiguous.WordsLemmas.{blank-more}
 use Rattle.ac_tables.proofs.contiguous.words.push_blank.Goals as goal
 
 pub loop-preserved : goal.loop-preserved

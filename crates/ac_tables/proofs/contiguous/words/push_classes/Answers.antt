@@ -1,8 +1,8 @@
--- Four classes more.
+-- Four more classes are written.
 use Rattle.std.proofs.Common.{◌≡◌, ◌+◌, ◌++◌, ◌∙◌, ℕ, List, drop, ap, arith}
 use Rattle.std.proofs.lemmas.List.{length-map}
-use Rattle.ac_tables.specs.Words.{word_of, packed, near, classes_of}
-use Rattle.ac_tables.proofs.WordsLemmas.{packed-more}
+use Rattle.ac_tables.specs.Contiguous.Words.{word_of, packed, near, classes_of}
+use Rattle.ac_tables.proofs.contiguous.WordsLemmas.{packed-more}
 use Rattle.ac_tables.proofs.contiguous.words.push_classes.Goals as goal
 
 pub loop-at-preserved : goal.loop-at-preserved

@@ -1,5 +1,5 @@
 use Rattle.std.proofs.Common.{◌≡◌, ◌++◌, take}
-use Rattle.ac_tables.specs.Words.{nexts_of}
+use Rattle.ac_tables.specs.Contiguous.Words.{nexts_of}
 use Rattle.ac_tables.proofs.contiguous.words.push_nexts.Given as goal
 
 abbrev pub invariant-loop-edge : goal.invariant-loop-edge

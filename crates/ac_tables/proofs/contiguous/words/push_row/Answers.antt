@@ -1,11 +1,11 @@
--- The entries of the transitions, the last one first.
+-- The entries of the transitions are written, the last one first.
 use Rattle.std.proofs.Common.{◌<◌, ◌-◌, ℕ, length, ap, arith, length-append}
 use Rattle.std.specs.List.{range_with_len}
 use Rattle.std.specs.Prelude.{map, drop}
 use Rattle.std.proofs.lemmas.List.Elements.{All-get_or}
 use Rattle.std.proofs.lemmas.List.FromFn.{length-map-range_with_len}
-use Rattle.ac_tables.specs.Words.{next_by}
-use Rattle.ac_tables.proofs.WordsLemmas.{row-back}
+use Rattle.ac_tables.specs.Contiguous.Words.{next_by}
+use Rattle.ac_tables.proofs.contiguous.WordsLemmas.{row-back}
 use Rattle.ac_tables.proofs.contiguous.words.push_row.Goals as goal
 
 pub index_mut-requires : goal.index_mut-requires

@@ -1,6 +1,6 @@
 use Rattle.std.proofs.Common.{◌≡◌, ◌++◌, map, drop}
 use Rattle.std.specs.List.{range_with_len}
-use Rattle.ac_tables.specs.Words.{next_by}
+use Rattle.ac_tables.specs.Contiguous.Words.{next_by}
 use Rattle.ac_tables.proofs.contiguous.words.push_row.Given as goal
 
 abbrev pub invariant-loop-k : goal.invariant-loop-k

@@ -1,12 +1,13 @@
--- A copy of the table, with what the automaton is built as.
+-- The copy has a copy of the table, and is built as the DFA was.
 use Rattle.std.proofs.Common.{◌≡◌, ◌^◌, ℕ, true, List, Option, sym, ap, ap₂, subst, ◌∙◌}
 use Rattle.ac_input.specs.Candidate.{Filter}
 use Rattle.ac_input.specs.Dictionary.{Dictionary, dictionary_of}
-use Rattle.ac_automaton.specs.Passing.{AreOpenedBy}
+use Rattle.std.specs.Prelude.{IfSome}
+use Rattle.ac_literal.specs.Openings.{AreOpenings}
 use Rattle.ac_tables.specs.declared.dfa.table.Table.{Table}
-use Rattle.ac_tables.specs.DfaReads.{dfa_dictionary}
-use Rattle.ac_tables.specs.DfaTable.{AreDfaParts}
-use Rattle.ac_tables.proofs.DfaCopyLemmas.{copy-rows}
+use Rattle.ac_tables.specs.Dfa.DfaReads.{dfa_dictionary}
+use Rattle.ac_tables.specs.Dfa.DfaTable.{AreDfaParts}
+use Rattle.ac_tables.proofs.dfa.DfaCopyLemmas.{copy-rows}
 use Rattle.ac_tables.proofs.dfa.DFA.clone.Goals as goal
 
 pub from_parts-requires-clause-parts : goal.from_parts-requires-clause-parts
@@ -23,7 +24,7 @@ from_parts-requires-clause-parts c =
 pub from_parts-requires-clause-opened : goal.from_parts-requires-clause-opened
 from_parts-requires-clause-opened c =
     let a = c.args.self.now in
-    subst (λ (patterns : List (List ℕ)). ∥ AreOpenedBy (dictionary_of patterns a.pairing a.kind) a.skips.openings ∥₁) (sym c.in_ok-lens.ensures) a.opened
+    subst (λ (patterns : List (List ℕ)). ∥ IfSome a.skips.openings (AreOpenings (dictionary_of patterns a.pairing a.kind)) ∥₁) (sym c.in_ok-lens.ensures) a.opened
 
 pub returns : goal.returns
 returns c =

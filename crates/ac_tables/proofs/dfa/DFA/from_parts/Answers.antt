@@ -1,5 +1,5 @@
 use Rattle.ac_input.specs.Dictionary.{dictionary_of}
-use Rattle.ac_tables.proofs.DfaIdleLemmas.{start-row}
+use Rattle.ac_tables.proofs.dfa.DfaIdleLemmas.{start-row}
 use Rattle.ac_tables.proofs.dfa.DFA.from_parts.Goals as goal
 
 pub starters-requires : goal.starters-requires

@@ -1,6 +1,6 @@
-use Rattle.ac_tables.specs.DfaReads.{dfa_built_as, dfa_matches_at, is_dfa_start_at, is_dfa_special_at, IsNamingFor}
-use Rattle.ac_automaton.proofs.NamedLemmas.{read-cost-one}
-use Rattle.ac_tables.proofs.DfaReadLemmas.{read-row, row-leads}
+use Rattle.ac_tables.specs.Dfa.DfaReads.{dfa_built_as, dfa_matches_at, is_dfa_start_at, is_dfa_special_at, IsNamingFor}
+use Rattle.ac_automaton.proofs.automaton.NamedLemmas.{read-cost-one}
+use Rattle.ac_tables.proofs.dfa.DfaReadLemmas.{read-row, row-leads}
 use Rattle.ac_tables.proofs.dfa.DFA.step.Goals as goal
 
 pub next-requires-clause-row : goal.next-requires-clause-row

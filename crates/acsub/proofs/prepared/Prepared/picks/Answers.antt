@@ -2,19 +2,19 @@
 use Rattle.std.proofs.Common.{ap, ◌∙◌, subst}
 use Rattle.acsub.specs.Finder.{IsFinderOf, whole_walk}
 use Rattle.acsub.specs.Plan.{Plan, plan_of}
-use Rattle.acsub.proofs.CountLemmas.{walk-fresh}
-use Rattle.acsub.proofs.FinderLemmas.{packed-walk}
+use Rattle.acsub.proofs.run.CountLemmas.{walk-fresh}
+use Rattle.acsub.proofs.prepared.FinderLemmas.{packed-walk}
 use Rattle.acsub.proofs.prepared.Prepared.picks.Goals as goal
 
 pub returns-in-Packed-clause-walk : goal.returns-in-Packed-clause-walk
-returns-in-Packed-clause-walk g c =
+returns-in-Packed-clause-walk c =
     let inside = plan_of c.self.inside.stream c.self.inside.settings c.self.inside.rules.now in
-    let serves = subst (λ finder. IsFinderOf g.A.Automaton.built g.A.Automaton.supports inside.settings inside.rules finder) c.in-Packed.is c.self.invariant in
-    c.find_iter.ensures ∙ packed-walk g.A.Automaton.built g.A.Automaton.supports inside c.args.input.now c.in-Packed.searcher serves
+    let serves = subst (λ finder. IsFinderOf inside.settings inside.rules finder) c.in-Packed.is c.self.invariant in
+    c.find_iter.ensures ∙ packed-walk inside c.args.input.now c.in-Packed.searcher serves
     ∙ ap (λ (plan : Plan). whole_walk plan c.args.input.now) c.self.view_is
 
 pub returns-in-Automaton-clause-fresh : goal.returns-in-Automaton-clause-fresh
-returns-in-Automaton-clause-fresh g c =
+returns-in-Automaton-clause-fresh c =
     let inside = plan_of c.self.inside.stream c.self.inside.settings c.self.inside.rules.now in
-    let serves = subst (λ finder. IsFinderOf g.A.Automaton.built g.A.Automaton.supports inside.settings inside.rules finder) c.in-Automaton.is c.self.invariant in
-    walk-fresh (g.A.Automaton.built c.in-Automaton.automaton) (g.A.Automaton.supports c.in-Automaton.automaton) inside c.args.self.now c.args.input.now _ _ _ c.self.view_is serves c.try_find_iter.ensures.answer c.unwrap.ensures c.new.ensures
+    let serves = subst (λ finder. IsFinderOf inside.settings inside.rules finder) c.in-Automaton.is c.self.invariant in
+    walk-fresh c.in-Automaton.automaton inside c.args.self.now c.args.input.now _ _ _ c.self.view_is serves c.try_find_iter.ensures.answer c.unwrap.ensures c.new.ensures

@@ -1,5 +1,5 @@
 use Rattle.std.proofs.Common.{◌≡◌, map, take}
-use Rattle.acsub.specs.Sides.{rules_of, rule_patterns}
+use Rattle.acsub.specs.Rules.Sides.{rules_of, rule_patterns}
 use Rattle.acsub.proofs.rules.Rules.patterns.Given as goal
 
 abbrev pub invariant-loop-sides : goal.invariant-loop-sides

@@ -1,6 +1,6 @@
-use Rattle.ac_input.proofs.TextRuleLemmas.{IsTextRuleFile-from_none}
-use Rattle.acsub.specs.Sides.{rules_of}
-use Rattle.acsub.proofs.TextLineLemmas.{text-keep}
+use Rattle.ac_input.proofs.lemmas.TextRuleLemmas.{IsTextRuleFile-from_none}
+use Rattle.acsub.specs.Rules.Sides.{rules_of}
+use Rattle.acsub.proofs.rules.TextLineLemmas.{text-keep}
 use Rattle.acsub.proofs.rules.text.copy_rules.Goals as goal
 
 pub loop-line-preserved : goal.loop-line-preserved

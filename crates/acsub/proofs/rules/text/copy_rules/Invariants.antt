@@ -1,6 +1,6 @@
 use Rattle.std.proofs.Common.{length}
-use Rattle.acsub.specs.Sides.{rules_of}
-use Rattle.acsub.proofs.TextLineLemmas.{BeginsWithTextRules}
+use Rattle.acsub.specs.Rules.Sides.{rules_of}
+use Rattle.acsub.proofs.rules.TextLineLemmas.{BeginsWithTextRules}
 use Rattle.acsub.proofs.rules.text.copy_rules.Given as goal
 
 abbrev pub invariant-loop-line : goal.invariant-loop-line

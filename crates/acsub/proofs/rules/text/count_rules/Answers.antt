@@ -1,6 +1,6 @@
 use Rattle.std.proofs.Common.{◌≢◌, ◌+◌, length, sym, ◌∙◌, arith}
 use Rattle.std.proofs.lemmas.Bool.{false≢true, eqb-true, eq-eqb}
-use Rattle.acsub.proofs.TextLineLemmas.{text-count, text-count_all, text-count_bad, text-count_bound}
+use Rattle.acsub.proofs.rules.TextLineLemmas.{text-count, text-count_all, text-count_bad, text-count_bound}
 use Rattle.acsub.proofs.rules.text.count_rules.Goals as goal
 
 pub loop-line-preserved : goal.loop-line-preserved

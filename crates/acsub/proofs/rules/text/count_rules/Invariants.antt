@@ -1,5 +1,5 @@
 use Rattle.std.proofs.Common.{length}
-use Rattle.acsub.proofs.TextLineLemmas.{BeginsWithTextCount}
+use Rattle.acsub.proofs.rules.TextLineLemmas.{BeginsWithTextCount}
 use Rattle.acsub.proofs.rules.text.count_rules.Given as goal
 
 abbrev pub invariant-loop-line : goal.invariant-loop-line

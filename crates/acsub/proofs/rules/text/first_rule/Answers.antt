@@ -1,9 +1,9 @@
--- The first line has one pair of sides, and they are a rule or not.
+-- The first line splits into one pair of sides, which either are a rule or not.
 use Rattle.std.proofs.Common.{ℕ, List, length, Contains, sym, ◌∙◌, ap, subst}
 use Rattle.std.proofs.lemmas.Bool.{eq-eqb, eqb-true, false≢true}
 use Rattle.std.proofs.lemmas.List.{nil_from_length}
-use Rattle.ac_input.proofs.RuleOrderLemmas.{Contains-between}
-use Rattle.ac_input.proofs.TextRuleLemmas.{BeginsWithNoTextRule-from_sides}
+use Rattle.ac_input.proofs.lemmas.RuleOrderLemmas.{Contains-between}
+use Rattle.ac_input.proofs.lemmas.TextRuleLemmas.{BeginsWithNoTextRule-from_sides}
 use Rattle.acsub.proofs.rules.text.first_rule.Goals as goal
 
 pub returns-then-is_empty : goal.returns-then-is_empty

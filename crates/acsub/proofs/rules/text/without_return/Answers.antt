@@ -1,4 +1,4 @@
--- What was stripped is a CR at the end.
+-- The byte that was stripped is a CR at the end.
 use Rattle.std.proofs.Common.{Some, inl}
 use Rattle.std.proofs.lemmas.Bool.Decides.{Decides-eqb}
 use Rattle.std.proofs.lemmas.Slice.Eq.{strip_suffix_is}

@@ -1,12 +1,12 @@
--- Before each read all that can be listed is written.
+-- Before each read, a line for each decided match is written.
 use Rattle.std.proofs.Common.{◌≡◌, Err, Ok, refl, sym, subst, ◌∙◌}
 use Rattle.std.proofs.lemmas.Result.{err_from_is_err_and}
 use Rattle.ac_automaton.specs.Stream.{StreamProgress}
-use Rattle.ac_automaton.specs.StreamIter.{IsStopped}
-use Rattle.ac_automaton.proofs.StreamCountLemmas.{StreamCounts-none, StreamCounts-then}
-use Rattle.ac_automaton.proofs.StreamReplaceLemmas.{write-begun}
-use Rattle.acsub.specs.StreamList.{HasListed}
-use Rattle.acsub.proofs.StreamListLemmas.{cost-listed, ended-read, ends-failed_write, ends-whole, found-read, gives-begun, less-left, listed-fresh, listed-more, next-stopped, still-open, stopped-read}
+use Rattle.ac_automaton.specs.Stream.StreamIter.{IsStopped}
+use Rattle.ac_automaton.proofs.stream.StreamCountLemmas.{StreamCounts-none, StreamCounts-then}
+use Rattle.ac_automaton.proofs.stream.StreamReplaceLemmas.{write-begun}
+use Rattle.acsub.specs.Stream.StreamList.{HasListed}
+use Rattle.acsub.proofs.stream.StreamListLemmas.{cost-listed, ended-read, ends-failed_write, ends-whole, found-read, gives-begun, less-left, listed-fresh, listed-more, next-stopped, still-open, stopped-read}
 use Rattle.acsub.proofs.stream.list.list_read.Goals as goal
 
 pub loop-next-init : goal.loop-next-init
@@ -42,19 +42,19 @@ pub loop-next-smaller : goal.loop-next-smaller
 loop-next-smaller g c =
     let next = rw c.in_ok-found.was at c.in-Some.ensures.gives.0 in
     let may = still-open g.R.Read.remaining g.W.Write.contents c.args.matches.now.stream.built c.loop-next.matches.stream c.next_counted.new.self.stream c.args.matches.now.reader.now c.loop-next.matches.reader.now c.next_counted.new.self.reader.now c.args.writer.now c.loop-next.writer c.loop-next.invariant.listed c.next_counted.ensures.goes.1 (Ok c.in_ok-found.found) (rw c.in_ok-found.was at c.in-Some.ensures.gives.1) in
-    less-left g.R.Read.remaining g.W.Write.contents c.args.matches.now.stream.built c.loop-next.matches.stream c.next_counted.new.self.stream c.args.matches.now.reader.now c.loop-next.matches.reader.now c.next_counted.new.self.reader.now c.args.writer.now c.loop-next.writer c.loop-next.invariant.listed c.next_counted.ensures.goes.1 c.in_ok-found.found next may c.write_lines.new.matches.stream c.in_ok-write_lines.ensures.written.same.last
+    less-left g.R.Read.remaining g.W.Write.contents c.args.matches.now.stream.built c.loop-next.matches.stream c.next_counted.new.self.stream c.args.matches.now.reader.now c.loop-next.matches.reader.now c.next_counted.new.self.reader.now c.args.writer.now c.loop-next.writer c.loop-next.invariant.listed c.next_counted.ensures.goes.1 c.in_ok-found.found next may c.write_lines.new.matches.stream c.in_ok-write_lines.ensures.writes.same.last
 
 pub loop-next-preserved : goal.loop-next-preserved
 loop-next-preserved g c =
     let next = rw c.in_ok-found.was at c.in-Some.ensures.gives.0 in
     let may = still-open g.R.Read.remaining g.W.Write.contents c.args.matches.now.stream.built c.loop-next.matches.stream c.next_counted.new.self.stream c.args.matches.now.reader.now c.loop-next.matches.reader.now c.next_counted.new.self.reader.now c.args.writer.now c.loop-next.writer c.loop-next.invariant.listed c.next_counted.ensures.goes.1 (Ok c.in_ok-found.found) (rw c.in_ok-found.was at c.in-Some.ensures.gives.1) in
     let first = StreamCounts-then c.args.matches.now.stream c.loop-next.matches.stream c.next_counted.new.self.stream c.args.steps.now c.loop-next.steps c.next_counted.new.steps c.loop-next.invariant.counted c.next_counted.ensures.goes.0 in
-    let listed = listed-more g.R.Read.remaining g.W.Write.contents c.args.matches.now.stream.built c.loop-next.matches.stream c.next_counted.new.self.stream c.args.matches.now.reader.now c.loop-next.matches.reader.now c.next_counted.new.self.reader.now c.args.writer.now c.loop-next.writer c.loop-next.invariant.listed c.next_counted.ensures.goes.1 c.in_ok-found.found next may c.write_lines.new.matches.stream c.write_lines.new.writer c.in_ok-write_lines.ensures.written c.write_lines.ensures.kept in
+    let listed = listed-more g.R.Read.remaining g.W.Write.contents c.args.matches.now.stream.built c.loop-next.matches.stream c.next_counted.new.self.stream c.args.matches.now.reader.now c.loop-next.matches.reader.now c.next_counted.new.self.reader.now c.args.writer.now c.loop-next.writer c.loop-next.invariant.listed c.next_counted.ensures.goes.1 c.in_ok-found.found next may c.write_lines.new.matches.stream c.write_lines.new.writer c.in_ok-write_lines.ensures.writes c.write_lines.ensures.goes.1 c.in_ok-write_lines.ensures.all in
     record {
-      listed = rw c.write_lines.ensures.reader listed;
-      empty = c.in_ok-write_lines.ensures.none;
-      same_reference = c.write_lines.ensures.same_reference ∙ c.next_counted.ensures.gives.2 ∙ c.loop-next.invariant.same_reference;
-      counted = StreamCounts-then c.args.matches.now.stream c.next_counted.new.self.stream c.write_lines.new.matches.stream c.args.steps.now c.next_counted.new.steps c.write_lines.new.steps first c.write_lines.ensures.counts;
+      listed = rw c.write_lines.ensures.reader.0 listed;
+      empty = c.write_lines.ensures.none;
+      same_reference = c.write_lines.ensures.reader.1 ∙ c.next_counted.ensures.gives.2 ∙ c.loop-next.invariant.same_reference;
+      counted = StreamCounts-then c.args.matches.now.stream c.next_counted.new.self.stream c.write_lines.new.matches.stream c.args.steps.now c.next_counted.new.steps c.write_lines.new.steps first c.write_lines.ensures.goes.0;
     }
 
 pub returns-in_err-write_lines-clause-list : goal.returns-in_err-write_lines-clause-list
@@ -62,21 +62,21 @@ returns-in_err-write_lines-clause-list g c =
     let p = err_from_is_err_and c.from_residual-in_err-write_lines.result c.from_residual-in_err-write_lines.ensures.1 in
     let next = rw c.in_ok-found.was at c.in-Some.ensures.gives.0 in
     let may = still-open g.R.Read.remaining g.W.Write.contents c.args.matches.now.stream.built c.loop-next.matches.stream c.next_counted.new.self.stream c.args.matches.now.reader.now c.loop-next.matches.reader.now c.next_counted.new.self.reader.now c.args.writer.now c.loop-next.writer c.loop-next.invariant.listed c.next_counted.ensures.goes.1 (Ok c.in_ok-found.found) (rw c.in_ok-found.was at c.in-Some.ensures.gives.1) in
-    let lists = ends-failed_write g.R.Read.remaining g.W.Write.contents c.args.matches.now.stream.built c.loop-next.matches.stream c.next_counted.new.self.stream c.args.matches.now.reader.now c.loop-next.matches.reader.now c.next_counted.new.self.reader.now c.args.writer.now c.loop-next.writer c.loop-next.invariant.listed c.next_counted.ensures.goes.1 c.in_ok-found.found next may c.write_lines.new.matches.stream c.write_lines.new.writer c.in_err-write_lines.field-0.0 c.in_err-write_lines.ensures.stopped c.write_lines.ensures.kept c.in_err-write_lines.ensures.kind in
-    rw (p.1, p.2) (rw c.write_lines.ensures.reader lists)
+    let lists = ends-failed_write g.R.Read.remaining g.W.Write.contents c.args.matches.now.stream.built c.loop-next.matches.stream c.next_counted.new.self.stream c.args.matches.now.reader.now c.loop-next.matches.reader.now c.next_counted.new.self.reader.now c.args.writer.now c.loop-next.writer c.loop-next.invariant.listed c.next_counted.ensures.goes.1 c.in_ok-found.found next may c.write_lines.new.matches.stream c.write_lines.new.writer c.in_err-write_lines.field-0.0 c.in_err-write_lines.ensures.writes c.write_lines.ensures.goes.1 in
+    rw (p.1, p.2) (rw c.write_lines.ensures.reader.0 lists)
 
 pub returns-in_err-write_lines-clause-costs : goal.returns-in_err-write_lines-clause-costs
 returns-in_err-write_lines-clause-costs g c =
     let p = err_from_is_err_and c.from_residual-in_err-write_lines.result c.from_residual-in_err-write_lines.ensures.1 in
     let next = rw c.in_ok-found.was at c.in-Some.ensures.gives.0 in
     let may = still-open g.R.Read.remaining g.W.Write.contents c.args.matches.now.stream.built c.loop-next.matches.stream c.next_counted.new.self.stream c.args.matches.now.reader.now c.loop-next.matches.reader.now c.next_counted.new.self.reader.now c.args.writer.now c.loop-next.writer c.loop-next.invariant.listed c.next_counted.ensures.goes.1 (Ok c.in_ok-found.found) (rw c.in_ok-found.was at c.in-Some.ensures.gives.1) in
-    let told = found-read g.R.Read.remaining g.W.Write.contents c.args.matches.now.stream.built c.loop-next.matches.stream c.next_counted.new.self.stream c.args.matches.now.reader.now c.loop-next.matches.reader.now c.next_counted.new.self.reader.now c.args.writer.now c.loop-next.writer c.loop-next.invariant.listed c.next_counted.ensures.goes.1 c.in_ok-found.found next may c.write_lines.new.matches.stream c.in_err-write_lines.ensures.stopped.same in
+    let told = found-read g.R.Read.remaining g.W.Write.contents c.args.matches.now.stream.built c.loop-next.matches.stream c.next_counted.new.self.stream c.args.matches.now.reader.now c.loop-next.matches.reader.now c.next_counted.new.self.reader.now c.args.writer.now c.loop-next.writer c.loop-next.invariant.listed c.next_counted.ensures.goes.1 c.in_ok-found.found next may c.write_lines.new.matches.stream c.in_err-write_lines.ensures.writes.same in
     let first = StreamCounts-then c.args.matches.now.stream c.loop-next.matches.stream c.next_counted.new.self.stream c.args.steps.now c.loop-next.steps c.next_counted.new.steps c.loop-next.invariant.counted c.next_counted.ensures.goes.0 in
     rw p.1 (cost-listed c.args.matches.now.stream.built c.args.matches.now.stream c.write_lines.new.matches.stream c.args.matches.now.reader.now c.write_lines.new.matches.reader.now c.args.steps.now c.write_lines.new.steps (Err p.0) c.requires.fresh (record {
       built = told.0;
-      read = rw c.write_lines.ensures.reader told.1;
-      counts = StreamCounts-then c.args.matches.now.stream c.next_counted.new.self.stream c.write_lines.new.matches.stream c.args.steps.now c.next_counted.new.steps c.write_lines.new.steps first c.write_lines.ensures.counts;
-      course = c.write_lines.ensures.kept;
+      read = rw c.write_lines.ensures.reader.0 told.1;
+      counts = StreamCounts-then c.args.matches.now.stream c.next_counted.new.self.stream c.write_lines.new.matches.stream c.args.steps.now c.next_counted.new.steps c.write_lines.new.steps first c.write_lines.ensures.goes.0;
+      course = c.write_lines.ensures.goes.1;
       searched = tt;
     }))
 
@@ -107,4 +107,4 @@ returns-in_err-found-clause-begun g c =
 pub returns-in_err-write_lines-clause-begun : goal.returns-in_err-write_lines-clause-begun
 returns-in_err-write_lines-clause-begun g c =
     let p = err_from_is_err_and c.from_residual-in_err-write_lines.result c.from_residual-in_err-write_lines.ensures.1 in
-    rw (p.1, p.2) (write-begun c.loop-next.writer c.write_lines.new.writer c.in_err-write_lines.field-0.0 c.in_err-write_lines.ensures.kind)
+    rw (p.1, p.2) (write-begun c.loop-next.writer c.write_lines.new.writer c.in_err-write_lines.field-0.0 c.in_err-write_lines.ensures.writes.sends.1)

@@ -1,7 +1,7 @@
 use Rattle.std.proofs.Common.{◌≡◌, ◌-◌, []}
 use Rattle.ac_automaton.specs.Stream.{StreamCounts}
-use Rattle.ac_automaton.specs.StreamIter.{progress_of, reader_name, reader_of}
-use Rattle.acsub.specs.StreamList.{HasListed}
+use Rattle.ac_automaton.specs.Stream.StreamIter.{progress_of, reader_name, reader_of}
+use Rattle.acsub.specs.Stream.StreamList.{HasListed}
 use Rattle.acsub.proofs.stream.list.list_read.Given as goal
 
 abbrev pub invariant-loop-next : goal.invariant-loop-next

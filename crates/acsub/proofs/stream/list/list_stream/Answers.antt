@@ -3,21 +3,22 @@ use Rattle.std.proofs.Common.{ap, rules, subst}
 use Rattle.std.proofs.lemmas.Result.{err_from_is_err_and}
 use Rattle.ac_automaton.specs.Stream.{StreamProgress}
 use Rattle.ac_automaton.specs.declared.watched.Watched.{Watched}
-use Rattle.acsub.specs.StreamList.{ListsStream}
-use Rattle.acsub.proofs.StreamedLemmas.{cost-nothing}
-use Rattle.acsub.proofs.StreamListLemmas.{begun-accepted, never-memory, nothing-listed, refused-memory}
+use Rattle.aho_corasick.specs.AhoCorasick.{as_built, supported_by}
+use Rattle.acsub.specs.Stream.StreamList.{ListsStream}
+use Rattle.acsub.proofs.stream.StreamedLemmas.{cost-nothing}
+use Rattle.acsub.proofs.stream.StreamListLemmas.{begun-accepted, never-memory, nothing-listed, refused-memory}
 use Rattle.acsub.proofs.stream.list.list_stream.Goals as goal
 
 pub returns-in_err-output-clause-lists : goal.returns-in_err-output-clause-lists
 returns-in_err-output-clause-lists g c =
     let p = err_from_is_err_and c.from_residual.result c.from_residual.ensures.1 in
-    rw (p.1, p.2) (nothing-listed g.R.Read.remaining g.W.Write.contents (g.A.Automaton.built c.args.engine.now) c.args.reader.now c.args.writer.now)
+    rw (p.1, p.2) (nothing-listed g.R.Read.remaining g.W.Write.contents (as_built c.args.engine.now) c.args.reader.now c.args.writer.now)
 
 pub returns-in_err-matches-clause-lists : goal.returns-in_err-matches-clause-lists
 returns-in_err-matches-clause-lists g c =
     let p = err_from_is_err_and c.from_residual-in_err-matches.result c.from_residual-in_err-matches.ensures.1 in
-    let b = g.A.Automaton.built c.args.engine.now in
-    let memory = refused-memory b (g.A.Automaton.supports c.args.engine.now) c.in_err-matches.field-0.0 c.requires.can c.in_err-matches.ensures.answer in
+    let b = as_built c.args.engine.now in
+    let memory = refused-memory b (supported_by c.args.engine.now) c.in_err-matches.field-0.0 c.requires.can c.in_err-matches.ensures.answer in
     let untouched = rw c.in_err-matches.was at c.stream_find_iter_any_kind.follows.holds-at-none in
     rw (p.1, p.2, memory, untouched) (nothing-listed g.R.Read.remaining g.W.Write.contents b c.args.reader.now c.args.writer.now)
 
@@ -25,7 +26,7 @@ pub returns-in_err-matches-clause-costs : goal.returns-in_err-matches-clause-cos
 returns-in_err-matches-clause-costs g c =
     let p = err_from_is_err_and c.from_residual-in_err-matches.result c.from_residual-in_err-matches.ensures.1 in
     let untouched = rw c.in_err-matches.was at c.stream_find_iter_any_kind.follows.holds-at-none in
-    rw (p.1, untouched) (cost-nothing (g.A.Automaton.built c.args.engine.now) c.args.reader.now c.args.steps.now p.0)
+    rw (p.1, untouched) (cost-nothing (as_built c.args.engine.now) c.args.reader.now c.args.steps.now p.0)
 
 pub returns-clause-memory : goal.returns-clause-memory
 returns-clause-memory g c = never-memory _ c.list_read-outcome.result c.list_read-outcome.ensures.begun
@@ -38,4 +39,4 @@ returns-clause-lists g c =
     let answer = c.in_ok-matches.ensures.answer in
     let built = ap (λ (p : StreamProgress). p.built) answer.1 in
     let lists = rw (built, answer.2) at c.list_read-outcome.ensures.list in
-    subst (λ (reader : Watched _). ListsStream g.R.Read.remaining g.W.Write.contents (g.A.Automaton.built c.args.engine.now) c.args.reader.now reader c.args.writer.now c.list_read-outcome.new.writer c.list_read-outcome.result) (search rules) lists
+    subst (λ (reader : Watched _). ListsStream g.R.Read.remaining g.W.Write.contents (as_built c.args.engine.now) c.args.reader.now reader c.args.writer.now c.list_read-outcome.new.writer c.list_read-outcome.result) (search rules) lists

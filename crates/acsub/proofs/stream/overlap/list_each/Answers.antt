@@ -1,11 +1,11 @@
--- Before each read a line for each occurrence is written.
+-- Before each read, a line for each occurrence is written.
 use Rattle.std.proofs.Common.{Err, Ok, refl, sym, subst, ◌∙◌}
 use Rattle.std.proofs.lemmas.Result.{err_from_is_err_and}
-use Rattle.ac_automaton.specs.StreamListing.{IsOnListing, ListingProgress}
-use Rattle.ac_automaton.proofs.StreamListingSearchLemmas.{listing-counts-none, listing-counts-then}
-use Rattle.ac_automaton.proofs.StreamReplaceLemmas.{write-begun}
-use Rattle.acsub.specs.StreamOverlap.{HasListedEach}
-use Rattle.acsub.proofs.StreamOverlapLemmas.{cost-each, each-ended, each-failed_write, each-fresh, each-left, each-listed, each-whole, ended-each, found-each, lists-begun, whole-each}
+use Rattle.ac_automaton.specs.Stream.StreamListing.{IsOnListing, ListingProgress}
+use Rattle.ac_automaton.proofs.stream.StreamListingSearchLemmas.{listing-counts-none, listing-counts-then}
+use Rattle.ac_automaton.proofs.stream.StreamReplaceLemmas.{write-begun}
+use Rattle.acsub.specs.Stream.StreamOverlap.{HasListedEach}
+use Rattle.acsub.proofs.stream.StreamOverlapLemmas.{cost-each, each-ended, each-failed_write, each-fresh, each-left, each-listed, each-whole, ended-each, found-each, lists-begun, whole-each}
 use Rattle.acsub.proofs.stream.overlap.list_each.Goals as goal
 
 pub loop-next-init : goal.loop-next-init

@@ -1,8 +1,8 @@
--- Each line is that of the next occurrence, and then what is held back is written.
+-- Each turn sends the line of the next occurrence. After the last one, what is held back is written.
 use Rattle.std.proofs.Common.{[], Err, Ok, refl, ◌∙◌}
 use Rattle.std.proofs.lemmas.Result.{err_from_is_err_and}
-use Rattle.ac_automaton.proofs.StreamListingSearchLemmas.{listing-counts-none, listing-counts-then}
-use Rattle.acsub.proofs.StreamOverlapLemmas.{each-all, each-fewer, each-last, each-more, each-none}
+use Rattle.ac_automaton.proofs.stream.StreamListingSearchLemmas.{listing-counts-none, listing-counts-then}
+use Rattle.acsub.proofs.stream.StreamOverlapLemmas.{each-all, each-fewer, each-last, each-more, each-none}
 use Rattle.acsub.proofs.stream.overlap.send_each.Goals as goal
 
 pub loop-found-init : goal.loop-found-init

@@ -1,7 +1,7 @@
 use Rattle.std.proofs.Common.{◌-◌, length, Ok}
-use Rattle.ac_automaton.specs.StreamListing.{ListingCounts, listing_read}
-use Rattle.ac_automaton.specs.StreamOverlappingIter.{KeepsListedReader, listing_of_stream}
-use Rattle.acsub.specs.StreamOverlap.{SendsEach}
+use Rattle.ac_automaton.specs.Stream.StreamListing.{ListingCounts, occurrences_in, all_read}
+use Rattle.ac_automaton.specs.Stream.StreamOverlappingIter.{KeepsListedReader, listing_of_stream}
+use Rattle.acsub.specs.Stream.StreamOverlap.{SendsEach}
 use Rattle.acsub.proofs.stream.overlap.send_each.Given as goal
 
 abbrev pub invariant-loop-found : goal.invariant-loop-found
@@ -12,4 +12,4 @@ invariant-loop-found g l = record {
 }
 
 abbrev pub decreases-loop-found : goal.decreases-loop-found
-decreases-loop-found g l = length (listing_read (listing_of_stream l.occurrences)) - length (listing_of_stream l.occurrences).given
+decreases-loop-found g l = length (occurrences_in (listing_of_stream l.occurrences).built (all_read (listing_of_stream l.occurrences))) - length (listing_of_stream l.occurrences).given

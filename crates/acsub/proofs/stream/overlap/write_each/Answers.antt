@@ -1,7 +1,7 @@
--- The line of the occurrence, and then those of all that were not given yet.
+-- The line of the occurrence is sent, and then those of all that were not returned yet.
 use Rattle.std.proofs.lemmas.Result.{err_from_is_err_and}
-use Rattle.ac_automaton.proofs.StreamListingSearchLemmas.{listing-counts-none}
-use Rattle.acsub.proofs.StreamOverlapLemmas.{each-stopped, each-written}
+use Rattle.ac_automaton.proofs.stream.StreamListingSearchLemmas.{listing-counts-none}
+use Rattle.acsub.proofs.stream.StreamOverlapLemmas.{each-stopped, each-written}
 use Rattle.acsub.proofs.stream.overlap.write_each.Goals as goal
 
 pub returns-in_err-send-clause-writes : goal.returns-in_err-send-clause-writes

@@ -1,4 +1,4 @@
--- The builder has the settings that it has at first.
+-- The builder has the default settings.
 use Rattle.std.proofs.Common.{sym, subst, ◌∙◌}
 use Rattle.std.proofs.lemmas.Result.{IfOk-weaker, IfErr-weaker}
 use Rattle.ac_input.specs.Same.{IsUnpaired}

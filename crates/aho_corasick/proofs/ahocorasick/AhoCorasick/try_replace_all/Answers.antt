@@ -2,7 +2,7 @@
 use Rattle.std.specs.String.{string_bytes}
 use Rattle.ac_automaton.specs.Replace.{text_matches_in}
 use Rattle.aho_corasick.specs.AhoCorasick.{as_built, supported_by}
-use Rattle.aho_corasick.proofs.ReplaceLemmas.{if-replaced}
+use Rattle.aho_corasick.proofs.lemmas.ReplaceLemmas.{if-replaced}
 use Rattle.aho_corasick.proofs.ahocorasick.AhoCorasick.try_replace_all.Goals as goal
 
 pub returns-clause-replaced : goal.returns-clause-replaced

@@ -1,6 +1,6 @@
--- A replacement that succeeds has written all that was read, replaced.
+-- A replacement that succeeds has written all that was read, with each match replaced.
 use Rattle.ac_literal.specs.Packed.{bytes_of}
-use Rattle.aho_corasick.proofs.StreamLemmas.{stream-replaced}
+use Rattle.aho_corasick.proofs.lemmas.StreamLemmas.{stream-replaced}
 use Rattle.aho_corasick.proofs.ahocorasick.AhoCorasick.try_stream_replace_all_counted.Goals as goal
 
 pub returns-clause-replaced : goal.returns-clause-replaced

@@ -2,7 +2,7 @@
 use Rattle.std.proofs.Common.{List, ℕ, Some, map, ap}
 use Rattle.std.specs.Borrow.{Bor}
 use Rattle.aho_corasick.specs.AhoCorasick.{as_built}
-use Rattle.aho_corasick.proofs.StreamLemmas.{stream-costs}
+use Rattle.aho_corasick.proofs.lemmas.StreamLemmas.{stream-costs}
 use Rattle.uses.proofs.callers.any_kind.replaced_counted.Goals as goal
 
 pub returns : goal.returns

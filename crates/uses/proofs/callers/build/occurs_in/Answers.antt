@@ -1,10 +1,10 @@
--- What was built finds the patterns byte for byte.
+-- The automaton that was built finds the patterns byte for byte.
 use Rattle.std.proofs.Common.{false}
 use Rattle.ac_input.specs.Dictionary.{whole}
 use Rattle.ac_input.specs.Input.{whole_of}
-use Rattle.ac_noncontiguous.specs.Reads.{built_as}
-use Rattle.uses.proofs.BuildLemmas.{best-some, first-bytes}
-use Rattle.aho_corasick.proofs.FindLemmas.{found-for}
+use Rattle.ac_noncontiguous.specs.Nfa.Reads.{built_as}
+use Rattle.uses.proofs.callers.BuildLemmas.{best-some, first-bytes}
+use Rattle.aho_corasick.proofs.lemmas.FindLemmas.{found-for}
 use Rattle.uses.proofs.callers.build.occurs_in.Goals as goal
 
 pub returns : goal.returns

@@ -1,4 +1,4 @@
-use Rattle.aho_corasick.proofs.FindLemmas.{begins-found, found-anchored}
+use Rattle.aho_corasick.proofs.lemmas.FindLemmas.{begins-found, found-anchored}
 use Rattle.uses.proofs.callers.find.begins_with_any.Goals as goal
 
 pub returns : goal.returns

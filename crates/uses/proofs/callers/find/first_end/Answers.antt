@@ -1,4 +1,4 @@
-use Rattle.aho_corasick.proofs.FindLemmas.{best-ends_first, found-earliest}
+use Rattle.aho_corasick.proofs.lemmas.FindLemmas.{best-ends_first, found-earliest}
 use Rattle.uses.proofs.callers.find.first_end.Goals as goal
 
 pub returns : goal.returns

@@ -1,5 +1,5 @@
 use Rattle.ac_input.specs.Input.{whole_of}
-use Rattle.aho_corasick.proofs.FindLemmas.{found-first, found-for}
+use Rattle.aho_corasick.proofs.lemmas.FindLemmas.{found-first, found-for}
 use Rattle.uses.proofs.callers.find.first_match.Goals as goal
 
 pub returns : goal.returns

@@ -1,8 +1,8 @@
--- The first match is of a pattern, and as long as that.
+-- The first match is of some pattern, and as long as that pattern.
 use Rattle.std.proofs.Common.{ℕ, ◌-◌, [], length, get_or, Some, ap, sym, ◌∙◌}
 use Rattle.std.specs.Prelude.{option_map}
 use Rattle.ac_input.specs.Occurrence.{Occurrence}
-use Rattle.aho_corasick.proofs.FindLemmas.{first-known}
+use Rattle.aho_corasick.proofs.lemmas.FindLemmas.{first-known}
 use Rattle.uses.proofs.callers.find.match_len.Goals as goal
 
 pub pattern_len-requires : goal.pattern_len-requires

@@ -1,6 +1,6 @@
 use Rattle.std.proofs.Common.{◌≤◌, length, arith}
 use Rattle.std.proofs.lemmas.Bool.Decides.{nat_tests}
-use Rattle.aho_corasick.proofs.FindLemmas.{occurs-long}
+use Rattle.aho_corasick.proofs.lemmas.FindLemmas.{occurs-long}
 use Rattle.uses.proofs.callers.find.may_match.Goals as goal
 
 pub returns : goal.returns

@@ -1,7 +1,7 @@
 use Rattle.std.proofs.Common.{◌≤◌, length, arith}
 use Rattle.std.proofs.lemmas.Bool.Decides.{nat_tests}
 use Rattle.aho_corasick.specs.AhoCorasick.{as_built}
-use Rattle.aho_corasick.proofs.FindLemmas.{occurs-long}
+use Rattle.aho_corasick.proofs.lemmas.FindLemmas.{occurs-long}
 use Rattle.uses.proofs.callers.front.may_match.Goals as goal
 
 pub returns : goal.returns

@@ -1,5 +1,5 @@
 use Rattle.std.proofs.Common.{false}
-use Rattle.ac_automaton.proofs.WalkLemmas.{occurs-bound}
+use Rattle.ac_automaton.proofs.lemmas.WalkLemmas.{occurs-bound}
 use Rattle.aho_corasick.specs.AhoCorasick.{as_built}
 use Rattle.uses.proofs.callers.front.most_bytes.Goals as goal
 

@@ -1,6 +1,6 @@
--- By the first settings.
+-- The default settings build what matches byte for byte.
 use Rattle.ac_literal.specs.Packed.{bytes_of}
-use Rattle.aho_corasick.proofs.FrontLemmas.{front-bytes}
+use Rattle.aho_corasick.proofs.lemmas.FrontLemmas.{front-bytes}
 use Rattle.uses.proofs.callers.front.of_bytes.Goals as goal
 
 pub returns-clause-dictionary : goal.returns-clause-dictionary

@@ -1,10 +1,10 @@
--- No prefilter was wanted.
+-- The automaton has no prefilter, as the settings ask for none.
 use Rattle.std.proofs.Common.{◌≡◌, rules}
 use Rattle.std.specs.Prelude.{IfOk}
 use Rattle.ac_input.specs.declared.search.MatchKind.TheVariants.{Standard}
 use Rattle.ac_literal.specs.Packed.{bytes_of}
 use Rattle.aho_corasick.specs.AhoCorasick.{kind_of, pairing_of}
-use Rattle.aho_corasick.proofs.FrontLemmas.{front-plain}
+use Rattle.aho_corasick.proofs.lemmas.FrontLemmas.{front-plain}
 use Rattle.uses.proofs.callers.front.thrifty.Goals as goal
 
 pub returns-clause-plain : goal.returns-clause-plain

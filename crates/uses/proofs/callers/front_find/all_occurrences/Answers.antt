@@ -1,13 +1,13 @@
--- What was collected is the listing.
+-- The occurrences collected are those of the listing.
 use Rattle.std.proofs.Common.{ap, ◌∙◌}
 use Rattle.std.proofs.lemmas.Iterator.{items_from_collect}
 use Rattle.std.proofs.lemmas.Iterator.Consumers.{YieldsList-from_first}
 use Rattle.std.proofs.lemmas.Result.{IfOk-weaker}
 use Rattle.ac_input.specs.Input.{whole_of}
 use Rattle.ac_automaton.specs.Automaton.{listing_in}
-use Rattle.ac_automaton.specs.OverlappingIter.{rest_of}
+use Rattle.ac_automaton.specs.Overlapping.OverlappingIter.{rest_of}
 use Rattle.aho_corasick.specs.AhoCorasick.{as_built}
-use Rattle.aho_corasick.proofs.OverlapLemmas.{collected-listing}
+use Rattle.aho_corasick.proofs.lemmas.OverlapLemmas.{collected-listing}
 use Rattle.uses.proofs.callers.front_find.all_occurrences.Goals as goal
 
 pub returns : goal.returns

@@ -1,7 +1,7 @@
 -- An anchored search finds a pattern that begins the text.
 use Rattle.std.proofs.Common.{Ok, refl}
 use Rattle.aho_corasick.specs.AhoCorasick.{as_built, supported_by}
-use Rattle.aho_corasick.proofs.FindLemmas.{begins-found, found-anchored}
+use Rattle.aho_corasick.proofs.lemmas.FindLemmas.{begins-found, found-anchored}
 use Rattle.uses.proofs.callers.front_find.begins_with_any.Goals as goal
 
 pub returns : goal.returns

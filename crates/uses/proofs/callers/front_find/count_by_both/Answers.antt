@@ -1,4 +1,4 @@
--- Both walks are one list, which is one more than the bytes at most.
+-- Both walks return one list, of at most one match more than the text has bytes.
 use Rattle.std.proofs.Common.{ap, inl, length, ◌∙◌, sym, arith}
 use Rattle.std.proofs.lemmas.Iterator.Consumers.{YieldsList-from_first, count_from_yields_List}
 use Rattle.ac_input.specs.Input.{whole_of}
@@ -6,7 +6,7 @@ use Rattle.ac_literal.specs.Packed.{matches_of}
 use Rattle.ac_automaton.specs.Automaton.{walk_in}
 use Rattle.ac_automaton.specs.Iter.{left_of}
 use Rattle.aho_corasick.specs.AhoCorasick.{as_built}
-use Rattle.aho_corasick.proofs.WalkLemmas.{matches-few}
+use Rattle.aho_corasick.proofs.lemmas.WalkLemmas.{matches-few}
 use Rattle.uses.proofs.callers.front_find.count_by_both.Goals as goal
 
 pub count-found-requires-clause-fits : goal.count-found-requires-clause-fits

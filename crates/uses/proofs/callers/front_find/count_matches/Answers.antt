@@ -1,7 +1,7 @@
--- The matches are one more than the bytes at most.
+-- There is at most one match more than the text has bytes.
 use Rattle.std.proofs.Common.{Ok, ap, inl, length, refl, arith}
 use Rattle.aho_corasick.specs.AhoCorasick.{as_built, supported_by}
-use Rattle.aho_corasick.proofs.WalkLemmas.{left-all, matches-few}
+use Rattle.aho_corasick.proofs.lemmas.WalkLemmas.{left-all, matches-few}
 use Rattle.uses.proofs.callers.front_find.count_matches.Goals as goal
 
 pub count-requires-clause-fits : goal.count-requires-clause-fits

@@ -2,7 +2,7 @@ use Rattle.std.proofs.Common.{subst}
 use Rattle.ac_input.specs.Input.{Asked}
 use Rattle.ac_automaton.specs.Automaton.{IsFound}
 use Rattle.aho_corasick.specs.AhoCorasick.{as_built}
-use Rattle.aho_corasick.proofs.FindLemmas.{found-first}
+use Rattle.aho_corasick.proofs.lemmas.FindLemmas.{found-first}
 use Rattle.uses.proofs.callers.front_find.first_match.Goals as goal
 
 pub returns : goal.returns

@@ -1,7 +1,6 @@
 use Rattle.std.proofs.Common.{◌≡◌, min, length}
 use Rattle.ac_input.specs.Input.{whole_of}
 use Rattle.ac_automaton.specs.Automaton.{listing_in}
-use Rattle.ac_automaton.specs.Overlapping.{shown_of}
 use Rattle.aho_corasick.specs.AhoCorasick.{CameFromCalls, as_built}
 use Rattle.uses.proofs.callers.front_find.occurrence.Given as goal
 
@@ -9,5 +8,5 @@ abbrev pub invariant-loop : goal.invariant-loop
 invariant-loop l =
     record {
       came : CameFromCalls l.ac (whole_of l.text) l.state;
-      shown : shown_of l.state ≡ min l.counter (length (listing_in (as_built l.ac) (whole_of l.text)));
+      shown : l.state.shown.value ≡ min l.counter (length (listing_in (as_built l.ac) (whole_of l.text)));
     }

@@ -2,8 +2,8 @@
 use Rattle.std.proofs.Common.{rules}
 use Rattle.std.proofs.lemmas.Result.{on_ok_weaker}
 use Rattle.aho_corasick.specs.AhoCorasick.{as_built}
-use Rattle.aho_corasick.proofs.FrontLemmas.{if-appended}
-use Rattle.aho_corasick.proofs.ReplaceLemmas.{replaced-copies}
+use Rattle.aho_corasick.proofs.lemmas.FrontLemmas.{if-appended}
+use Rattle.aho_corasick.proofs.lemmas.ReplaceLemmas.{replaced-copies}
 use Rattle.uses.proofs.callers.front_replace.append_matched.Goals as goal
 
 pub returns : goal.returns

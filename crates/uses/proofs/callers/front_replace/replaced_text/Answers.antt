@@ -1,7 +1,7 @@
 use Rattle.std.proofs.Common.{map, ◌∙◌}
 use Rattle.std.proofs.lemmas.Result.{IfOk-weaker}
 use Rattle.aho_corasick.specs.AhoCorasick.{as_built}
-use Rattle.aho_corasick.proofs.ReplaceLemmas.{replaced-none}
+use Rattle.aho_corasick.proofs.lemmas.ReplaceLemmas.{replaced-none}
 use Rattle.uses.proofs.callers.front_replace.replaced_text.Goals as goal
 
 pub returns : goal.returns

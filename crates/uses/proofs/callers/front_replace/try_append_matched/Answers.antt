@@ -3,7 +3,7 @@ use Rattle.std.proofs.Common.{rules}
 use Rattle.std.proofs.lemmas.Result.{on_ok_weaker}
 use Rattle.ac_automaton.specs.Replace.{matches_in}
 use Rattle.aho_corasick.specs.AhoCorasick.{as_built, supported_by}
-use Rattle.aho_corasick.proofs.ReplaceLemmas.{if-replaced_with, replaced-copies}
+use Rattle.aho_corasick.proofs.lemmas.ReplaceLemmas.{if-replaced_with, replaced-copies}
 use Rattle.uses.proofs.callers.front_replace.try_append_matched.Goals as goal
 
 pub returns : goal.returns

@@ -2,7 +2,7 @@ use Rattle.std.proofs.Common.{◌∙◌}
 use Rattle.std.proofs.lemmas.Result.{IfOk-weaker}
 use Rattle.ac_literal.specs.Packed.{bytes_of}
 use Rattle.aho_corasick.specs.AhoCorasick.{as_built}
-use Rattle.aho_corasick.proofs.ReplaceLemmas.{replaced-same}
+use Rattle.aho_corasick.proofs.lemmas.ReplaceLemmas.{replaced-same}
 use Rattle.uses.proofs.callers.front_replace.try_replaced_by_itself.Goals as goal
 
 pub returns : goal.returns

@@ -1,7 +1,7 @@
--- Each turn gives one more match.
+-- Each turn returns one more match.
 use Rattle.std.proofs.Common.{arith, rules}
 use Rattle.aho_corasick.specs.AhoCorasick.{as_built}
-use Rattle.aho_corasick.proofs.StreamLemmas.{found-all, found-more}
+use Rattle.aho_corasick.proofs.lemmas.StreamLemmas.{found-all, found-more}
 use Rattle.uses.proofs.callers.front_stream.all_matches.Goals as goal
 
 pub loop-next-preserved : goal.loop-next-preserved

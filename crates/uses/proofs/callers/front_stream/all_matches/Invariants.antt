@@ -1,7 +1,7 @@
 use Rattle.std.proofs.Common.{◌-◌}
-use Rattle.ac_automaton.specs.StreamIter.{progress_of, reader_of}
+use Rattle.ac_automaton.specs.Stream.StreamIter.{progress_of, reader_of}
 use Rattle.aho_corasick.specs.AhoCorasick.{as_built}
-use Rattle.aho_corasick.proofs.StreamLemmas.{HasFound}
+use Rattle.aho_corasick.proofs.lemmas.StreamLemmas.{HasFound}
 use Rattle.uses.proofs.callers.front_stream.all_matches.Given as goal
 
 abbrev pub invariant-loop-next : goal.invariant-loop-next

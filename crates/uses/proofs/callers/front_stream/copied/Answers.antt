@@ -2,7 +2,7 @@
 use Rattle.std.proofs.Common.{ℕ, List, Some, ap, rules}
 use Rattle.std.specs.Borrow.{Bor}
 use Rattle.aho_corasick.specs.AhoCorasick.{as_built, supported_by}
-use Rattle.aho_corasick.proofs.StreamLemmas.{stream-writes}
+use Rattle.aho_corasick.proofs.lemmas.StreamLemmas.{stream-writes}
 use Rattle.uses.proofs.callers.front_stream.copied.Goals as goal
 
 pub returns : goal.returns

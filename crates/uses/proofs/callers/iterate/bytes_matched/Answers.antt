@@ -1,6 +1,6 @@
--- The bytes so far and those of the matches that are left are all.
+-- The bytes counted so far, and those of the matches left, are the bytes of all matches.
 use Rattle.std.proofs.Common.{arith}
-use Rattle.uses.proofs.WalkLemmas.{bytes-step, matches-bytes}
+use Rattle.uses.proofs.callers.WalkLemmas.{bytes-step, matches-bytes}
 use Rattle.uses.proofs.callers.iterate.bytes_matched.Goals as goal
 
 pub overflow_add-bytes : goal.overflow_add-bytes

@@ -1,6 +1,6 @@
 use Rattle.std.proofs.Common.{length}
 use Rattle.ac_automaton.specs.Iter.{left_of}
-use Rattle.uses.proofs.WalkLemmas.{HasPassed}
+use Rattle.uses.proofs.callers.WalkLemmas.{HasPassed}
 use Rattle.uses.proofs.callers.iterate.pass_matches.Given as goal
 
 abbrev pub invariant-loop : goal.invariant-loop

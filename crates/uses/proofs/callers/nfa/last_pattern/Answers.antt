@@ -1,10 +1,10 @@
--- The patterns are within the limits, so the last one's number is.
+-- The number of patterns is within the limit, so the last pattern has a number.
 use Rattle.std.proofs.Common.{◌+◌, ◌≤◌, length, ap, ◌∙◌, arith}
 use Rattle.std.specs.Coded.{le_prop}
 use Rattle.std.proofs.Math.Logic.{∥∥₁_elim}
 use Rattle.ac_input.specs.declared.primitives.number.TheConstants.{GREATEST}
 use Rattle.ac_input.specs.Limits.{IsWithinLimits}
-use Rattle.ac_noncontiguous.specs.Reads.{dictionary}
+use Rattle.ac_noncontiguous.specs.Nfa.Reads.{dictionary}
 use Rattle.uses.proofs.callers.nfa.last_pattern.Goals as goal
 
 pub must-requires : goal.must-requires

@@ -1,4 +1,4 @@
--- The dead state is not left.
+-- No byte leads out of the dead state.
 use Rattle.uses.proofs.callers.nfa.lead_over.Goals as goal
 
 pub loop-byte-preserved : goal.loop-byte-preserved

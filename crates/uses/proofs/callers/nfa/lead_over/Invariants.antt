@@ -1,5 +1,5 @@
 use Rattle.std.proofs.Common.{◌≡◌}
-use Rattle.ac_noncontiguous.specs.ReadCalls.{MayBeMet}
+use Rattle.ac_noncontiguous.specs.Nfa.ReadCalls.{MayBeMet}
 use Rattle.uses.proofs.callers.nfa.lead_over.Given as goal
 
 abbrev pub invariant-loop-byte : goal.invariant-loop-byte

@@ -1,8 +1,8 @@
 -- No pattern is shorter than the shortest.
 use Rattle.std.proofs.Common.{◌≤◌, List, ℕ, [], length, get_or, sym, subst, arith}
 use Rattle.ac_input.specs.Work.{shortest}
-use Rattle.ac_literal.proofs.PatternLemmas.{shortest-least}
-use Rattle.ac_noncontiguous.specs.Reads.{built_as}
+use Rattle.ac_literal.proofs.packed.PatternLemmas.{shortest-least}
+use Rattle.ac_noncontiguous.specs.Nfa.Reads.{built_as}
 use Rattle.uses.proofs.callers.nfa.len_past_shortest.Goals as goal
 
 pub overflow_sub-result : goal.overflow_sub-result

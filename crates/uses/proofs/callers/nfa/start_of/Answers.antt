@@ -1,5 +1,5 @@
--- Both starts may be met, each by its own searches.
-use Rattle.uses.proofs.NfaLemmas.{anchored-met, unanchored-met}
+-- Each start state may be met by the searches that begin there.
+use Rattle.uses.proofs.callers.NfaLemmas.{anchored-met, unanchored-met}
 use Rattle.uses.proofs.callers.nfa.start_of.Goals as goal
 
 pub returns-in-No : goal.returns-in-No

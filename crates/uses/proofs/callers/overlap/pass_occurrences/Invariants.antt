@@ -1,7 +1,6 @@
 use Rattle.std.proofs.Common.{◌≡◌, ◌+◌, length}
 use Rattle.ac_input.specs.Input.{whole_of}
-use Rattle.ac_input.specs.Steps.{looked_of}
-use Rattle.ac_automaton.specs.OverlappingIter.{rest_of}
+use Rattle.ac_automaton.specs.Overlapping.OverlappingIter.{rest_of}
 use Rattle.uses.proofs.callers.overlap.pass_occurrences.Given as goal
 
 abbrev pub invariant-loop : goal.invariant-loop
@@ -9,7 +8,7 @@ invariant-loop g l =
     record {
       built : l.occurrences.built ≡ g.A.Automaton.built l.automaton;
       asked : l.occurrences.asked ≡ whole_of l.text;
-      told : looked_of l.steps ≡ looked_of l.fn.steps + l.occurrences.looked;
+      told : l.steps.looked.value ≡ l.fn.steps.looked.value + l.occurrences.looked;
     }
 
 abbrev pub decreases-loop : goal.decreases-loop

@@ -1,7 +1,7 @@
 use Rattle.std.proofs.Common.{length, arith}
 use Rattle.ac_input.specs.declared.search.Anchored.TheVariants.{No}
 use Rattle.ac_input.specs.Input.{search_of}
-use Rattle.uses.proofs.PackedLemmas.{asked-scans}
+use Rattle.uses.proofs.callers.PackedLemmas.{asked-scans}
 use Rattle.uses.proofs.callers.packed.ask_counted.Goals as goal
 
 pub returns : goal.returns

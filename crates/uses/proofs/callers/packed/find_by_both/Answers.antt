@@ -1,6 +1,6 @@
 use Rattle.ac_input.specs.Input.{whole_of}
-use Rattle.aho_corasick.proofs.FindLemmas.{found-for}
-use Rattle.uses.proofs.PackedLemmas.{packed-alike}
+use Rattle.aho_corasick.proofs.lemmas.FindLemmas.{found-for}
+use Rattle.uses.proofs.callers.PackedLemmas.{packed-alike}
 use Rattle.uses.proofs.callers.packed.find_by_both.Goals as goal
 
 pub returns : goal.returns

@@ -1,6 +1,6 @@
 use Rattle.std.proofs.Common.{map}
 use Rattle.ac_literal.specs.declared.packed.api.MatchKind.TheVariants.{LeftmostFirst}
-use Rattle.uses.proofs.PackedLemmas.{packed-first}
+use Rattle.uses.proofs.callers.PackedLemmas.{packed-first}
 use Rattle.uses.proofs.callers.packed.first_match.Goals as goal
 
 pub returns : goal.returns

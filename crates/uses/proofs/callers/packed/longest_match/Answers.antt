@@ -1,10 +1,10 @@
--- What is built has the patterns that were added.
+-- The searcher has the patterns that were added to its builder.
 use Rattle.std.proofs.Common.{◌≡◌, Option, map, sym, subst}
 use Rattle.std.specs.Prelude.{IfSome}
 use Rattle.ac_literal.specs.Packed.{Packed}
 use Rattle.ac_literal.specs.declared.packed.api.MatchKind.TheVariants.{LeftmostLongest}
-use Rattle.ac_literal.proofs.PatternLemmas.{built-fresh}
-use Rattle.uses.proofs.PackedLemmas.{packed-first}
+use Rattle.ac_literal.proofs.packed.PatternLemmas.{built-fresh}
+use Rattle.uses.proofs.callers.PackedLemmas.{packed-first}
 use Rattle.uses.proofs.callers.packed.longest_match.Goals as goal
 
 pub unwrap-searcher-requires : goal.unwrap-searcher-requires

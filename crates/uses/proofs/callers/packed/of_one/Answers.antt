@@ -1,6 +1,6 @@
--- What is built has the pattern that was added.
+-- The searcher has the pattern that was added to its builder.
 use Rattle.std.proofs.Common.{rules}
-use Rattle.uses.proofs.PackedLemmas.{of-one}
+use Rattle.uses.proofs.callers.PackedLemmas.{of-one}
 use Rattle.uses.proofs.callers.packed.of_one.Goals as goal
 
 pub returns : goal.returns

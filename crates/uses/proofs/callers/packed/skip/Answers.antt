@@ -1,6 +1,6 @@
 use Rattle.std.proofs.Common.{false}
 use Rattle.ac_input.specs.Dictionary.{whole}
-use Rattle.uses.proofs.PackedLemmas.{candidate-skips}
+use Rattle.uses.proofs.callers.PackedLemmas.{candidate-skips}
 use Rattle.uses.proofs.callers.packed.skip.Goals as goal
 
 pub returns-in-Match : goal.returns-in-Match

@@ -1,5 +1,5 @@
-use Rattle.std.proofs.Common.{◌≡◌, ◌-◌, length}
-use Rattle.ac_automaton.specs.Stream.{CanBeCounted, read_by}
+use Rattle.std.proofs.Common.{◌-◌, length}
+use Rattle.ac_automaton.specs.Stream.{read_by}
 use Rattle.uses.specs.Pushed.{IsSame}
 use Rattle.uses.proofs.callers.pushed.gather.Given as goal
 

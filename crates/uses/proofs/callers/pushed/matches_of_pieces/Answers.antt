@@ -1,9 +1,9 @@
--- Piece by piece the text is pushed, and at the end all is decided.
+-- The text is pushed piece by piece, and at its end all matches are decided.
 use Rattle.std.proofs.Common.{ℕ, List, Bor, map, take, sym, subst}
 use Rattle.std.specs.List.{concat}
 use Rattle.std.proofs.lemmas.List.{take_all}
 use Rattle.aho_corasick.specs.AhoCorasick.{as_built}
-use Rattle.uses.proofs.PushedLemmas.{pieces-more, pushed-all, pushed-more, IsPushedTo}
+use Rattle.uses.proofs.callers.PushedLemmas.{pieces-more, pushed-all, pushed-more, IsPushedTo}
 use Rattle.uses.proofs.callers.pushed.matches_of_pieces.Goals as goal
 
 pub loop-piece-preserved : goal.loop-piece-preserved

@@ -1,7 +1,6 @@
 use Rattle.std.proofs.Common.{length}
-use Rattle.uses.specs.Pushed.{IsGathered}
 use Rattle.uses.proofs.callers.pushed.push_whole.Given as goal
-use Rattle.uses.proofs.PushedLemmas.{Pushing}
+use Rattle.uses.proofs.callers.PushedLemmas.{Pushing}
 
 abbrev pub invariant-loop-rest : goal.invariant-loop-rest
 invariant-loop-rest g l = Pushing l.fn.search l.search l.piece l.rest l.found.items

@@ -1,7 +1,7 @@
--- Some of the text was appended, and the rest is still to be.
+-- A part of the text was appended, and the rest is still to come.
 use Rattle.std.proofs.Common.{◌-◌, length, map}
 use Rattle.ac_automaton.specs.Stream.{read_by}
-use Rattle.uses.proofs.PushedTextLemmas.{HasAppended}
+use Rattle.uses.proofs.callers.PushedTextLemmas.{HasAppended}
 use Rattle.uses.proofs.callers.pushed_text.append_decided.Given as goal
 
 abbrev pub invariant-loop : goal.invariant-loop

@@ -1,4 +1,4 @@
--- What the replacement is once nothing is lent.
+-- What the replacement is once no slice of it is lent.
 use Rattle.std.proofs.Common.{refl}
 use Rattle.uses.proofs.callers.pushed_text.append_next.Goals as goal
 

@@ -1,4 +1,4 @@
--- Of the piece the rest is left to push.
+-- The rest of the piece is still to be pushed.
 use Rattle.std.proofs.Common.{length, map}
 use Rattle.uses.specs.PushedText.{PushingText}
 use Rattle.uses.proofs.callers.pushed_text.append_piece.Given as goal

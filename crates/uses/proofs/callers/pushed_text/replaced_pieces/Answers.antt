@@ -1,11 +1,11 @@
--- Piece by piece the text is pushed, and at the end all of it is decided.
+-- The text is pushed piece by piece, and at its end all of it is decided.
 use Rattle.std.proofs.Common.{ℕ, List, Bor, map, take, sym, subst}
 use Rattle.std.specs.List.{concat}
 use Rattle.std.proofs.lemmas.List.{take_all}
 use Rattle.aho_corasick.specs.AhoCorasick.{as_built}
 use Rattle.uses.specs.PushedText.{IsTextOfPieces}
-use Rattle.uses.proofs.PushedLemmas.{pieces-more}
-use Rattle.uses.proofs.PushedTextLemmas.{appended-piece, appended-whole}
+use Rattle.uses.proofs.callers.PushedLemmas.{pieces-more}
+use Rattle.uses.proofs.callers.PushedTextLemmas.{appended-piece, appended-whole}
 use Rattle.uses.proofs.callers.pushed_text.replaced_pieces.Goals as goal
 
 pub loop-piece-preserved : goal.loop-piece-preserved

@@ -1,7 +1,7 @@
 use Rattle.std.proofs.Common.{map, ◌∙◌}
 use Rattle.std.proofs.lemmas.Result.{IfOk-weaker}
 use Rattle.ac_automaton.specs.Replace.{matches_in}
-use Rattle.aho_corasick.proofs.ReplaceLemmas.{if-replaced, replaced-same}
+use Rattle.aho_corasick.proofs.lemmas.ReplaceLemmas.{if-replaced, replaced-same}
 use Rattle.uses.proofs.callers.replace.replaced_by_itself.Goals as goal
 
 pub returns : goal.returns

@@ -2,7 +2,7 @@ use Rattle.std.proofs.Common.{map, ◌∙◌}
 use Rattle.std.proofs.lemmas.Result.{IfOk-weaker}
 use Rattle.std.specs.String.{string_bytes}
 use Rattle.ac_automaton.specs.Replace.{text_matches_in}
-use Rattle.aho_corasick.proofs.ReplaceLemmas.{if-replaced, replaced-none}
+use Rattle.aho_corasick.proofs.lemmas.ReplaceLemmas.{if-replaced, replaced-none}
 use Rattle.uses.proofs.callers.replace.replaced_text.Goals as goal
 
 pub returns : goal.returns

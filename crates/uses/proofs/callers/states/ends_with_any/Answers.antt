@@ -1,8 +1,8 @@
--- The list of the last state says which patterns end the text.
+-- The match list of the last state has the patterns that end the text.
 use Rattle.std.proofs.Common.{◌≡◌, ℕ, List, length, take, ap, ◌∙◌, subst, arith}
 use Rattle.std.proofs.Math.Seq.{take-length}
 use Rattle.ac_input.specs.declared.search.Anchored.TheVariants.{No}
-use Rattle.uses.proofs.StateLemmas.{tells-ends}
+use Rattle.uses.proofs.callers.StateLemmas.{tells-ends}
 use Rattle.uses.proofs.callers.states.ends_with_any.Goals as goal
 
 pub returns : goal.returns

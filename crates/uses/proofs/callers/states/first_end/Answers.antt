@@ -1,8 +1,8 @@
--- No state that the walk passed matches, so nothing ends before it.
+-- No state that the walk passed matches, so no occurrence ends before the last one.
 use Rattle.std.proofs.Common.{[], sym, ◌∙◌, arith}
 use Rattle.std.proofs.lemmas.Bool.{false≢true}
 use Rattle.ac_input.specs.declared.search.Anchored.TheVariants.{No}
-use Rattle.uses.proofs.StateLemmas.{HasWalked, first-listed, start-reached, read-to, walked-first, walked-over}
+use Rattle.uses.proofs.callers.StateLemmas.{HasWalked, first-listed, start-reached, read-to, walked-first, walked-over}
 use Rattle.uses.proofs.callers.states.first_end.Goals as goal
 
 pub returns-then-is_match : goal.returns-then-is_match

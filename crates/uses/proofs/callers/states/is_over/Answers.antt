@@ -1,4 +1,4 @@
--- The last state was reached by the whole text.
+-- The whole text leads to the last state.
 use Rattle.std.proofs.Common.{◌≡◌, ℕ, List, length, take, ap, ◌∙◌, subst, arith}
 use Rattle.std.proofs.Math.Seq.{take-length}
 use Rattle.ac_input.specs.declared.search.Anchored.TheVariants.{Yes}

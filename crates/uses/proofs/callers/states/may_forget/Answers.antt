@@ -1,9 +1,9 @@
--- At a start that matches nothing no byte is live.
+-- In a start state that matches nothing, no byte of the text is live.
 use Rattle.std.proofs.Common.{◌≡◌, ℕ, List, length, take, ap, sym, ◌∙◌, subst, arith}
 use Rattle.std.proofs.Math.Seq.{take-length}
 use Rattle.std.proofs.lemmas.Bool.{false≢true}
 use Rattle.ac_input.specs.declared.search.Anchored.TheVariants.{No}
-use Rattle.uses.proofs.StateLemmas.{list-none}
+use Rattle.uses.proofs.callers.StateLemmas.{list-none}
 use Rattle.uses.proofs.callers.states.may_forget.Goals as goal
 
 pub returns : goal.returns

@@ -1,4 +1,4 @@
--- The state was reached by some text, and one byte more is one look more.
+-- Some text leads to the state, and one byte more takes one look-up more.
 use Rattle.std.proofs.Common.{◌++◌, ◌∷◌, []}
 use Rattle.std.proofs.Math.Logic.{∥∥₁_elim}
 use Rattle.std.specs.Coded.{Coded-set, coded_ℕ}

@@ -1,4 +1,4 @@
--- Reading on stops early at a special state alone.
+-- Reading on stops before the end only at a special state.
 use Rattle.std.proofs.Common.{◌≡◌, ℕ, length, inl, inr, sym, ◌∙◌, subst, arith}
 use Rattle.std.proofs.Math.Logic.{∥∥₁_map}
 use Rattle.std.proofs.lemmas.Bool.{cases_lt, false≢true}

@@ -1,8 +1,8 @@
--- One more pattern at each turn, and none where the state matches nothing.
+-- Each turn adds a pattern, and a state that matches nothing has none.
 use Rattle.std.proofs.Common.{◌≡◌, ℕ, suc, ◌+◌, List, [], ◌∷◌, ◌++◌, take, ap, sym, ◌∙◌, arith}
 use Rattle.std.proofs.lemmas.Bool.{false≢true}
-use Rattle.ac_automaton.proofs.CursorLemmas.{take-more}
-use Rattle.uses.proofs.StateLemmas.{list-none}
+use Rattle.ac_automaton.proofs.lemmas.CursorLemmas.{take-more}
+use Rattle.uses.proofs.callers.StateLemmas.{list-none}
 use Rattle.uses.proofs.callers.states.patterns_at.Goals as goal
 
 pub returns-then-not-is_match : goal.returns-then-not-is_match

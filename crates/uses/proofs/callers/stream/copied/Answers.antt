@@ -1,7 +1,7 @@
 -- The closure writes what matched.
 use Rattle.std.proofs.Common.{ℕ, List, Some, ap, rules}
 use Rattle.std.specs.Borrow.{Bor}
-use Rattle.aho_corasick.proofs.StreamLemmas.{stream-writes}
+use Rattle.aho_corasick.proofs.lemmas.StreamLemmas.{stream-writes}
 use Rattle.uses.proofs.callers.stream.copied.Goals as goal
 
 pub returns : goal.returns

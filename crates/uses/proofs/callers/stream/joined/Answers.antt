@@ -1,7 +1,7 @@
 -- One more piece was sent.
 use Rattle.std.proofs.Common.{ℕ, List, [], ◌++◌, get_or, ap, sym, ◌∙◌}
 use Rattle.std.specs.Borrow.{Bor}
-use Rattle.uses.proofs.StreamLemmas.{joined-step, sent-grows}
+use Rattle.uses.proofs.callers.StreamLemmas.{joined-step, sent-grows}
 use Rattle.uses.proofs.callers.stream.joined.Goals as goal
 
 pub loop-piece-preserved : goal.loop-piece-preserved

@@ -1,4 +1,4 @@
--- No match of what was read is left, and nothing was read.
+-- No match in what was read is left, and nothing more was read.
 use Rattle.std.proofs.Common.{ap, length, ◌∙◌, refl, arith}
 use Rattle.std.specs.List.{concat}
 use Rattle.uses.proofs.callers.stream.pass_held.Goals as goal

@@ -1,7 +1,7 @@
--- All that the reader gives is written, replaced.
+-- All bytes of the reader are written, with each match replaced.
 use Rattle.std.proofs.Common.{List, ℕ, Some, map, ap}
 use Rattle.std.specs.Borrow.{Bor}
-use Rattle.aho_corasick.proofs.StreamLemmas.{stream-replaces}
+use Rattle.aho_corasick.proofs.lemmas.StreamLemmas.{stream-replaces}
 use Rattle.uses.proofs.callers.stream.replaced.Goals as goal
 
 pub returns : goal.returns

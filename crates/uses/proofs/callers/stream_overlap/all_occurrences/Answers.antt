@@ -1,7 +1,7 @@
--- Each turn gives one more occurrence.
+-- Each turn returns one more occurrence.
 use Rattle.std.proofs.Common.{rules, arith}
-use Rattle.ac_automaton.proofs.StreamOverlappingIterLemmas.{occurrences-fewer}
-use Rattle.uses.proofs.StreamOverlapLemmas.{listed-all, listed-more}
+use Rattle.ac_automaton.proofs.stream.StreamOverlappingIterLemmas.{occurrences-fewer}
+use Rattle.uses.proofs.callers.StreamOverlapLemmas.{listed-all, listed-more}
 use Rattle.uses.proofs.callers.stream_overlap.all_occurrences.Goals as goal
 
 pub loop-next-preserved : goal.loop-next-preserved

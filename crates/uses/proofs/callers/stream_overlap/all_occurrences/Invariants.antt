@@ -1,6 +1,6 @@
--- What was found is what the search gave.
-use Rattle.ac_automaton.specs.StreamOverlappingIter.{listing_of_stream, most_listed, reader_listed}
-use Rattle.uses.proofs.StreamOverlapLemmas.{HasListedText}
+-- The occurrences collected are those that the search returned.
+use Rattle.ac_automaton.specs.Stream.StreamOverlappingIter.{listing_of_stream, most_listed, reader_listed}
+use Rattle.uses.proofs.callers.StreamOverlapLemmas.{HasListedText}
 use Rattle.uses.proofs.callers.stream_overlap.all_occurrences.Given as goal
 
 abbrev pub invariant-loop-next : goal.invariant-loop-next

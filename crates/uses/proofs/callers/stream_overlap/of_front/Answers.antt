@@ -1,8 +1,8 @@
--- Each turn gives one more occurrence.
+-- Each turn returns one more occurrence.
 use Rattle.std.proofs.Common.{rules, arith}
 use Rattle.aho_corasick.specs.AhoCorasick.{as_built}
-use Rattle.ac_automaton.proofs.StreamOverlappingIterLemmas.{occurrences-fewer}
-use Rattle.uses.proofs.StreamOverlapLemmas.{listed-all, listed-more}
+use Rattle.ac_automaton.proofs.stream.StreamOverlappingIterLemmas.{occurrences-fewer}
+use Rattle.uses.proofs.callers.StreamOverlapLemmas.{listed-all, listed-more}
 use Rattle.uses.proofs.callers.stream_overlap.of_front.Goals as goal
 
 pub loop-next-preserved : goal.loop-next-preserved

@@ -1,7 +1,7 @@
--- What was found is what the search gave.
+-- The occurrences collected are those that the search returned.
 use Rattle.aho_corasick.specs.AhoCorasick.{as_built}
-use Rattle.ac_automaton.specs.StreamOverlappingIter.{listing_of_stream, most_listed, reader_listed}
-use Rattle.uses.proofs.StreamOverlapLemmas.{HasListedText}
+use Rattle.ac_automaton.specs.Stream.StreamOverlappingIter.{listing_of_stream, most_listed, reader_listed}
+use Rattle.uses.proofs.callers.StreamOverlapLemmas.{HasListedText}
 use Rattle.uses.proofs.callers.stream_overlap.of_front.Given as goal
 
 abbrev pub invariant-loop-next : goal.invariant-loop-next

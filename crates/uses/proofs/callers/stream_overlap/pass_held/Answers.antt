@@ -1,7 +1,7 @@
--- No occurrence in what was read is left, and nothing was read.
+-- No occurrence in what was read is left, and nothing more was read.
 use Rattle.std.proofs.Common.{ap, length, ◌∙◌, refl, arith}
 use Rattle.std.specs.List.{concat}
-use Rattle.uses.proofs.StreamOverlapLemmas.{held-fewer}
+use Rattle.uses.proofs.callers.StreamOverlapLemmas.{held-fewer}
 use Rattle.uses.proofs.callers.stream_overlap.pass_held.Goals as goal
 
 pub loop-init : goal.loop-init

@@ -1,7 +1,7 @@
 -- Nothing was read, and fewer occurrences are left.
 use Rattle.std.proofs.Common.{◌≡◌, ◌-◌, length}
-use Rattle.ac_automaton.specs.StreamListing.{all_read, listing_read}
-use Rattle.ac_automaton.specs.StreamOverlappingIter.{listing_of_stream, reader_listed}
+use Rattle.ac_automaton.specs.Stream.StreamListing.{all_read, occurrences_in}
+use Rattle.ac_automaton.specs.Stream.StreamOverlappingIter.{listing_of_stream, reader_listed}
 use Rattle.uses.proofs.callers.stream_overlap.pass_held.Given as goal
 
 abbrev pub invariant-loop : goal.invariant-loop
@@ -11,4 +11,4 @@ invariant-loop g l = record {
 }
 
 abbrev pub decreases-loop : goal.decreases-loop
-decreases-loop g l = length (listing_read (listing_of_stream l.occurrences)) - length (listing_of_stream l.occurrences).given
+decreases-loop g l = length (occurrences_in (listing_of_stream l.occurrences).built (all_read (listing_of_stream l.occurrences))) - length (listing_of_stream l.occurrences).given

@@ -1,6 +1,6 @@
--- What is built by the first settings finds the patterns byte for byte.
+-- A DFA built with the default settings finds the patterns byte for byte.
 use Rattle.std.proofs.lemmas.Result.{IfOk-weaker}
-use Rattle.uses.proofs.TableLemmas.{first-dfa}
+use Rattle.uses.proofs.callers.TableLemmas.{first-dfa}
 use Rattle.uses.proofs.callers.tables.dfa_of_bytes.Goals as goal
 
 pub returns : goal.returns

@@ -1,5 +1,5 @@
 -- A word that isn't empty is a full text.
-use Rattle.uses.proofs.TextLemmas.{full-pushed}
+use Rattle.uses.proofs.callers.TextLemmas.{full-pushed}
 use Rattle.uses.proofs.callers.texts.full_texts.Goals as goal
 
 pub loop-word-preserved : goal.loop-word-preserved

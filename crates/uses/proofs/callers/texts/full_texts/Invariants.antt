@@ -1,4 +1,4 @@
-use Rattle.ac_input.specs.Utf8Laws.{AreFullTexts}
+use Rattle.ac_input.specs.Laws.Utf8Laws.{AreFullTexts}
 use Rattle.ac_literal.specs.Packed.{bytes_of}
 use Rattle.uses.proofs.callers.texts.full_texts.Given as goal
 

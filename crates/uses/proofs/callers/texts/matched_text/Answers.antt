@@ -1,6 +1,6 @@
--- The match is an occurrence in the whole text, so the law holds of it.
+-- The match is an occurrence in the whole text, so it lies between characters.
 use Rattle.aho_corasick.specs.AhoCorasick.{as_built}
-use Rattle.uses.proofs.TextLemmas.{match-between, part-first, none-first}
+use Rattle.uses.proofs.callers.TextLemmas.{match-between, part-first, none-first}
 use Rattle.uses.proofs.callers.texts.matched_text.Goals as goal
 
 pub of_text-requires-clause-start : goal.of_text-requires-clause-start

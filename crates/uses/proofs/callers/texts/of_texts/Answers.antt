@@ -1,5 +1,5 @@
 use Rattle.ac_literal.specs.Packed.{bytes_of}
-use Rattle.uses.proofs.TextLemmas.{starts-served, texts-found}
+use Rattle.uses.proofs.callers.TextLemmas.{starts-served, texts-found}
 use Rattle.uses.proofs.callers.texts.of_texts.Goals as goal
 
 pub returns-clause-can : goal.returns-clause-can

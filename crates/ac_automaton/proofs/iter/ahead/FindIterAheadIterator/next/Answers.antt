@@ -1,5 +1,5 @@
--- Each call gives the first of the picks that are left.
-use Rattle.ac_automaton.proofs.IterLemmas.{pick-yields, yields-progress}
+-- Each call returns the first pick that is left.
+use Rattle.ac_automaton.proofs.iter.IterLemmas.{pick-yields, yields-progress}
 use Rattle.ac_automaton.proofs.iter.ahead.FindIterAheadIterator.next.Goals as goal
 
 pub returns-clause-steps : goal.returns-clause-steps

@@ -2,9 +2,9 @@
 use Rattle.std.proofs.Common.{rules, ◌≡◌, ℕ, ◌+◌, List, [], ◌∷◌, drop, is_some, if◌then◌else◌, MatchOption, sym, subst}
 use Rattle.ac_input.specs.Number.{StateID}
 use Rattle.ac_input.specs.Computed.{listing_of}
-use Rattle.ac_input.specs.Input.{search_in}
+use Rattle.ac_input.specs.Input.{search_of}
 use Rattle.ac_automaton.specs.Overlapping.{StandsAt}
-use Rattle.ac_automaton.proofs.OverlappingStateLemmas.{counted-after, shown-counted, stands-after, stands-work, yields-next}
+use Rattle.ac_automaton.proofs.overlapping.OverlappingStateLemmas.{counted-after, shown-counted, stands-after, stands-work, yields-next}
 use Rattle.ac_automaton.proofs.overlapping.iter.FindOverlappingIter.next_counted.Goals as goal
 
 pub invariant_of-self : goal.invariant_of-self
@@ -12,7 +12,7 @@ invariant_of-self g c =
     let i = c.self.inside in
     let m = (g.A.Automaton.built i.automaton.now).dictionary in
     let d = (g.A.Automaton.built i.automaton.now).deterministic in
-    let s = search_in m i.input in
+    let s = search_of m i.input.anchored i.input.haystack i.input.span in
     let R = g.A.Automaton.Reaches i.automaton.now i.input.anchored in
     let E = g.A.Automaton.matches i.automaton.now in
     let stands = c.self.invariant.2 in
@@ -23,7 +23,7 @@ invariant_of-self g c =
 pub returns-clause-gives : goal.returns-clause-gives
 returns-clause-gives g c =
     let i = c.self.inside in
-    let s = search_in (g.A.Automaton.built i.automaton.now).dictionary i.input in
+    let s = search_of (g.A.Automaton.built i.automaton.now).dictionary i.input.anchored i.input.haystack i.input.span in
     let L = listing_of s in
     let n : ℕ = i.shown.value in
     let r = c.search_overlapping_ahead-shown.result.found in
@@ -38,7 +38,7 @@ returns-clause-work g c =
     let i = c.self.inside in
     let m = (g.A.Automaton.built i.automaton.now).dictionary in
     let d = (g.A.Automaton.built i.automaton.now).deterministic in
-    let s = search_in m i.input in
+    let s = search_of m i.input.anchored i.input.haystack i.input.span in
     let R = g.A.Automaton.Reaches i.automaton.now i.input.anchored in
     let E = g.A.Automaton.matches i.automaton.now in
     let stands = c.self.invariant.2 in
@@ -52,5 +52,5 @@ pub returns-clause-counted : goal.returns-clause-counted
 returns-clause-counted g c =
     let i = c.self.inside in
     let b = g.A.Automaton.built i.automaton.now in
-    let shows = c.search_overlapping_ahead-shown.ensures.shows (drop i.shown.value (listing_of (search_in b.dictionary i.input))) c.self.invariant.2.left in
+    let shows = c.search_overlapping_ahead-shown.ensures.shows (drop i.shown.value (listing_of (search_of b.dictionary i.input.anchored i.input.haystack i.input.span))) c.self.invariant.2.left in
     shown-counted b i.input c.search_overlapping_ahead-shown.result c.add.new.self (counted-after b i.input i.place c.search_overlapping_ahead-shown.result i.sums c.new-done.result c.search_overlapping_ahead-shown.new.steps c.add.new.self c.self.invariant.3 c.search_overlapping_ahead-shown.ensures.counts c.new-done.ensures c.add.ensures) shows.2

@@ -1,7 +1,7 @@
 -- Turn by turn, up to an item or to the end.
 use Rattle.std.proofs.Common.{◌∙◌, refl, sym}
-use Rattle.ac_automaton.proofs.StreamListingSearchLemmas.{listing-counts-then}
-use Rattle.ac_automaton.proofs.StreamOverlappingIterLemmas.{counted-or-not, listing-ended, listing-failed, listing-found, listing-found-open, listing-over, listing-smaller, listing-turned, no-turns}
+use Rattle.ac_automaton.proofs.stream.StreamListingSearchLemmas.{listing-counts-then}
+use Rattle.ac_automaton.proofs.stream.StreamOverlappingIterLemmas.{counted-or-not, listing-ended, listing-failed, listing-found, listing-found-open, listing-over, listing-smaller, listing-turned, no-turns}
 use Rattle.ac_automaton.proofs.stream.overlapping.StreamFindOverlappingIter.next_counted.Goals.{then-is_over-via-then-is_over, then-is_over-via-else-is_over+then-ended}
 use Rattle.ac_automaton.proofs.stream.overlapping.StreamFindOverlappingIter.next_counted.Goals as goal
 

@@ -1,7 +1,7 @@
--- Some turns have been made, by the same reference to the reader.
+-- Some turns have been made, each with the same reference to the reader.
 use Rattle.std.proofs.Common.{◌≡◌, ◌-◌, length}
-use Rattle.ac_automaton.specs.StreamListing.{all_read}
-use Rattle.ac_automaton.proofs.StreamOverlappingIterLemmas.{HasTurnedListing}
+use Rattle.ac_automaton.specs.Stream.StreamListing.{all_read}
+use Rattle.ac_automaton.proofs.stream.StreamOverlappingIterLemmas.{HasTurnedListing}
 use Rattle.ac_automaton.proofs.stream.overlapping.StreamFindOverlappingIter.next_counted.Given as goal
 
 abbrev pub invariant-loop-found : goal.invariant-loop-found

@@ -1,5 +1,5 @@
 -- Each call that returns an item leaves fewer.
-use Rattle.ac_automaton.proofs.StreamOverlappingIterLemmas.{occurrences-fewer}
+use Rattle.ac_automaton.proofs.stream.StreamOverlappingIterLemmas.{occurrences-fewer}
 use Rattle.ac_automaton.proofs.stream.overlapping.StreamFindOverlappingIterIterator.next.Goals as goal
 
 pub returns-clause-goes : goal.returns-clause-goes

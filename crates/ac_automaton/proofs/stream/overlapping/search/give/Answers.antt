@@ -4,8 +4,8 @@ use Rattle.ac_input.specs.declared.search.Anchored.TheVariants.{No}
 use Rattle.ac_input.specs.declared.search.MatchKind.TheVariants.{Standard}
 use Rattle.ac_input.specs.Occurrence.{Occurrence}
 use Rattle.ac_automaton.specs.Automaton.{Built}
-use Rattle.ac_automaton.specs.StreamListing.{searched_by}
-use Rattle.ac_automaton.proofs.StreamListingLemmas.{entry-occurs, searched-long}
+use Rattle.ac_automaton.specs.Stream.StreamListing.{searched_by}
+use Rattle.ac_automaton.proofs.stream.StreamListingLemmas.{entry-occurs, searched-long}
 use Rattle.ac_automaton.proofs.stream.overlapping.search.give.Goals as goal
 
 pub overflow_sub-start : goal.overflow_sub-start

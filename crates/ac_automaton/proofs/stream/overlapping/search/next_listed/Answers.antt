@@ -1,7 +1,7 @@
--- The next occurrence is the next of the state, or the first of what ends later.
+-- The next occurrence is the next of the state's list, or the first that ends later.
 use Rattle.std.proofs.Common.{arith}
 use Rattle.ac_input.specs.declared.search.Anchored.TheVariants.{No}
-use Rattle.ac_automaton.proofs.StreamListingLemmas.{gives-next, listed-there, lists-none, lists-there}
+use Rattle.ac_automaton.proofs.stream.StreamListingLemmas.{gives-next, listed-there, lists-none, lists-there}
 use Rattle.ac_automaton.proofs.stream.overlapping.search.next_listed.Goals as goal
 
 pub returns-then-place-clause-lists : goal.returns-then-place-clause-lists

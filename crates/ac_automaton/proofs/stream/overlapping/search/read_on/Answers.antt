@@ -1,7 +1,7 @@
 -- A search reads on to the next state that matches.
 use Rattle.ac_input.specs.declared.search.Anchored.TheVariants.{No}
 use Rattle.std.proofs.Common.{arith}
-use Rattle.ac_automaton.proofs.StreamListingLemmas.{reads-on}
+use Rattle.ac_automaton.proofs.stream.StreamListingLemmas.{reads-on}
 use Rattle.ac_automaton.proofs.stream.overlapping.search.read_on.Goals as goal
 
 pub returns-clause-reads : goal.returns-clause-reads

@@ -1,9 +1,9 @@
--- The next slice comes after the next match was found; where the text ended, there is none.
+-- The next match is found first, and then the next slice. Where the text has ended, there is none.
 use Rattle.std.proofs.Common.{subst, sym}
 use Rattle.ac_automaton.specs.Stream.{CanBeCounted, StreamCounts, StreamProgress, read_by}
-use Rattle.ac_automaton.specs.StreamReplacer.{IsAllOut, ReplacerProgress}
-use Rattle.ac_automaton.proofs.StreamReplacerLemmas.{advance-none, come_to, look-pass, over-out, passes-search}
-use Rattle.ac_automaton.proofs.StreamSearchLemmas.{counts-none}
+use Rattle.ac_automaton.specs.Stream.StreamReplacer.{IsAllOut, ReplacerProgress}
+use Rattle.ac_automaton.proofs.stream.StreamReplacerLemmas.{advance-none, replacer_progress_of, look-pass, over-out, passes-search}
+use Rattle.ac_automaton.proofs.stream.StreamSearchLemmas.{counts-none}
 use Rattle.ac_automaton.proofs.stream.replacer.StreamReplacer.advance.Goals.{then-self-via-then-self, then-self-via-else-self+then-is_over}
 use Rattle.ac_automaton.proofs.stream.replacer.StreamReplacer.advance.Goals as goal
 
@@ -12,7 +12,7 @@ returns-then-self-clause-counts g c = counts-none c.args.self.now.search c.args.
 
 pub returns-then-self-clause-advances : goal.returns-then-self-clause-advances
 returns-then-self-clause-advances g c = advance-none c.args.self.now (λ few replacements. elim c.then-self.branch [
-  | then-self-via-then-self w ↦ subst (λ (r : ReplacerProgress). IsAllOut r replacements) c.self.view_is (over-out (come_to c.self.inside) c.self.invariant w.if-self.true replacements)
+  | then-self-via-then-self w ↦ subst (λ (r : ReplacerProgress). IsAllOut r replacements) c.self.view_is (over-out (replacer_progress_of c.self.inside) c.self.invariant w.if-self.true replacements)
   | then-self-via-else-self+then-is_over w ↦ absurd (w.is_over.ensures.over w.if-is_over.true (subst (λ (r : ReplacerProgress). CanBeCounted (read_by r.search)) (sym c.self.view_is) few))
 ])
 

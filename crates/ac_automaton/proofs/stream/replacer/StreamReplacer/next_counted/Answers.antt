@@ -1,4 +1,4 @@
--- There is a replacement for each pattern as before: the search has the same automaton.
+-- There is still a replacement for each pattern, as the search keeps its automaton.
 use Rattle.std.proofs.Common.{[], length, ap, sym, ◌∙◌}
 use Rattle.ac_automaton.specs.Automaton.{Built}
 use Rattle.ac_automaton.proofs.stream.replacer.StreamReplacer.next_counted.Goals as goal

@@ -1,15 +1,15 @@
--- The next slice is what was read up to the place, or the replacement of the match that begins there.
+-- The next slice is the text read up to the place, or the replacement of the match that begins there.
 use Rattle.std.proofs.Common.{◌≡◌, ◌≤◌, ℕ, None, Some, sym, ap, subst, ◌∙◌}
 use Rattle.ac_automaton.specs.Stream.{AreAllGiven, CanBeCounted, read_by}
-use Rattle.ac_automaton.specs.StreamReplacer.{TakesPart, ReplacerProgress, ends_there, decided_to}
+use Rattle.ac_automaton.specs.Stream.StreamReplacer.{TakesPart, ReplacerProgress, ends_there, decided_to}
 use Rattle.ac_automaton.specs.declared.stream.replacer.Part.TheVariants.{Text, Replacement}
-use Rattle.ac_automaton.proofs.StreamReplacerLemmas.{come_to, pass-none, pass-replacement, pass-text, text-right}
+use Rattle.ac_automaton.proofs.stream.StreamReplacerLemmas.{replacer_progress_of, pass-none, pass-replacement, pass-text, text-right}
 use Rattle.ac_automaton.proofs.stream.replacer.StreamReplacer.pass.Goals as goal
 
 pub invariant_of-self : goal.invariant_of-self
 invariant_of-self g c =
     let was = sym c.self.view_is in
-    text-right (come_to c.self.inside) c.place-to.result c.self.invariant (ap (λ (r : ReplacerProgress). r.over) c.self.view_is ∙ c.requires.open) (subst (λ (r : ReplacerProgress). CanBeCounted (read_by r.search)) was c.requires.few) c.if-self-to.true
+    text-right (replacer_progress_of c.self.inside) c.place-to.result c.self.invariant (ap (λ (r : ReplacerProgress). r.over) c.self.view_is ∙ c.requires.open) (subst (λ (r : ReplacerProgress). CanBeCounted (read_by r.search)) was c.requires.few) c.if-self-to.true
     (c.place-to.ensures ∙ ap (λ (r : ReplacerProgress). decided_to r.search r.met r.finished) was)
     (subst (λ (r : ReplacerProgress). r.met ≡ None → AreAllGiven r.search) was c.requires.all) c.ends-ends.result
     (c.ends-ends.ensures ∙ ap (λ (r : ReplacerProgress). ends_there r.met r.finished) was)
@@ -17,15 +17,15 @@ invariant_of-self g c =
 pub returns-then-self-to : goal.returns-then-self-to
 returns-then-self-to g c =
     let was = sym c.self.view_is in
-    subst (λ (r : ReplacerProgress). TakesPart r (record (come_to c.self.inside) { at = c.place-to.result; over = c.ends-ends.result }) (Some (Text c.self.inside.at c.place-to.result))) c.self.view_is
-    (pass-text (come_to c.self.inside) c.place-to.result c.self.invariant (ap (λ (r : ReplacerProgress). r.over) c.self.view_is ∙ c.requires.open) (subst (λ (r : ReplacerProgress). CanBeCounted (read_by r.search)) was c.requires.few) c.if-self-to.true
+    subst (λ (r : ReplacerProgress). TakesPart r (record (replacer_progress_of c.self.inside) { at = c.place-to.result; over = c.ends-ends.result }) (Some (Text c.self.inside.at c.place-to.result))) c.self.view_is
+    (pass-text (replacer_progress_of c.self.inside) c.place-to.result c.self.invariant (ap (λ (r : ReplacerProgress). r.over) c.self.view_is ∙ c.requires.open) (subst (λ (r : ReplacerProgress). CanBeCounted (read_by r.search)) was c.requires.few) c.if-self-to.true
     (c.place-to.ensures ∙ ap (λ (r : ReplacerProgress). decided_to r.search r.met r.finished) was) c.ends-ends.result)
 
 pub returns : goal.returns
 returns g c =
     let was = sym c.self.view_is in
-    subst (λ (r : ReplacerProgress). TakesPart r (record (come_to c.self.inside) { at = c.end-self-inside.result; met = None }) (Some (Replacement c.pattern.result))) c.self.view_is
-    (pass-replacement (come_to c.self.inside) c.in-Some.found c.end-self-inside.result c.pattern.result c.self.invariant (ap (λ (r : ReplacerProgress). r.over) c.self.view_is ∙ c.requires.open) (subst (λ (r : ReplacerProgress). CanBeCounted (read_by r.search)) was c.requires.few) c.in-Some.is
+    subst (λ (r : ReplacerProgress). TakesPart r (record (replacer_progress_of c.self.inside) { at = c.end-self-inside.result; met = None }) (Some (Replacement c.pattern.result))) c.self.view_is
+    (pass-replacement (replacer_progress_of c.self.inside) c.in-Some.found c.end-self-inside.result c.pattern.result c.self.invariant (ap (λ (r : ReplacerProgress). r.over) c.self.view_is ∙ c.requires.open) (subst (λ (r : ReplacerProgress). CanBeCounted (read_by r.search)) was c.requires.few) c.in-Some.is
     (subst (λ (k : ℕ). k ≤ c.self.inside.at) (c.place-to.ensures ∙ ap (λ (r : ReplacerProgress). decided_to r.search r.met r.finished) was) c.if-self-to.false) c.end-self-inside.ensures.value c.pattern.ensures)
 
 pub returns-in_default : goal.returns-in_default
@@ -36,7 +36,7 @@ returns-in_default g c =
       ap (λ (r : ReplacerProgress). r.finished) is,
       ap (λ (r : ReplacerProgress). r.at) is,
       ap (λ (r : ReplacerProgress). r.met) is,
-      pass-none (come_to c.self.inside) c.ends-ends.result c.self.invariant (ap (λ (r : ReplacerProgress). r.over) is ∙ c.requires.open) (subst (λ (r : ReplacerProgress). CanBeCounted (read_by r.search)) was c.requires.few)
+      pass-none (replacer_progress_of c.self.inside) c.ends-ends.result c.self.invariant (ap (λ (r : ReplacerProgress). r.over) is ∙ c.requires.open) (subst (λ (r : ReplacerProgress). CanBeCounted (read_by r.search)) was c.requires.few)
           (subst (λ (r : ReplacerProgress). r.met ≡ None → AreAllGiven r.search) was c.requires.all) c.in_default.is
           (subst (λ (k : ℕ). k ≤ c.self.inside.at) (c.place-to.ensures ∙ ap (λ (r : ReplacerProgress). decided_to r.search r.met r.finished) was) c.if-self-to.false),
     )

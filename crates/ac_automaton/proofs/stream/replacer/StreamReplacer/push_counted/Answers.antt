@@ -1,5 +1,5 @@
--- A push goes to the search, unless there is text to hand out.
-use Rattle.ac_automaton.proofs.StreamSearchLemmas.{counts-none}
+-- A push goes to the search, unless some text is still to be handed out.
+use Rattle.ac_automaton.proofs.stream.StreamSearchLemmas.{counts-none}
 use Rattle.ac_automaton.proofs.stream.replacer.StreamReplacer.push_counted.Goals as goal
 
 pub returns-then-waits-clause-counts : goal.returns-then-waits-clause-counts

@@ -1,10 +1,10 @@
--- The first bytes of a piece are kept after what was held.
+-- The first bytes of a piece are held after the bytes held before.
 use Rattle.std.proofs.Common.{◌-◌, length, nat_lt, take, ap, subst, sym, ◌∙◌, arith}
 use Rattle.ac_input.specs.declared.search.Anchored.TheVariants.{No}
 use Rattle.ac_automaton.specs.Stream.{IsSearched, StreamProgress, read_by, room_of}
-use Rattle.ac_automaton.specs.StreamPush.{TakesBytes, TakesFront}
-use Rattle.ac_automaton.proofs.AheadLemmas.{blank-notes}
-use Rattle.ac_automaton.proofs.StreamPushLemmas.{HasPushed, not-empty, push-gave, pushed_by}
+use Rattle.ac_automaton.specs.Stream.StreamPush.{TakesBytes, TakesFront}
+use Rattle.ac_automaton.proofs.ahead.AheadLemmas.{blank-notes}
+use Rattle.ac_automaton.proofs.stream.StreamPushLemmas.{HasPushed, not-empty, push-gave, pushed_by}
 use Rattle.ac_automaton.proofs.stream.search.StreamSearch.append.Given.{Over}
 use Rattle.ac_automaton.proofs.stream.search.StreamSearch.append.Goals as goal
 use Rattle.std.specs.Prelude.{◌+◌, ◌<◌}

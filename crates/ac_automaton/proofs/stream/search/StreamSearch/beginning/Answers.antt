@@ -1,10 +1,10 @@
 -- A search that has read nothing stands in the start state, and its buffer holds nothing.
 use Rattle.std.proofs.Common.{subst, sym, [], false, None}
 use Rattle.ac_input.specs.declared.search.Anchored.TheVariants.{No}
-use Rattle.ac_automaton.specs.StreamSearch.{IsStreamSearch}
+use Rattle.ac_automaton.specs.Stream.StreamSearch.{IsStreamSearch}
 use Rattle.ac_automaton.specs.Stream.{IsOnCourse, StreamProgress}
-use Rattle.ac_automaton.proofs.AheadLemmas.{blank-notes}
-use Rattle.ac_automaton.proofs.StreamSearchLemmas.{fresh-right, fresh-view}
+use Rattle.ac_automaton.proofs.ahead.AheadLemmas.{blank-notes}
+use Rattle.ac_automaton.proofs.stream.StreamSearchLemmas.{fresh-right, fresh-view}
 use Rattle.ac_automaton.proofs.stream.search.StreamSearch.beginning.Goals as goal
 
 pub invariant_of-result : goal.invariant_of-result

@@ -1,10 +1,10 @@
--- What a read gave is kept after what was held.
+-- The bytes of a read are held after the bytes held before.
 use Rattle.std.proofs.Common.{[], ◌-◌, ◌∙◌, ap, length, nat_lt, subst, arith}
 use Rattle.std.proofs.lemmas.List.{take_rest}
 use Rattle.ac_input.specs.declared.search.Anchored.TheVariants.{No}
 use Rattle.ac_automaton.specs.Stream.{HasRead, StreamProgress}
-use Rattle.ac_automaton.proofs.AheadLemmas.{blank-notes}
-use Rattle.ac_automaton.proofs.StreamSearchLemmas.{HasFilled, fill-failed, fill-gave, filled_by}
+use Rattle.ac_automaton.proofs.ahead.AheadLemmas.{blank-notes}
+use Rattle.ac_automaton.proofs.stream.StreamSearchLemmas.{HasFilled, fill-failed, fill-gave, filled_by}
 use Rattle.ac_automaton.proofs.stream.search.StreamSearch.fill.Given.{Over}
 use Rattle.ac_automaton.proofs.stream.search.StreamSearch.fill.Goals as goal
 

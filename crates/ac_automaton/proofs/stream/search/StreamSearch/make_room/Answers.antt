@@ -1,10 +1,10 @@
--- What is after the cut is moved to the front.
+-- The bytes after the cut are moved to the front.
 use Rattle.std.proofs.Common.{sym, ap, ◌∙◌}
 use Rattle.ac_input.specs.declared.search.Anchored.TheVariants.{No}
 use Rattle.ac_automaton.specs.Stream.{cut_of}
-use Rattle.ac_automaton.specs.StreamSearch.{progress_at}
-use Rattle.ac_automaton.proofs.AheadLemmas.{blank-notes}
-use Rattle.ac_automaton.proofs.StreamSearchLemmas.{counts-none, roll-right}
+use Rattle.ac_automaton.specs.Stream.StreamSearch.{progress_at}
+use Rattle.ac_automaton.proofs.ahead.AheadLemmas.{blank-notes}
+use Rattle.ac_automaton.proofs.stream.StreamSearchLemmas.{counts-none, roll-right}
 use Rattle.ac_automaton.proofs.stream.search.StreamSearch.make_room.Goals as goal
 
 pub returns-else-is_full-clause-counts : goal.returns-else-is_full-clause-counts

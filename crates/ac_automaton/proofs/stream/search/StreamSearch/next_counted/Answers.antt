@@ -1,10 +1,10 @@
--- The next match of what was read is that of the search over what is held.
+-- The next match of the bytes read is the next of the search over the held bytes.
 use Rattle.std.proofs.Common.{ℕ, List, sym, subst, refl, ◌∙◌}
 use Rattle.ac_input.specs.declared.search.Anchored.TheVariants.{No}
 use Rattle.ac_automaton.specs.Ahead.{AreNotes}
-use Rattle.ac_automaton.specs.StreamSearch.{IsStreamSearch, SearchesOn, progress_at}
+use Rattle.ac_automaton.specs.Stream.StreamSearch.{IsStreamSearch, SearchesOn, progress_at}
 use Rattle.ac_automaton.specs.Stream.{FindsHeld, IsOnCourse, StreamCounts, StreamProgress}
-use Rattle.ac_automaton.proofs.StreamSearchLemmas.{added-done, counts-none, next-counts, next-stream, next-view}
+use Rattle.ac_automaton.proofs.stream.StreamSearchLemmas.{added-done, counts-none, next-counts, next-stream, next-view}
 use Rattle.ac_automaton.proofs.stream.search.StreamSearch.next_counted.Goals as goal
 
 pub returns-then-self-clause-counts : goal.returns-then-self-clause-counts

@@ -1,11 +1,11 @@
--- However far the search had come, it waits on, until the text is dead or no bytes are left.
+-- The search waits on from where it stands, until the text is dead or no byte is left.
 use Rattle.std.proofs.Common.{sym, subst, ◌∙◌, arith}
 use Rattle.std.proofs.lemmas.Bool.{false≢true}
 use Rattle.ac_input.specs.declared.search.Anchored.TheVariants.{No}
-use Rattle.ac_automaton.specs.StreamSearch.{SearchesOn}
+use Rattle.ac_automaton.specs.Stream.StreamSearch.{SearchesOn}
 use Rattle.ac_automaton.specs.declared.stream.search.Searched.{Searched}
-use Rattle.ac_automaton.proofs.CursorLemmas.{list-none}
-use Rattle.ac_automaton.proofs.DecideWalkLemmas.{reads-there, waited-better, waited-closed, waited-dead, waited-none, waited-open, waited-reached, waited-same, waited-state, waited-text}
+use Rattle.ac_automaton.proofs.lemmas.CursorLemmas.{list-none}
+use Rattle.ac_automaton.proofs.stream.DecideWalkLemmas.{reads-there, waited-better, waited-closed, waited-dead, waited-none, waited-open, waited-reached, waited-same, waited-state, waited-text}
 use Rattle.ac_automaton.proofs.stream.search.decide.decide.Goals as goal
 
 pub loop-at-init : goal.loop-at-init

@@ -1,9 +1,9 @@
--- However far the search had come, it has waited since, and the best match that it has met is still to be decided.
+-- The search has waited since it stood there, and its best match is still to be decided.
 use Rattle.std.proofs.Common.{◌+◌, ◌-◌, length}
 use Rattle.ac_input.specs.declared.search.Anchored.TheVariants.{No}
 use Rattle.ac_automaton.specs.Stream.{StreamProgress}
-use Rattle.ac_automaton.specs.StreamWalk.{StandsAfter}
-use Rattle.ac_automaton.proofs.DecideLemmas.{HasWaited}
+use Rattle.ac_automaton.specs.Stream.StreamWalk.{StandsAfter}
+use Rattle.ac_automaton.proofs.stream.DecideLemmas.{HasWaited}
 use Rattle.ac_automaton.proofs.stream.search.decide.decide.Given as goal
 
 abbrev pub invariant-loop-at : goal.invariant-loop-at

@@ -1,6 +1,6 @@
--- The list of what is left begins with the next byte that is in the class.
+-- The bytes that are left begin with the next byte that is in the class.
 use Rattle.std.proofs.Common.{arith, sym, ◌∙◌, ap, length}
-use Rattle.ac_input.proofs.AlphabetLemmas.{elements-in, elements-out}
+use Rattle.ac_input.proofs.alphabet.AlphabetLemmas.{elements-in, elements-out}
 use Rattle.ac_input.proofs.alphabet.byte_classes.ByteClassElementsIterator.next.Goals as goal
 
 pub returns-then-get-self-clause-steps : goal.returns-then-get-self-clause-steps

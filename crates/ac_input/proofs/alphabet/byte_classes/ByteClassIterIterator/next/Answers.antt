@@ -1,6 +1,6 @@
--- The list of what is left begins with what is given.
+-- The classes that are left begin with the one that is returned.
 use Rattle.std.proofs.Common.{◌<◌, arith, sym, ◌∙◌, ap, length}
-use Rattle.ac_input.proofs.AlphabetLemmas.{range-first}
+use Rattle.ac_input.proofs.alphabet.AlphabetLemmas.{range-first}
 use Rattle.ac_input.proofs.alphabet.byte_classes.ByteClassIterIterator.next.Goals as goal
 
 pub returns-clause-steps : goal.returns-clause-steps

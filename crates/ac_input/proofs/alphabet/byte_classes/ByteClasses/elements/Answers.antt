@@ -1,4 +1,4 @@
--- All of the 256 bytes are left.
+-- At the start all 256 bytes are left.
 use Rattle.std.proofs.Common.{refl}
 use Rattle.ac_input.specs.Alphabet.{elements}
 use Rattle.ac_input.proofs.alphabet.byte_classes.ByteClasses.elements.Goals as goal

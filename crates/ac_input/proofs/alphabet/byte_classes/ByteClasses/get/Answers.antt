@@ -1,6 +1,6 @@
--- The last byte has the last class.
+-- The last byte has the greatest class.
 use Rattle.std.proofs.Common.{arith}
-use Rattle.ac_input.proofs.AlphabetLemmas.{class-within}
+use Rattle.ac_input.proofs.alphabet.AlphabetLemmas.{class-within}
 use Rattle.ac_input.proofs.alphabet.byte_classes.ByteClasses.get.Goals as goal
 
 pub returns-clause-fits : goal.returns-clause-fits

@@ -1,6 +1,6 @@
--- In each arm the exponent before isn't enough.
+-- In each arm the exponent below the result isn't enough.
 use Rattle.std.proofs.Common.{arith}
-use Rattle.ac_input.proofs.AlphabetLemmas.{IsLeastExponent-next}
+use Rattle.ac_input.proofs.alphabet.AlphabetLemmas.{IsLeastExponent-next}
 use Rattle.ac_input.proofs.alphabet.byte_classes.ByteClasses.stride2.Goals as goal
 
 pub returns-in-1-clause-value : goal.returns-in-1-clause-value

@@ -1,4 +1,4 @@
-use Rattle.ac_input.proofs.AlphabetLemmas.{has-none}
+use Rattle.ac_input.proofs.alphabet.AlphabetLemmas.{has-none}
 use Rattle.ac_input.proofs.alphabet.byte_set.ByteSet.empty.Goals as goal
 
 pub returns : goal.returns

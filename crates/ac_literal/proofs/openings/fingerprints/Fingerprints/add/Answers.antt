@@ -1,9 +1,9 @@
 -- The bit of the fingerprint is set, and the others stay.
 use Rattle.std.proofs.Common.{◌≡◌, ◌/◌, ◌%◌, refl, subst, arith, get_or}
 use Rattle.std.specs.Int.{bit_at}
-use Rattle.ac_literal.specs.Fingerprints.{print_of}
-use Rattle.ac_literal.proofs.BucketLemmas.{with_bucket}
-use Rattle.ac_literal.proofs.FingerprintLemmas.{added-own, added-kept}
+use Rattle.ac_literal.specs.Openings.Fingerprints.{print_of}
+use Rattle.ac_literal.proofs.packed.BucketLemmas.{with_bucket}
+use Rattle.ac_literal.proofs.openings.FingerprintLemmas.{added-own, added-kept}
 use Rattle.ac_literal.proofs.openings.fingerprints.Fingerprints.add.Goals as goal
 
 pub returns-clause-own : goal.returns-clause-own

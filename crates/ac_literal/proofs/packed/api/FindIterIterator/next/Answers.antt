@@ -1,7 +1,7 @@
--- What is left of the walk begins with the match that is found.
+-- The rest of the walk begins with the match that is found.
 use Rattle.std.proofs.Common.{ap, sym, ◌∙◌, length, arith}
 use Rattle.ac_literal.specs.Packed.{search_kind}
-use Rattle.ac_literal.proofs.NextLemmas.{walk-some, walk-none}
+use Rattle.ac_literal.proofs.packed.NextLemmas.{walk-some, walk-none}
 use Rattle.ac_literal.proofs.packed.api.FindIterIterator.next.Goals as goal
 
 pub returns-in_err-found-clause-steps : goal.returns-in_err-found-clause-steps

@@ -2,7 +2,7 @@
 use Rattle.std.proofs.Common.{List, Bor, ℕ, map}
 use Rattle.std.proofs.lemmas.Result.{IfOk-weaker}
 use Rattle.ac_literal.specs.declared.packed.api.MatchKind.TheVariants.{LeftmostFirst}
-use Rattle.ac_literal.proofs.PatternLemmas.{built-fresh}
+use Rattle.ac_literal.proofs.packed.PatternLemmas.{built-fresh}
 use Rattle.ac_literal.proofs.packed.api.Searcher.new.Goals as goal
 
 abbrev text_of : Bor (List ℕ) → List ℕ

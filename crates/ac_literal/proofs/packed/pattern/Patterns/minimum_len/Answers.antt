@@ -1,8 +1,8 @@
--- The least length of the patterns so far.
+-- The result is the least length of the patterns so far.
 use Rattle.std.proofs.Common.{◌≡◌, ◌++◌, ◌∷◌, [], List, ℕ, Vec, Global, ap, ap₂, sym, ◌∙◌, take, map, min, length, arith}
 use Rattle.std.proofs.lemmas.List.{map_more, take_all}
 use Rattle.ac_input.specs.Work.{shortest}
-use Rattle.ac_literal.proofs.PatternLemmas.{shortest-push}
+use Rattle.ac_literal.proofs.packed.PatternLemmas.{shortest-push}
 use Rattle.ac_literal.proofs.packed.pattern.Patterns.minimum_len.Goals as goal
 
 abbrev bytes_of : Vec ℕ Global → List ℕ

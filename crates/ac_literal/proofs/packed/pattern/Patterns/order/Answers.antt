@@ -1,7 +1,7 @@
 -- Each number is put at its place.
 use Rattle.std.proofs.Common.{◌≡◌, ℕ, length, subst, arith}
-use Rattle.ac_literal.specs.RabinKarp.{IsOrder}
-use Rattle.ac_literal.proofs.PreferenceLemmas.{IsOrder-more}
+use Rattle.ac_literal.specs.Packed.RabinKarp.{IsOrder}
+use Rattle.ac_literal.proofs.packed.PreferenceLemmas.{IsOrder-more}
 use Rattle.ac_literal.proofs.packed.pattern.Patterns.order.Goals as goal
 
 pub loop-number-preserved : goal.loop-number-preserved

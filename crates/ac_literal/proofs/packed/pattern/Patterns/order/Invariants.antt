@@ -1,4 +1,4 @@
-use Rattle.ac_literal.specs.RabinKarp.{IsOrder}
+use Rattle.ac_literal.specs.Packed.RabinKarp.{IsOrder}
 use Rattle.ac_literal.proofs.packed.pattern.Patterns.order.Given as goal
 
 abbrev pub invariant-loop-number : goal.invariant-loop-number

@@ -1,9 +1,9 @@
--- The first number that is preferred ends the search.
+-- The first number that is preferred to the new one ends the search.
 use Rattle.std.proofs.Common.{◌≡◌, ℕ, get_or, sym, ap, ◌∙◌, inl, inr, arith}
 use Rattle.std.proofs.lemmas.Bool.{cases_lt}
 use Rattle.std.proofs.lemmas.List.{get_or_read}
-use Rattle.ac_literal.specs.RabinKarp.{IsNoLater}
-use Rattle.ac_literal.proofs.PreferenceLemmas.{place-found, no_later-from, less-from_test, test-from_less}
+use Rattle.ac_literal.specs.Packed.RabinKarp.{IsNoLater}
+use Rattle.ac_literal.proofs.packed.PreferenceLemmas.{place-found, no_later-from, less-from_test, test-from_less}
 use Rattle.ac_literal.proofs.packed.pattern.Patterns.place_of.Goals as goal
 
 pub returns-then-is_lt : goal.returns-then-is_lt

@@ -1,5 +1,5 @@
 use Rattle.std.proofs.Common.{ℕ, ◌<◌, get_or}
-use Rattle.ac_literal.specs.RabinKarp.{IsNoLater}
+use Rattle.ac_literal.specs.Packed.RabinKarp.{IsNoLater}
 use Rattle.ac_literal.proofs.packed.pattern.Patterns.place_of.Given as goal
 
 abbrev pub invariant-loop-i : goal.invariant-loop-i

@@ -1,9 +1,9 @@
--- The bucket of the place's hash, an entry at a time.
+-- The bucket of the place's hash is searched, one entry at a time.
 use Rattle.std.proofs.Common.{◌≡◌, sym, ◌∙◌, arith}
 use Rattle.ac_input.specs.Occurrence.{StartsAt}
 use Rattle.ac_input.specs.Best.{IsLeast}
 use Rattle.ac_literal.specs.Packed.{search_kind, part_search}
-use Rattle.ac_literal.proofs.TableLemmas.{search-head, search-next, search-found, search-none, when_found, when_absent}
+use Rattle.ac_literal.proofs.packed.TableLemmas.{search-head, search-next, search-found, search-none, when_found, when_absent}
 use Rattle.ac_literal.proofs.packed.rabinkarp.RabinKarp.find_at.Goals as goal
 
 pub loop-link-init : goal.loop-link-init

@@ -1,5 +1,5 @@
-use Rattle.ac_literal.specs.RabinKarp.{bucket_of}
-use Rattle.ac_literal.proofs.TableLemmas.{IsOpen}
+use Rattle.ac_literal.specs.Packed.RabinKarp.{bucket_of}
+use Rattle.ac_literal.proofs.packed.TableLemmas.{IsOpen}
 use Rattle.ac_literal.proofs.packed.rabinkarp.RabinKarp.find_at.Given as goal
 
 abbrev pub invariant-loop-link : goal.invariant-loop-link

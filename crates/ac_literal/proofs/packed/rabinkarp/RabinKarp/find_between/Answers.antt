@@ -1,8 +1,8 @@
--- The first place at which something is found.
+-- The first place at which a pattern lies has the match.
 use Rattle.std.proofs.Common.{◌≢◌, true, sym, ◌∙◌, arith}
 use Rattle.std.specs.Prelude.{is_some}
 use Rattle.ac_literal.specs.Packed.{part_search}
-use Rattle.ac_literal.proofs.FindLemmas.{found-first, found-place, starts-later, hash-roll}
+use Rattle.ac_literal.proofs.packed.FindLemmas.{found-first, found-place, starts-later, hash-roll}
 use Rattle.ac_literal.proofs.packed.rabinkarp.RabinKarp.find_between.Goals as goal
 
 pub returns-then-is_some : goal.returns-then-is_some

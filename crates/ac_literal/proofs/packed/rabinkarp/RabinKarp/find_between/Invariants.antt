@@ -1,7 +1,7 @@
 use Rattle.std.proofs.Common.{◌≡◌, ◌+◌, ◌-◌, ◌≤◌}
 use Rattle.std.specs.Prelude.{slice_range}
 use Rattle.ac_literal.specs.Packed.{part_search}
-use Rattle.ac_literal.specs.RabinKarp.{hash_of, NoneBefore}
+use Rattle.ac_literal.specs.Packed.RabinKarp.{hash_of, NoneBefore}
 use Rattle.ac_literal.proofs.packed.rabinkarp.RabinKarp.find_between.Given as goal
 
 abbrev pub invariant-loop-at : goal.invariant-loop-at

@@ -1,9 +1,9 @@
--- The entries so far, one for each number of the order.
+-- There is one entry for each number of the order so far.
 use Rattle.std.proofs.Common.{◌≡◌, ◌+◌, ◌<◌, ◌≤◌, ℕ, List, get_or, length, take, ap, sym, refl, ◌∙◌, arith}
 use Rattle.std.proofs.lemmas.List.{get_or_read, length-take-le, length-set, length_push}
-use Rattle.ac_literal.specs.RabinKarp.{hash_of, IsOrder}
-use Rattle.ac_literal.proofs.PatternLemmas.{shortest-least, shortest-full}
-use Rattle.ac_literal.proofs.TableLemmas.{AreEntries-none, AreEntries-push}
+use Rattle.ac_literal.specs.Packed.RabinKarp.{hash_of, IsOrder}
+use Rattle.ac_literal.proofs.packed.PatternLemmas.{shortest-least, shortest-full}
+use Rattle.ac_literal.proofs.packed.TableLemmas.{AreEntries-none, AreEntries-push}
 use Rattle.ac_literal.proofs.packed.rabinkarp.RabinKarp.new.Goals as goal
 
 pub loop-number-init : goal.loop-number-init

@@ -1,5 +1,5 @@
 use Rattle.std.proofs.Common.{◌≡◌, length}
-use Rattle.ac_literal.specs.RabinKarp.{AreEntries}
+use Rattle.ac_literal.specs.Packed.RabinKarp.{AreEntries}
 use Rattle.ac_literal.proofs.packed.rabinkarp.RabinKarp.new.Given as goal
 
 abbrev pub invariant-loop-number : goal.invariant-loop-number

@@ -1,6 +1,6 @@
--- Where no pattern has room any more, none is left.
+-- Where no pattern has room any more, none can occur.
 use Rattle.std.proofs.Common.{arith}
-use Rattle.ac_literal.proofs.FindLemmas.{occurs-long}
+use Rattle.ac_literal.proofs.packed.FindLemmas.{occurs-long}
 use Rattle.ac_literal.proofs.packed.scanner.Scanner.find_in.Goals as goal
 
 pub returns-then-span-len : goal.returns-then-span-len

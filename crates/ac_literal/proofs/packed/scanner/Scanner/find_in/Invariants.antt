@@ -1,6 +1,6 @@
 use Rattle.std.proofs.Common.{◌+◌, ◌-◌, ◌≤◌}
 use Rattle.ac_literal.specs.Packed.{part_search}
-use Rattle.ac_literal.specs.RabinKarp.{NoneBefore}
+use Rattle.ac_literal.specs.Packed.RabinKarp.{NoneBefore}
 use Rattle.ac_literal.proofs.packed.scanner.Scanner.find_in.Given as goal
 
 abbrev pub invariant-loop-at : goal.invariant-loop-at

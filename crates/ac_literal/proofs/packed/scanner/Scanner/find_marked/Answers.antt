@@ -1,9 +1,9 @@
--- The lowest mark at which something is found.
+-- The lowest mark at which a pattern lies has the match.
 use Rattle.std.proofs.Common.{◌≢◌, ◌+◌, true, sym, ◌∙◌, arith}
 use Rattle.std.specs.Prelude.{is_some}
 use Rattle.ac_literal.specs.Packed.{part_search}
-use Rattle.ac_literal.proofs.FindLemmas.{found-first, starts-later}
-use Rattle.ac_literal.proofs.TeddyLemmas.{none-lowest, marks-left}
+use Rattle.ac_literal.proofs.packed.FindLemmas.{found-first, starts-later}
+use Rattle.ac_literal.proofs.packed.TeddyLemmas.{none-lowest, marks-left}
 use Rattle.ac_literal.proofs.packed.scanner.Scanner.find_marked.Goals as goal
 
 pub returns-then-is_some : goal.returns-then-is_some

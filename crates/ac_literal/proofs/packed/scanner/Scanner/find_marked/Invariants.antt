@@ -1,6 +1,6 @@
 use Rattle.std.proofs.Common.{◌<◌}
 use Rattle.ac_literal.specs.Packed.{part_search}
-use Rattle.ac_literal.specs.Teddy.{HasMarks}
+use Rattle.ac_literal.specs.Packed.Teddy.{HasMarks}
 use Rattle.ac_literal.proofs.packed.scanner.Scanner.find_marked.Given as goal
 
 abbrev pub invariant-loop-left : goal.invariant-loop-left

@@ -1,10 +1,10 @@
--- Blocks without marks are passed, and the marks of the next one are those of what starts in it.
+-- Blocks without marks are passed. The marks of the next block include all that starts in it.
 use Rattle.std.proofs.Common.{◌≡◌, ℕ, List, [], ◌∷◌, sym, subst}
 use Rattle.ac_input.specs.Best.{IsBest}
 use Rattle.ac_literal.specs.Packed.{search_kind, part_search}
-use Rattle.ac_literal.specs.Scanner.{IsOnlyPattern}
-use Rattle.ac_literal.proofs.OnlyLemmas.{found-from}
-use Rattle.ac_literal.proofs.TeddyLemmas.{none-passed, has-marks}
+use Rattle.ac_literal.specs.Packed.Scanner.{IsOnlyPattern}
+use Rattle.ac_literal.proofs.packed.OnlyLemmas.{found-from}
+use Rattle.ac_literal.proofs.packed.TeddyLemmas.{none-passed, has-marks}
 use Rattle.ac_literal.proofs.packed.scanner.Scanner.find_part.Goals as goal
 
 pub find_between-found-requires-then-marks-eq0-clause-none : goal.find_between-found-requires-then-marks-eq0-clause-none

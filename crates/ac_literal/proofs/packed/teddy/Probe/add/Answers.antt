@@ -1,7 +1,7 @@
--- The byte's two halves are the places of the tables that get the bucket.
+-- The byte's two halves select the entries of the tables that get the bucket.
 use Rattle.std.proofs.Common.{get_or, refl, arith}
 use Rattle.std.proofs.lemmas.Nat.{and_mask}
-use Rattle.ac_literal.proofs.BucketLemmas.{probe-own, probe-kept}
+use Rattle.ac_literal.proofs.packed.BucketLemmas.{probe-own, probe-kept}
 use Rattle.ac_literal.proofs.packed.teddy.Probe.add.Goals as goal
 
 pub returns-clause-own : goal.returns-clause-own

@@ -1,6 +1,6 @@
 -- A block without marks is passed.
 use Rattle.std.proofs.Common.{sym, ◌∙◌, arith}
-use Rattle.ac_literal.proofs.TeddyLemmas.{block-passed}
+use Rattle.ac_literal.proofs.packed.TeddyLemmas.{block-passed}
 use Rattle.ac_literal.proofs.packed.teddy.Teddy.next_marks.Goals as goal
 
 pub loop-at-preserved : goal.loop-at-preserved

@@ -1,5 +1,5 @@
 use Rattle.std.proofs.Common.{◌≡◌, ℕ, ◌-◌, ◌<◌, ◌≤◌}
-use Rattle.ac_literal.specs.Teddy.{marked_at}
+use Rattle.ac_literal.specs.Packed.Teddy.{marked_at}
 use Rattle.ac_literal.proofs.packed.teddy.Teddy.next_marks.Given as goal
 
 abbrev pub invariant-loop-at : goal.invariant-loop-at

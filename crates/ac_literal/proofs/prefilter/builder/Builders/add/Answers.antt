@@ -1,8 +1,8 @@
 use Rattle.std.proofs.Common.{List, ℕ, ◌++◌, ◌∷◌, [], sym, subst}
-use Rattle.ac_literal.specs.Needles.{AreFew}
-use Rattle.ac_literal.specs.Strategy.{is_start}
-use Rattle.ac_literal.specs.RareBytes.{IsRareSoFar}
-use Rattle.ac_literal.proofs.BuilderLemmas.{collected-push}
+use Rattle.ac_literal.specs.Prefilter.Needles.{AreFew}
+use Rattle.ac_literal.specs.Prefilter.Strategies.{is_start}
+use Rattle.ac_literal.specs.Prefilter.Rare.{IsRareSoFar}
+use Rattle.ac_literal.proofs.prefilter.BuilderLemmas.{collected-push}
 use Rattle.ac_literal.proofs.prefilter.builder.Builders.add.Goals as goal
 
 pub returns-clause-ok : goal.returns-clause-ok

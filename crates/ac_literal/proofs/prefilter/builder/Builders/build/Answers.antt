@@ -1,15 +1,15 @@
--- If no way is taken, packed search doesn't serve, and start bytes don't.
+-- If no way is taken, neither packed search nor start bytes serve.
 use Rattle.std.proofs.Common.{◌≡◌, false, Option, None, Some, sym, subst, inl, inr}
 use Rattle.std.specs.Option.{is_some}
 use Rattle.std.proofs.lemmas.Bool.{false≢true}
-use Rattle.std.specs.Prelude.{MatchOption}
-use Rattle.ac_literal.specs.Strategy.{AreStarts, AreFull}
-use Rattle.ac_literal.specs.Prefilter.{IsStrategyOf, MemmemServes, PackedServes, StartBytesServe}
+use Rattle.std.specs.Prelude.{MatchOption, List, ℕ}
+use Rattle.ac_literal.specs.Prefilter.Strategies.{AreStarts, AreFull}
+use Rattle.ac_literal.specs.Prefilter.{IsStrategyOf, MemmemServes, PackedServes, AreStartBytes}
 use Rattle.ac_literal.specs.declared.prefilter.needles.Needles.{Needles}
 use Rattle.ac_literal.specs.declared.prefilter.strategy.Strategy.{Strategy}
 use Rattle.ac_literal.proofs.prefilter.builder.Builders.build.Goals as goal
 
--- what is said of none, where there is none
+-- where there is no result, the condition for none holds
 where_none : (N : Type 0) (F : Needles → Type 0) (r : Option Needles) → is_some r ≡ false → MatchOption r N F → N
 where_none N F None e h = h
 where_none N F (Some needles) e h = absurd (false≢true (sym e))
@@ -19,5 +19,5 @@ returns-then-is_none c =
     λ m e collected demand.
     let several : ¬ MemmemServes m = subst (λ (r : Option Strategy). MatchOption r (¬ MemmemServes m) (IsStrategyOf m)) c.in_default.is (c.in_ok-strategy.ensures m e collected) in
     let no_packed : ¬ (AreFull m.patterns × PackedServes m) = subst (λ (r : Option Strategy). MatchOption r (¬ (AreFull m.patterns × PackedServes m)) (IsStrategyOf m)) c.in_default-2.is (c.in_ok-strategy-2.ensures m several collected) in
-    let no_starts : ¬ (AreFull m.patterns × StartBytesServe m) = where_none (¬ (AreFull m.patterns × StartBytesServe m)) (AreStarts m) c.build_start_bytes-starts.result c.if-is_none.ensures (c.build_start_bytes-starts.ensures m collected) in
+    let no_starts : ¬ (AreFull m.patterns × ((bytes : List ℕ) × AreStartBytes m bytes)) = where_none (¬ (AreFull m.patterns × ((bytes : List ℕ) × AreStartBytes m bytes))) (AreStarts m) c.build_start_bytes-starts.result c.if-is_none.ensures (c.build_start_bytes-starts.ensures m collected) in
     elim demand [ inl packed ↦ no_packed packed | inr starts ↦ no_starts starts ]

@@ -1,4 +1,4 @@
-use Rattle.ac_literal.proofs.BuilderLemmas.{rare-serve}
+use Rattle.ac_literal.proofs.prefilter.BuilderLemmas.{rare-serve}
 use Rattle.ac_literal.proofs.prefilter.builder.Builders.build_rare_bytes.Goals as goal
 
 pub returns : goal.returns

@@ -1,6 +1,6 @@
 use Rattle.std.proofs.Common.{◌≡◌, sym, ◌∙◌, ap}
-use Rattle.ac_literal.specs.Needles.{all_ascii}
-use Rattle.ac_literal.proofs.BuilderLemmas.{starts-serve, starts-missed}
+use Rattle.ac_literal.specs.Prefilter.Needles.{all_ascii}
+use Rattle.ac_literal.proofs.prefilter.BuilderLemmas.{starts-serve, starts-missed}
 use Rattle.ac_literal.proofs.prefilter.builder.Builders.build_start_bytes.Goals as goal
 
 pub returns-in_default : goal.returns-in_default

@@ -1,5 +1,5 @@
 use Rattle.std.proofs.Common.{refl}
-use Rattle.ac_input.proofs.ContainsLemmas.{Contains-nil}
+use Rattle.ac_input.proofs.lemmas.ContainsLemmas.{Contains-nil}
 use Rattle.ac_literal.proofs.prefilter.builder.Builders.new.Goals as goal
 
 pub returns : goal.returns

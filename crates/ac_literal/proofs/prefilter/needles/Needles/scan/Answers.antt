@@ -1,5 +1,5 @@
-use Rattle.ac_literal.specs.Needles.{is_needle}
-use Rattle.ac_literal.proofs.SpanLemmas.{none_in_span, first_in_span}
+use Rattle.ac_literal.specs.Prefilter.Needles.{is_needle}
+use Rattle.ac_literal.proofs.prefilter.SpanLemmas.{none_in_span, first_in_span}
 use Rattle.ac_literal.proofs.prefilter.needles.Needles.scan.Goals as goal
 
 pub returns-in_default-clause-found : goal.returns-in_default-clause-found

@@ -1,7 +1,7 @@
 use Rattle.std.proofs.Common.{sym, ap, ◌∙◌, subst}
-use Rattle.ac_literal.specs.Needles.{is_needle, AreNeedles}
+use Rattle.ac_literal.specs.Prefilter.Needles.{is_needle, AreNeedles}
 use Rattle.ac_literal.specs.declared.prefilter.needles.Needles.{Needles}
-use Rattle.ac_literal.proofs.NeedleLemmas.{three-four}
+use Rattle.ac_literal.proofs.prefilter.NeedleLemmas.{three-four}
 use Rattle.ac_literal.proofs.prefilter.needles.Needles.with.Goals as goal
 
 pub returns-in-Three-clause-table : goal.returns-in-Three-clause-table

@@ -1,4 +1,4 @@
-use Rattle.ac_literal.proofs.ChoiceLemmas.{rare-none, near-zeros}
+use Rattle.ac_literal.proofs.prefilter.ChoiceLemmas.{rare-none, near-zeros}
 use Rattle.ac_literal.proofs.prefilter.rare_bytes.RareBytesBuilder.new.Goals as goal
 
 pub returns : goal.returns

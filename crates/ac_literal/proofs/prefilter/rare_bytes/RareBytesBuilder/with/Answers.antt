@@ -1,7 +1,7 @@
 use Rattle.std.proofs.Common.{nat_lt, length, sym, ◌∙◌}
 use Rattle.std.proofs.lemmas.Bool.{false≢true}
 use borrow.Author.Tests.{ltb-true}
-use Rattle.ac_literal.proofs.ChoiceLemmas.{rare-push}
+use Rattle.ac_literal.proofs.prefilter.ChoiceLemmas.{rare-push}
 use Rattle.ac_literal.proofs.prefilter.rare_bytes.RareBytesBuilder.with.Goals as goal
 
 pub returns-else-self : goal.returns-else-self

@@ -1,8 +1,7 @@
 use Rattle.std.proofs.Common.{◌≡◌, ℕ, ◌-◌, ◌≤◌, max, ap, ◌∙◌, arith}
 use Rattle.std.specs.Prelude.{slice_index}
-use Rattle.ac_literal.specs.Strategy.{distance_of}
-use Rattle.ac_literal.proofs.CandidateLemmas.{scanned_none, scanned_some}
-use Rattle.ac_literal.proofs.RareBytesLemmas.{rare_hold, rare_no_earlier}
+use Rattle.ac_literal.proofs.prefilter.CandidateLemmas.{scanned_none, scanned_some}
+use Rattle.ac_literal.proofs.prefilter.RareBytesLemmas.{rare_hold, rare_no_earlier}
 use Rattle.ac_literal.proofs.prefilter.strategy.RareBytes.find_start.Goals as goal
 
 pub returns-in_default : goal.returns-in_default
@@ -17,7 +16,7 @@ returns c =
     λ m rare.
     let near = rare.near (slice_index c.args.haystack.now c.in-Some.at) in
     let low : c.args.span.start ≤ c.in-Some.at = c.in-Some.ensures.found.0.low in
-    let is : c.max.result ≡ max c.args.span.start (c.in-Some.at - distance_of c.args.self.now.distances (slice_index c.args.haystack.now c.in-Some.at)) = c.max.ensures ∙ ap (λ (n : ℕ). max c.args.span.start n) c.saturating_sub.ensures in
+    let is : c.max.result ≡ max c.args.span.start (c.in-Some.at - slice_index c.args.self.now.distances (slice_index c.args.haystack.now c.in-Some.at)) = c.max.ensures ∙ ap (λ (n : ℕ). max c.args.span.start n) c.saturating_sub.ensures in
     scanned_some m c.args.self.now.needles c.args.haystack.now c.args.span c.requires.ordered c.requires.within c.args.steps.now c.scan.new.steps
     (rare_hold m c.args.self.now.needles c.args.self.now.distances c.args.haystack.now c.args.span c.requires.within rare)
     rare.known c.in-Some.at c.max.result c.in-Some.ensures.found c.in-Some.ensures.counted

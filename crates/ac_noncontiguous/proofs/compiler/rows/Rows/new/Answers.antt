@@ -1,9 +1,9 @@
 -- One state after another, each after its failure; then the anchored start.
 use Rattle.std.proofs.Common.{◌≡◌, ◌∙◌, ℕ, ◌+◌, length, sym, ap, subst, arith, slice_index, slice_set}
 use Rattle.std.proofs.lemmas.List.{get_or_read}
-use Rattle.ac_noncontiguous.specs.Layout.{AreOfDead, AreRowsOf}
-use Rattle.ac_noncontiguous.proofs.FailsLemmas.{order-read}
-use Rattle.ac_noncontiguous.proofs.RowLemmas.{have-dead, have-shared}
+use Rattle.ac_noncontiguous.specs.Compiler.Layout.{AreOfDead, AreRowsOf}
+use Rattle.ac_noncontiguous.proofs.trie.FailsLemmas.{order-read}
+use Rattle.ac_noncontiguous.proofs.compiler.RowLemmas.{have-dead, have-shared}
 use Rattle.ac_noncontiguous.proofs.compiler.rows.Rows.new.Goals as goal
 
 pub loop-id-init : goal.loop-id-init

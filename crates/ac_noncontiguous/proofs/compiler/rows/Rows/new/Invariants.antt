@@ -1,4 +1,4 @@
-use Rattle.ac_noncontiguous.specs.Layout.{HaveRows}
+use Rattle.ac_noncontiguous.specs.Compiler.Layout.{HaveRows}
 use Rattle.ac_noncontiguous.proofs.compiler.rows.Rows.new.Given as goal
 
 abbrev pub invariant-loop-id : goal.invariant-loop-id

@@ -1,8 +1,8 @@
--- The row is made from that of the failure.
+-- The row is made from the failure's row.
 use Rattle.std.proofs.Common.{◌≡◌, ◌∙◌, List, ℕ, length, ap, subst, arith, slice_index}
 use Rattle.std.proofs.lemmas.List.{get_or_read}
-use Rattle.ac_noncontiguous.specs.Layout.{AreWithFailures}
-use Rattle.ac_noncontiguous.proofs.RowLemmas.{lead-alike, failures-alike, failure-within, have-more}
+use Rattle.ac_noncontiguous.specs.Compiler.Layout.{AreWithFailures}
+use Rattle.ac_noncontiguous.proofs.compiler.RowLemmas.{lead-alike, failures-alike, failure-within, have-more}
 use Rattle.ac_noncontiguous.proofs.compiler.rows.Rows.push_state.Goals as goal
 
 pub with_failures-leads-requires : goal.with_failures-leads-requires

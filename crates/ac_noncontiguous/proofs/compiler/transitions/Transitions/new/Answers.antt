@@ -1,7 +1,7 @@
--- One state after another.
+-- The transitions of one state after another are appended.
 use Rattle.std.proofs.Common.{◌≡◌, ◌∷◌, ◌++◌, [], List, ℕ, ◌+◌, length, subst, sym, ap, ◌∙◌, arith}
-use Rattle.ac_noncontiguous.specs.Layout.{AreLaidOut}
-use Rattle.ac_noncontiguous.proofs.LayoutLemmas.{laid-more}
+use Rattle.ac_noncontiguous.specs.Compiler.Layout.{AreLaidOut}
+use Rattle.ac_noncontiguous.proofs.compiler.LayoutLemmas.{laid-more}
 use Rattle.ac_noncontiguous.proofs.compiler.transitions.Transitions.new.Goals as goal
 
 pub loop-state-preserved : goal.loop-state-preserved

@@ -1,4 +1,4 @@
-use Rattle.ac_noncontiguous.specs.Layout.{AreLaidOut}
+use Rattle.ac_noncontiguous.specs.Compiler.Layout.{AreLaidOut}
 use Rattle.ac_noncontiguous.proofs.compiler.transitions.Transitions.new.Given as goal
 
 abbrev pub invariant-loop-state : goal.invariant-loop-state

@@ -1,5 +1,5 @@
-use Rattle.ac_noncontiguous.proofs.IdleLemmas.{between-matching}
-use Rattle.ac_noncontiguous.proofs.PassingLemmas.{may-read-by}
+use Rattle.ac_noncontiguous.proofs.nfa.IdleLemmas.{between-matching}
+use Rattle.ac_noncontiguous.proofs.nfa.PassingLemmas.{may-read-by}
 use Rattle.ac_noncontiguous.proofs.nfa.automaton.NFAAutomaton.advance_to_match.Goals as goal
 
 pub read_to-requires-clause-may : goal.read_to-requires-clause-may

@@ -1,6 +1,6 @@
 use Rattle.std.proofs.Common.{◌∙◌, sym}
 use Rattle.std.proofs.lemmas.Bool.{eqb-true, eq-eqb}
-use Rattle.ac_noncontiguous.proofs.ReadLemmas.{dead-said}
+use Rattle.ac_noncontiguous.proofs.nfa.ReadLemmas.{dead-said}
 use Rattle.ac_noncontiguous.proofs.nfa.automaton.NFAAutomaton.is_dead.Goals as goal
 
 pub returns : goal.returns

@@ -1,6 +1,6 @@
 use Rattle.std.proofs.Common.{arith}
 use Rattle.std.proofs.lemmas.Bool.{leb-true, le-leb}
-use Rattle.ac_noncontiguous.proofs.ReadLemmas.{state-matches, state-many}
+use Rattle.ac_noncontiguous.proofs.nfa.ReadLemmas.{state-matches, state-many}
 use Rattle.ac_noncontiguous.proofs.nfa.automaton.NFAAutomaton.is_match.Goals as goal
 
 pub returns-then-as_usize-gt-FAIL : goal.returns-then-as_usize-gt-FAIL

@@ -1,8 +1,8 @@
--- What a start says, and where nothing is live.
+-- The test for a start: either start passes it, and no other state does.
 use Rattle.std.proofs.Common.{◌≢◌, ◌+◌, ℕ, Bool, sym, ap, ap₂, ◌∙◌, inl}
 use Rattle.std.specs.Prelude.{◌==◌, ◌||◌}
 use Rattle.std.proofs.lemmas.Bool.{ne_eqb, eq-eqb}
-use Rattle.ac_noncontiguous.proofs.ReadLemmas.{start-has, start-said}
+use Rattle.ac_noncontiguous.proofs.nfa.ReadLemmas.{start-has, start-said}
 use Rattle.ac_noncontiguous.proofs.nfa.automaton.NFAAutomaton.is_start.Goals as goal
 
 pub returns-then-at-start-clause-tells : goal.returns-then-at-start-clause-tells

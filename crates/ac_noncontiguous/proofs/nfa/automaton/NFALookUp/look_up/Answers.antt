@@ -1,4 +1,4 @@
-use Rattle.ac_noncontiguous.proofs.ReadLemmas.{state-visited, next-read, next-cost}
+use Rattle.ac_noncontiguous.proofs.nfa.ReadLemmas.{state-visited, next-read, next-cost}
 use Rattle.ac_noncontiguous.proofs.nfa.automaton.NFALookUp.look_up.Goals as goal
 
 pub next-requires : goal.next-requires

@@ -1,7 +1,7 @@
 use Rattle.std.proofs.Common.{ap, sym, ◌∙◌, List, ℕ, ◌∷◌, [], ◌++◌, length, arith}
 use Rattle.ac_input.specs.Work.{longest, shortest}
-use Rattle.ac_literal.proofs.PatternLemmas.{shortest-push}
-use Rattle.ac_noncontiguous.proofs.PatternLensLemmas.{longest-more, lens-more}
+use Rattle.ac_literal.proofs.packed.PatternLemmas.{shortest-push}
+use Rattle.ac_noncontiguous.proofs.nfa.PatternLensLemmas.{longest-more, lens-more}
 use Rattle.ac_noncontiguous.proofs.nfa.pattern_lens.PatternLens.add.Goals as goal
 use Rattle.std.specs.Prelude.{map}
 

@@ -1,5 +1,5 @@
 use Rattle.std.proofs.Common.{◌-◌}
-use Rattle.ac_noncontiguous.proofs.LookupLemmas.{IsHalved}
+use Rattle.ac_noncontiguous.proofs.nfa.LookupLemmas.{IsHalved}
 use Rattle.ac_noncontiguous.proofs.nfa.tables.Tables.find.Given as goal
 
 abbrev pub invariant-loop-low : goal.invariant-loop-low

@@ -1,8 +1,8 @@
 use Rattle.std.proofs.Common.{◌∙◌, sym, subst, ap, arith}
-use Rattle.ac_noncontiguous.specs.Nfa.{depth_of}
-use Rattle.ac_noncontiguous.specs.Lookups.{IsKept, StepsTo}
-use Rattle.ac_noncontiguous.proofs.NextLemmas.{kept-fail, kept-shallower, followed-none, followed-more, followed-end}
-use Rattle.ac_noncontiguous.proofs.OverLemmas.{followed-over}
+use Rattle.ac_noncontiguous.specs.Nfa.{kept_of}
+use Rattle.ac_noncontiguous.specs.Nfa.Lookups.{IsKept, StepsTo}
+use Rattle.ac_noncontiguous.proofs.nfa.NextLemmas.{kept-fail, kept-shallower, followed-none, followed-more, followed-end}
+use Rattle.ac_noncontiguous.proofs.nfa.OverLemmas.{followed-over}
 use Rattle.ac_noncontiguous.proofs.nfa.tables.Tables.follow.Goals as goal
 
 pub loop-next-init : goal.loop-next-init
@@ -26,7 +26,7 @@ returns-then-as_usize-ne-FAIL c =
 pub loop-next-smaller : goal.loop-next-smaller
 loop-next-smaller c =
     let less = kept-shallower c.args.self.now c.loop-next.from c.args.byte c.loop-next.invariant.visited c.loop-next.invariant.stuck in
-    let at = ap (depth_of c.args.self.now.states.items) c.fail-from.ensures in
+    let at = ap (λ i. (kept_of c.args.self.now.states.items i).depth) c.fail-from.ensures in
     omega (arith, less, at)
 
 pub loop-next-preserved : goal.loop-next-preserved

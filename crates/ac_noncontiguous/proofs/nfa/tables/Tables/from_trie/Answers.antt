@@ -1,11 +1,11 @@
--- The tables stand for each dictionary for which the trie and the links do.
+-- The tables are those of every dictionary whose trie and links these are.
 use Rattle.std.proofs.Common.{ℕ, List, length, sym, subst, arith}
 use Rattle.ac_input.specs.Limits.{HasStates}
-use Rattle.ac_noncontiguous.specs.Assembly.{AreKept}
-use Rattle.ac_noncontiguous.proofs.CountLemmas.{stand-counts}
-use Rattle.ac_noncontiguous.proofs.MeaningLemmas.{text_of, are-texts}
-use Rattle.ac_noncontiguous.proofs.TableLemmas.{setting, are-transitions, are-rows, are-failures, are-lists}
-use Rattle.ac_noncontiguous.proofs.ByteLemmas.{trie-classed}
+use Rattle.ac_noncontiguous.specs.Compiler.Assembly.{AreKept}
+use Rattle.ac_noncontiguous.proofs.nfa.CountLemmas.{stand-counts}
+use Rattle.ac_noncontiguous.proofs.nfa.MeaningLemmas.{text_of, are-texts}
+use Rattle.ac_noncontiguous.proofs.nfa.TableLemmas.{setting, are-transitions, are-rows, are-failures, are-lists}
+use Rattle.ac_noncontiguous.proofs.nfa.ByteLemmas.{trie-classed}
 use Rattle.ac_noncontiguous.proofs.nfa.tables.Tables.from_trie.Goals as goal
 
 pub returns-clause-stands : goal.returns-clause-stands

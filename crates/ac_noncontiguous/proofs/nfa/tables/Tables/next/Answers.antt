@@ -1,7 +1,7 @@
--- By the row, where there is one, with one look.
+-- A state with a row is looked up in it, with one look.
 use Rattle.std.proofs.Common.{ap}
 use Rattle.ac_input.specs.Input.{is_anchored}
-use Rattle.ac_noncontiguous.proofs.OverLemmas.{leads-over, leads-own, kept-over}
+use Rattle.ac_noncontiguous.proofs.nfa.OverLemmas.{leads-over, leads-own, kept-over}
 use Rattle.ac_noncontiguous.proofs.nfa.tables.Tables.next.Goals as goal
 
 pub own-requires : goal.own-requires

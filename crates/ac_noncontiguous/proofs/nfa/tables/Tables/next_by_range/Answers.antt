@@ -1,6 +1,6 @@
 use Rattle.std.proofs.Common.{◌∙◌, ap, sym, refl}
 use Rattle.ac_input.specs.Input.{is_anchored}
-use Rattle.ac_noncontiguous.proofs.NextLemmas.{leads-straight, leads-to_dead, leads-followed}
+use Rattle.ac_noncontiguous.proofs.nfa.NextLemmas.{leads-straight, leads-to_dead, leads-followed}
 use Rattle.ac_noncontiguous.proofs.nfa.tables.Tables.next_by_range.Goals as goal
 
 pub returns-then-as_usize-ne-FAIL : goal.returns-then-as_usize-ne-FAIL

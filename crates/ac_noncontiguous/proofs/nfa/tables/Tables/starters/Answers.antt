@@ -1,8 +1,8 @@
--- Each byte that is passed leads to the start again, or is one of the starters.
+-- Each byte so far is idle, leading from the start back to it, or is one of the starters.
 use Rattle.std.proofs.Common.{◌≡◌, ◌+◌, sym, subst, arith}
 use Rattle.ac_automaton.specs.Starters.{SkipsBelow}
-use Rattle.ac_automaton.proofs.IdleLemmas.{skips-add, skips-idle}
-use Rattle.ac_noncontiguous.specs.Lookups.{StepsTo, IsIdle}
+use Rattle.ac_automaton.proofs.skip.IdleLemmas.{skips-add, skips-idle}
+use Rattle.ac_noncontiguous.specs.Nfa.Lookups.{StepsTo, IsIdle}
 use Rattle.ac_noncontiguous.proofs.nfa.tables.Tables.starters.Goals as goal
 use Rattle.ac_noncontiguous.proofs.nfa.tables.Tables.starters.Goals.{then-as_u32-start, else-as_u32-start}
 

@@ -1,5 +1,5 @@
 use Rattle.ac_automaton.specs.Starters.{SkipsBelow}
-use Rattle.ac_noncontiguous.specs.Lookups.{IsIdle}
+use Rattle.ac_noncontiguous.specs.Nfa.Lookups.{IsIdle}
 use Rattle.ac_noncontiguous.proofs.nfa.tables.Tables.starters.Given as goal
 
 abbrev pub invariant-loop-byte : goal.invariant-loop-byte

@@ -1,8 +1,8 @@
 use Rattle.std.proofs.Common.{◌+◌, ap, sym, subst, ℕ, arith}
 use Rattle.ac_noncontiguous.specs.declared.nfa.tables.State.{State}
-use Rattle.ac_noncontiguous.specs.Nfa.{transitions_from}
-use Rattle.ac_noncontiguous.specs.Lookups.{AreRisingIn, IsNextIn}
-use Rattle.ac_noncontiguous.proofs.LookupLemmas.{kept-within, kept-read, kept-read_next, kept-ordered, kept-ends, kept-rises, leads-range}
+use Rattle.ac_noncontiguous.specs.Nfa.{kept_of}
+use Rattle.ac_noncontiguous.specs.Nfa.Lookups.{AreRisingIn, IsNextIn}
+use Rattle.ac_noncontiguous.proofs.nfa.LookupLemmas.{kept-within, kept-read, kept-read_next, kept-ordered, kept-ends, kept-rises, leads-range}
 use Rattle.ac_noncontiguous.proofs.nfa.tables.Tables.step.Goals as goal
 
 pub index-requires : goal.index-requires
@@ -29,12 +29,12 @@ find-requires-clause-rising c =
     let from = ap (λ (s : State). s.transitions) (kept-read c.args.self.now c.args.sid c.as_usize-at.result c.index.result.now c.requires c.as_usize-at.ensures.value c.index.ensures) in
     let end = ap (λ (s : State). s.transitions) (kept-read_next c.args.self.now c.args.sid c.as_usize-at.result c.index-2.result.now c.requires c.as_usize-at.ensures.value c.index-2.ensures) in
     subst (λ (a : ℕ). AreRisingIn c.args.self.now.transitions.items a c.index-2.result.now.transitions) from
-    (subst (λ (b : ℕ). AreRisingIn c.args.self.now.transitions.items (transitions_from c.args.self.now.states.items c.args.sid) b) end (kept-rises c.args.self.now c.args.sid c.requires))
+    (subst (λ (b : ℕ). AreRisingIn c.args.self.now.transitions.items (kept_of c.args.self.now.states.items c.args.sid).transitions b) end (kept-rises c.args.self.now c.args.sid c.requires))
 
 pub returns : goal.returns
 returns c =
     let from = ap (λ (s : State). s.transitions) (kept-read c.args.self.now c.args.sid c.as_usize-at.result c.index.result.now c.requires c.as_usize-at.ensures.value c.index.ensures) in
     let end = ap (λ (s : State). s.transitions) (kept-read_next c.args.self.now c.args.sid c.as_usize-at.result c.index-2.result.now c.requires c.as_usize-at.ensures.value c.index-2.ensures) in
     leads-range c.args.self.now c.args.sid c.args.byte c.find.result c.ranges.byte.fits
-    (subst (λ (a : ℕ). IsNextIn c.args.self.now.transitions.items a (transitions_from c.args.self.now.states.items (c.args.sid + 1)) c.args.byte c.find.result) (sym from)
+    (subst (λ (a : ℕ). IsNextIn c.args.self.now.transitions.items a (kept_of c.args.self.now.states.items (c.args.sid + 1)).transitions c.args.byte c.find.result) (sym from)
     (subst (λ (b : ℕ). IsNextIn c.args.self.now.transitions.items c.index.result.now.transitions b c.args.byte c.find.result) (sym end) c.find.ensures))

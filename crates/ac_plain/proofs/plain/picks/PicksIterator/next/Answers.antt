@@ -1,8 +1,8 @@
--- The list of what is left begins with the next pick.
+-- The picks that are left begin with the next pick.
 use Rattle.std.proofs.Common.{◌≡◌, ◌∷◌, Some, arith, sym, ◌∙◌, ap, subst, length}
 use Rattle.ac_input.specs.Occurrence.{Occurrence}
 use Rattle.ac_input.specs.Computed.{walk_after}
-use Rattle.ac_input.proofs.WalkLemmas.{walk_after-some, walk_after-none}
+use Rattle.ac_input.proofs.lemmas.WalkLemmas.{walk_after-some, walk_after-none}
 use Rattle.ac_plain.proofs.plain.picks.PicksIterator.next.Goals as goal
 
 pub returns-in_default-clause-steps : goal.returns-in_default-clause-steps

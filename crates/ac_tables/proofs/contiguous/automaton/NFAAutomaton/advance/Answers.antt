@@ -1,5 +1,5 @@
-use Rattle.ac_tables.proofs.SkipLemmas.{between-special}
-use Rattle.ac_tables.proofs.WordPassingLemmas.{may-read-by, special-below}
+use Rattle.ac_tables.proofs.contiguous.SkipLemmas.{between-special}
+use Rattle.ac_tables.proofs.contiguous.WordPassingLemmas.{may-read-by, special-below}
 use Rattle.ac_tables.proofs.contiguous.automaton.NFAAutomaton.advance.Goals as goal
 
 pub read_to-requires-clause-may : goal.read_to-requires-clause-may

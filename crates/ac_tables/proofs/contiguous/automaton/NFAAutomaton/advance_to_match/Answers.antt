@@ -1,5 +1,5 @@
-use Rattle.ac_tables.proofs.SkipLemmas.{between-matching}
-use Rattle.ac_tables.proofs.WordPassingLemmas.{may-read-by}
+use Rattle.ac_tables.proofs.contiguous.SkipLemmas.{between-matching}
+use Rattle.ac_tables.proofs.contiguous.WordPassingLemmas.{may-read-by}
 use Rattle.ac_tables.proofs.contiguous.automaton.NFAAutomaton.advance_to_match.Goals as goal
 
 pub read_to-requires-clause-may : goal.read_to-requires-clause-may

@@ -1,7 +1,7 @@
 use Rattle.std.proofs.Common.{◌∙◌, sym}
 use Rattle.std.proofs.lemmas.Bool.{eqb-true, eq-eqb}
-use Rattle.ac_automaton.proofs.NamedLemmas.{read-dead}
-use Rattle.ac_tables.specs.ContiguousReads.{contiguous_built_as, contiguous_matches_at, is_contiguous_start_at, is_contiguous_special_at, IsLaidOut}
+use Rattle.ac_automaton.proofs.automaton.NamedLemmas.{read-dead}
+use Rattle.ac_tables.specs.Contiguous.ContiguousReads.{contiguous_built_as, contiguous_matches_at, is_contiguous_start_at, is_contiguous_special_at, IsLaidOut}
 use Rattle.ac_tables.proofs.contiguous.automaton.NFAAutomaton.is_dead.Goals as goal
 
 pub returns : goal.returns

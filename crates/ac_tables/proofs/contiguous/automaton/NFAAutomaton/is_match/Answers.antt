@@ -1,6 +1,6 @@
 use Rattle.std.proofs.Common.{arith}
 use Rattle.std.proofs.lemmas.Bool.{leb-true, le-leb}
-use Rattle.ac_tables.proofs.NameLemmas.{state-matches, state-many}
+use Rattle.ac_tables.proofs.contiguous.NameLemmas.{state-matches, state-many}
 use Rattle.ac_tables.proofs.contiguous.automaton.NFAAutomaton.is_match.Goals as goal
 
 pub returns-then-as_u32-gt-NOWHERE : goal.returns-then-as_u32-gt-NOWHERE

@@ -1,12 +1,12 @@
--- The test is that of the two starts, so it tells what they do.
+-- The test for a start: either start passes it, and no other state does.
 use Rattle.std.proofs.Common.{◌≡◌, Bool, inl, ap, ap₂, sym, subst, ◌∙◌, ℕ}
 use Rattle.std.specs.Prelude.{◌==◌, ◌||◌}
 use Rattle.std.proofs.lemmas.Bool.{eq-eqb, ne_eqb}
 use Rattle.ac_automaton.specs.Automaton.{TellsStart}
-use Rattle.ac_automaton.proofs.NamedLemmas.{read-starts}
-use Rattle.ac_tables.specs.ContiguousReads.{contiguous_built_as, contiguous_matches_at, is_contiguous_start_at, is_contiguous_special_at, IsLaidOut, IsContiguousRead}
-use Rattle.ac_tables.proofs.NameLemmas.{names-are}
-use Rattle.ac_tables.proofs.TestLemmas.{start-has}
+use Rattle.ac_automaton.proofs.automaton.NamedLemmas.{read-starts}
+use Rattle.ac_tables.specs.Contiguous.ContiguousReads.{contiguous_built_as, contiguous_matches_at, is_contiguous_start_at, is_contiguous_special_at, IsLaidOut, IsContiguousRead}
+use Rattle.ac_tables.proofs.contiguous.NameLemmas.{names-are}
+use Rattle.ac_tables.proofs.contiguous.TestLemmas.{start-has}
 use Rattle.ac_tables.proofs.contiguous.automaton.NFAAutomaton.is_start.Goals as goal
 
 pub returns-then-at-as_u32-clause-tells : goal.returns-then-at-as_u32-clause-tells

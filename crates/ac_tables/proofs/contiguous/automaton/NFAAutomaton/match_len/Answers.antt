@@ -1,5 +1,5 @@
 use Rattle.std.proofs.Common.{ap, length, sym, ◌∙◌}
-use Rattle.ac_tables.proofs.NameLemmas.{state-list, state-listed}
+use Rattle.ac_tables.proofs.contiguous.NameLemmas.{state-list, state-listed}
 use Rattle.ac_tables.proofs.contiguous.automaton.NFAAutomaton.match_len.Goals as goal
 
 pub match_len-requires : goal.match_len-requires

@@ -1,7 +1,7 @@
 use Rattle.std.proofs.Common.{◌≢◌, ◌<◌, ℕ, List, [], length, slice_get, ap, ◌∙◌, arith}
-use Rattle.ac_automaton.proofs.NamedLemmas.{read-known}
-use Rattle.ac_tables.specs.ContiguousReads.{contiguous_built_as, contiguous_matches_at, is_contiguous_start_at, is_contiguous_special_at, IsLaidOut}
-use Rattle.ac_tables.proofs.NameLemmas.{names-are, state-list, state-listed, state-small}
+use Rattle.ac_automaton.proofs.automaton.NamedLemmas.{read-known}
+use Rattle.ac_tables.specs.Contiguous.ContiguousReads.{contiguous_built_as, contiguous_matches_at, is_contiguous_start_at, is_contiguous_special_at, IsLaidOut}
+use Rattle.ac_tables.proofs.contiguous.NameLemmas.{names-are, state-list, state-listed, state-small}
 use Rattle.ac_tables.proofs.contiguous.automaton.NFAAutomaton.match_pattern.Goals as goal
 
 -- a list that has an item isn't empty

@@ -1,7 +1,7 @@
 use Rattle.std.proofs.Common.{refl}
-use Rattle.ac_automaton.proofs.NamedLemmas.{read-next, read-cost}
-use Rattle.ac_tables.specs.ContiguousReads.{contiguous_built_as, contiguous_matches_at, is_contiguous_start_at, is_contiguous_special_at, IsLaidOut}
-use Rattle.ac_tables.proofs.NameLemmas.{names-are, read-is_met}
+use Rattle.ac_automaton.proofs.automaton.NamedLemmas.{read-next, read-cost}
+use Rattle.ac_tables.specs.Contiguous.ContiguousReads.{contiguous_built_as, contiguous_matches_at, is_contiguous_start_at, is_contiguous_special_at, IsLaidOut}
+use Rattle.ac_tables.proofs.contiguous.NameLemmas.{names-are, read-is_met}
 use Rattle.ac_tables.proofs.contiguous.automaton.NFALookUp.look_up.Goals as goal
 
 pub next-requires : goal.next-requires

@@ -2,7 +2,7 @@
 use Rattle.std.proofs.Common.{subst}
 use Rattle.ac_input.specs.declared.search.Anchored.{Anchored}
 use Rattle.ac_automaton.specs.Automaton.{IsReached}
-use Rattle.ac_tables.specs.ContiguousReads.{IsContiguousRead}
+use Rattle.ac_tables.specs.Contiguous.ContiguousReads.{IsContiguousRead}
 use Rattle.ac_tables.proofs.contiguous.automaton.NFALookUp.read_on.Goals as goal
 
 pub read_rows-requires-clause-reached : goal.read_rows-requires-clause-reached

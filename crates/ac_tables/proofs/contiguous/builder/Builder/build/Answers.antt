@@ -1,9 +1,9 @@
--- It is built from the noncontiguous automaton of the patterns, or fails as that does.
+-- The automaton is built from the noncontiguous automaton of the patterns, or fails as that build does.
 use Rattle.std.proofs.Common.{ap, sym, subst, ◌∙◌, inr}
 use Rattle.std.proofs.lemmas.Result.{IfOk-weaker, IfErr-weaker}
 use Rattle.ac_noncontiguous.specs.Builder.{Settings, IsBuiltOf, dictionary_by}
-use Rattle.ac_noncontiguous.specs.Reads.{built_as}
-use Rattle.ac_tables.specs.ContiguousBuilder.{noncontiguous_of}
+use Rattle.ac_noncontiguous.specs.Nfa.Reads.{built_as}
+use Rattle.ac_tables.specs.Contiguous.ContiguousBuilder.{noncontiguous_of}
 use Rattle.ac_tables.proofs.contiguous.builder.Builder.build.Goals as goal
 
 pub returns-clause-built : goal.returns-clause-built

@@ -1,17 +1,18 @@
--- What is made keeps what the noncontiguous automaton was built as.
+-- The new automaton is built as the noncontiguous one was.
 use Rattle.std.proofs.Common.{◌≡◌, false, Option, ap, sym, subst, ◌∙◌}
 use Rattle.std.proofs.lemmas.Result.{err_from_is_err_and}
 use Rattle.ac_input.specs.Candidate.{Filter}
 use Rattle.ac_input.specs.Dictionary.{Dictionary}
 use Rattle.ac_input.specs.Limits.{IsWithinLimits}
-use Rattle.ac_automaton.specs.Passing.{AreOpenedBy}
-use Rattle.ac_noncontiguous.specs.Reads.{dictionary}
+use Rattle.std.specs.Prelude.{IfSome}
+use Rattle.ac_literal.specs.Openings.{AreOpenings}
+use Rattle.ac_noncontiguous.specs.Nfa.Reads.{dictionary}
 use Rattle.ac_tables.specs.declared.contiguous.table.Table.{Table}
-use Rattle.ac_tables.specs.ContiguousTable.{AreWordsOf, AreSomeStates}
-use Rattle.ac_tables.specs.ContiguousBuilder.{ContiguousSettings, IsMadeFrom}
-use Rattle.ac_tables.specs.ContiguousBuild.{IsRefusedFor}
+use Rattle.ac_tables.specs.Contiguous.ContiguousTable.{AreWordsOf, AreSomeStates}
+use Rattle.ac_tables.specs.Contiguous.ContiguousBuilder.{ContiguousSettings, IsMadeFrom}
+use Rattle.ac_tables.specs.Contiguous.ContiguousBuild.{IsRefusedFor}
 use Rattle.ac_tables.specs.TableClasses.{AreClassesFor}
-use Rattle.ac_tables.proofs.WordTableLemmas.{same-dictionary, refused-laid}
+use Rattle.ac_tables.proofs.contiguous.WordTableLemmas.{same-dictionary, refused-laid}
 use Rattle.ac_tables.proofs.contiguous.builder.Builder.build_from_noncontiguous.Goals as goal
 
 pub returns-in_err-laid-clause-refused : goal.returns-in_err-laid-clause-refused
@@ -39,7 +40,7 @@ pub from_parts-requires-clause-opened : goal.from_parts-requires-clause-opened
 from_parts-requires-clause-opened c =
     let nfa = c.args.nfa.now in
     let e = same-dictionary (dictionary nfa) c.in_ok-lens.lens c.pairing-pairing.result.now c.match_kind-kind.result (c.in_ok-lens.ensures ∙ c.pattern_lens.ensures) c.pairing-pairing.ensures.value c.match_kind-kind.ensures in
-    subst (λ (d : Dictionary). ∥ AreOpenedBy d c.openings-openings.result ∥₁) (sym e) c.openings-openings.ensures
+    subst (λ (d : Dictionary). ∥ IfSome c.openings-openings.result (AreOpenings d) ∥₁) (sym e) c.openings-openings.ensures
 
 pub returns-clause-made : goal.returns-clause-made
 returns-clause-made c =

@@ -1,9 +1,9 @@
 use Rattle.std.proofs.Common.{◌+◌, ℕ, List, [], ◌∷◌, length, refl, ap, ◌∙◌, arith}
 use Rattle.std.specs.Prelude.{slice_index}
 use Rattle.ac_input.specs.Alphabet.{class}
-use Rattle.ac_automaton.proofs.NamedLemmas.{cost-looks}
-use Rattle.ac_tables.specs.ByRows.{by_rows_built_as, IsRowRead}
-use Rattle.ac_tables.proofs.ByRowLemmas.{reached-room, row-leads}
+use Rattle.ac_automaton.proofs.automaton.NamedLemmas.{cost-looks}
+use Rattle.ac_tables.specs.Contiguous.ByRows.{by_rows_built_as, IsRowRead}
+use Rattle.ac_tables.proofs.contiguous.ByRowLemmas.{reached-room, row-leads}
 use Rattle.ac_tables.proofs.contiguous.by_rows.ByRowsLookUp.look_up.Goals as goal
 
 pub next-requires-clause-within : goal.next-requires-clause-within

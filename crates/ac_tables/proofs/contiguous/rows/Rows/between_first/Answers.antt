@@ -1,7 +1,7 @@
 use Rattle.std.proofs.Common.{ℕ, ◌-◌, ◌*◌, ap, ◌∙◌}
 use Rattle.std.proofs.lemmas.Nat.{pow_pos}
-use Rattle.ac_tables.specs.ContiguousRows.{row_len}
-use Rattle.ac_tables.proofs.CutLemmas.{rows-between}
+use Rattle.ac_tables.specs.Contiguous.ContiguousRows.{row_len}
+use Rattle.ac_tables.proofs.contiguous.CutLemmas.{rows-between}
 use Rattle.ac_tables.proofs.contiguous.rows.Rows.between_first.Goals as goal
 
 pub returns : goal.returns

@@ -1,6 +1,6 @@
 use Rattle.std.proofs.Common.{sym, ◌∙◌, arith}
 use Rattle.std.proofs.lemmas.List.{get_or_read}
-use Rattle.ac_tables.proofs.CutLemmas.{cut-first, cut-second}
+use Rattle.ac_tables.proofs.contiguous.CutLemmas.{cut-first, cut-second}
 use Rattle.ac_tables.proofs.contiguous.rows.Rows.first_of.Goals as goal
 
 pub returns-then-has : goal.returns-then-has

@@ -1,6 +1,6 @@
 use Rattle.std.proofs.Common.{sym, arith}
 use Rattle.std.proofs.lemmas.List.{get_or_read}
-use Rattle.ac_tables.proofs.CutLemmas.{past-first}
+use Rattle.ac_tables.proofs.contiguous.CutLemmas.{past-first}
 use Rattle.ac_tables.proofs.contiguous.rows.Rows.is_past.Goals as goal
 
 pub returns : goal.returns

@@ -1,6 +1,6 @@
 use Rattle.std.proofs.Common.{◌-◌, sym, arith}
 use Rattle.std.proofs.lemmas.List.{get_or_read}
-use Rattle.ac_tables.proofs.CutLemmas.{within-last}
+use Rattle.ac_tables.proofs.contiguous.CutLemmas.{within-last}
 use Rattle.ac_tables.proofs.contiguous.rows.Rows.is_within.Goals as goal
 
 pub returns : goal.returns

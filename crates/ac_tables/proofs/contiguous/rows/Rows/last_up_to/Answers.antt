@@ -1,7 +1,7 @@
 use Rattle.std.proofs.Common.{ℕ, ◌+◌, ◌-◌, ◌*◌, ap, subst, ◌∙◌}
 use Rattle.std.proofs.lemmas.Nat.{pow_pos}
-use Rattle.ac_tables.specs.Cut.{IsCountBelow}
-use Rattle.ac_tables.proofs.NoteRowLemmas.{last-up-to}
+use Rattle.ac_tables.specs.Contiguous.Cut.{IsCountBelow}
+use Rattle.ac_tables.proofs.contiguous.NoteRowLemmas.{last-up-to}
 use Rattle.ac_tables.proofs.contiguous.rows.Rows.last_up_to.Goals as goal
 
 pub returns : goal.returns

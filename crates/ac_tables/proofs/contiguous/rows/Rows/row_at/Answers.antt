@@ -1,9 +1,9 @@
--- The row's state stands where its place says.
+-- The row found is that of the place.
 use Rattle.std.proofs.Common.{ℕ, ◌*◌, List, length, ap, sym, ◌∙◌, arith}
 use Rattle.std.specs.Prelude.{slice_index}
 use Rattle.std.proofs.lemmas.Nat.{pow_pos}
-use Rattle.ac_tables.specs.ContiguousRows.{row_len}
-use Rattle.ac_tables.proofs.CutLemmas.{row-at}
+use Rattle.ac_tables.specs.Contiguous.ContiguousRows.{row_len}
+use Rattle.ac_tables.proofs.contiguous.CutLemmas.{row-at}
 use Rattle.ac_tables.proofs.contiguous.rows.Rows.row_at.Goals as goal
 
 pub returns : goal.returns

@@ -1,8 +1,8 @@
 use Rattle.std.proofs.Common.{◌≡◌, ◌<◌, ℕ, ◌+◌, ◌-◌, get_or, sym, subst, arith}
 use Rattle.std.specs.Prelude.{slice_index}
-use Rattle.ac_tables.specs.WordReads.{list_place}
-use Rattle.ac_tables.proofs.StateLemmas.{first-of}
-use Rattle.ac_tables.proofs.MatchLemmas.{one-at_index, many-at_index}
+use Rattle.ac_tables.specs.Contiguous.WordReads.{list_place}
+use Rattle.ac_tables.proofs.contiguous.StateLemmas.{first-of}
+use Rattle.ac_tables.proofs.contiguous.MatchLemmas.{one-at_index, many-at_index}
 use Rattle.ac_tables.proofs.contiguous.table.Table.match_pattern.Goals as goal
 
 pub must-requires : goal.must-requires

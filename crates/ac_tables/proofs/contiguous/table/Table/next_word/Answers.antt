@@ -1,8 +1,8 @@
 -- A byte leads where the words of the state have its class.
 use Rattle.std.proofs.Common.{ℕ, ◌+◌, ◌/◌, get_or, ap, sym, ◌∙◌, arith}
 use Rattle.std.proofs.lemmas.List.{get_or_read}
-use Rattle.ac_tables.specs.Words.{next_by}
-use Rattle.ac_tables.proofs.StateLemmas.{first-of, kind-of, place-within, place-alphabet, dense-place, one-place, dense-at, one-at}
+use Rattle.ac_tables.specs.Contiguous.Words.{next_by}
+use Rattle.ac_tables.proofs.contiguous.StateLemmas.{first-of, kind-of, place-within, place-alphabet, dense-place, one-place, dense-at, one-at}
 use Rattle.ac_tables.proofs.contiguous.table.Table.next_word.Goals as goal
 
 pub index-word-requires : goal.index-word-requires

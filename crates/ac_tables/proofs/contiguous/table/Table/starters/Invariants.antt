@@ -1,5 +1,5 @@
 use Rattle.ac_automaton.specs.Starters.{SkipsBelow}
-use Rattle.ac_tables.specs.WordReads.{IsIdleAt}
+use Rattle.ac_tables.specs.Contiguous.WordReads.{IsIdleAt}
 use Rattle.ac_tables.proofs.contiguous.table.Table.starters.Given as goal
 
 abbrev pub invariant-loop-byte : goal.invariant-loop-byte

@@ -1,5 +1,5 @@
 use Rattle.std.proofs.Common.{◌∙◌}
-use Rattle.ac_tables.proofs.StateLemmas.{step-small}
+use Rattle.ac_tables.proofs.contiguous.StateLemmas.{step-small}
 use Rattle.ac_tables.proofs.contiguous.table.Table.step.Goals as goal
 
 pub must-requires : goal.must-requires

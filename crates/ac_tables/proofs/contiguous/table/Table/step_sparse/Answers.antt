@@ -1,6 +1,6 @@
 -- The first class that is the wanted one is that of the transition.
 use Rattle.std.proofs.Common.{◌≡◌, ℕ, ◌+◌, List, length, take, drop, ap, sym, ◌∙◌, arith}
-use Rattle.ac_tables.proofs.StateLemmas.{sparse-within, sparse-some_place, sparse-leads, sparse-nowhere}
+use Rattle.ac_tables.proofs.contiguous.StateLemmas.{sparse-within, sparse-some_place, sparse-leads, sparse-nowhere}
 use Rattle.ac_tables.proofs.contiguous.table.Table.step_sparse.Goals as goal
 
 -- which words were searched

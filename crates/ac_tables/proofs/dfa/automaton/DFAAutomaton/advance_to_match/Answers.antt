@@ -1,5 +1,5 @@
-use Rattle.ac_tables.proofs.DfaIdleLemmas.{between-matching}
-use Rattle.ac_tables.proofs.DfaPassingLemmas.{may-read-by}
+use Rattle.ac_tables.proofs.dfa.DfaIdleLemmas.{between-matching}
+use Rattle.ac_tables.proofs.dfa.DfaPassingLemmas.{may-read-by}
 use Rattle.ac_tables.proofs.dfa.automaton.DFAAutomaton.advance_to_match.Goals as goal
 
 pub read_to-requires-clause-may : goal.read_to-requires-clause-may

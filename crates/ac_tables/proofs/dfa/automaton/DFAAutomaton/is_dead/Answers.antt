@@ -1,7 +1,7 @@
 use Rattle.std.proofs.Common.{◌∙◌, sym}
 use Rattle.std.specs.Prelude.{◌==◌}
 use Rattle.std.proofs.lemmas.Bool.{eqb-true, eq-eqb}
-use Rattle.ac_tables.proofs.DfaReadLemmas.{dead-said}
+use Rattle.ac_tables.proofs.dfa.DfaReadLemmas.{dead-said}
 use Rattle.ac_tables.proofs.dfa.automaton.DFAAutomaton.is_dead.Goals as goal
 
 pub returns : goal.returns

@@ -1,6 +1,6 @@
 use Rattle.std.proofs.Common.{◌∙◌, arith}
 use Rattle.std.proofs.lemmas.Bool.{leb-true, le-leb}
-use Rattle.ac_tables.proofs.DfaReadLemmas.{listed-within, state-matches}
+use Rattle.ac_tables.proofs.dfa.DfaReadLemmas.{listed-within, state-matches}
 use Rattle.ac_tables.proofs.dfa.automaton.DFAAutomaton.is_match.Goals as goal
 
 pub returns-then-as_u32-ne0 : goal.returns-then-as_u32-ne0

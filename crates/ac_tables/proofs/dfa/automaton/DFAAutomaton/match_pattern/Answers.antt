@@ -1,7 +1,7 @@
 use Rattle.std.proofs.Common.{ℕ, List, ◌≡◌, ◌<◌, length, sym, subst, refl, ◌∙◌, Some, slice_get}
 use Rattle.std.proofs.lemmas.Option.{slice_get_read}
-use Rattle.ac_tables.specs.DfaReads.{dfa_matches_at}
-use Rattle.ac_tables.proofs.DfaReadLemmas.{state-list, state-listed, state-known, some-within}
+use Rattle.ac_tables.specs.Dfa.DfaReads.{dfa_matches_at}
+use Rattle.ac_tables.proofs.dfa.DfaReadLemmas.{state-list, state-listed, state-known, some-within}
 use Rattle.ac_tables.proofs.dfa.automaton.DFAAutomaton.match_pattern.Goals as goal
 
 pub match_list-requires : goal.match_list-requires

@@ -1,5 +1,5 @@
 -- What is noted holds of the DFA's own states.
-use Rattle.ac_tables.proofs.DfaPassingLemmas.{may-note}
+use Rattle.ac_tables.proofs.dfa.DfaPassingLemmas.{may-note}
 use Rattle.ac_tables.proofs.dfa.automaton.DFAAutomaton.note_ahead.Goals as goal
 
 pub note_ahead-requires-clause-may : goal.note_ahead-requires-clause-may

@@ -1,8 +1,8 @@
 use Rattle.std.proofs.Common.{ap, sym, ◌∙◌}
 use Rattle.ac_input.specs.declared.search.Anchored.{Anchored}
 use Rattle.ac_input.specs.Input.{is_anchored}
-use Rattle.ac_tables.specs.DfaTable.{start_by}
-use Rattle.ac_tables.proofs.DfaReadLemmas.{start-read}
+use Rattle.ac_tables.specs.Dfa.DfaTable.{start_by}
+use Rattle.ac_tables.proofs.dfa.DfaReadLemmas.{start-read}
 use Rattle.ac_tables.proofs.dfa.automaton.DFAAutomaton.start_state.Goals as goal
 use Rattle.ac_tables.proofs.dfa.automaton.DFAAutomaton.start_state.Goals.{in-No, in-Yes}
 

@@ -1,8 +1,8 @@
 use Rattle.std.proofs.Common.{arith}
-use Rattle.ac_automaton.proofs.CursorLemmas.{advanced-none, reached-on}
-use Rattle.ac_automaton.proofs.ReadOnLemmas.{after-byte, reads-all}
+use Rattle.ac_automaton.proofs.lemmas.CursorLemmas.{advanced-none, reached-on}
+use Rattle.ac_automaton.proofs.skip.ReadOnLemmas.{after-byte, reads-all}
 use Rattle.ac_automaton.specs.ReadOn.{is_between}
-use Rattle.ac_tables.specs.DfaReads.{dfa_built_as, IsDfaRead}
+use Rattle.ac_tables.specs.Dfa.DfaReads.{dfa_built_as, IsDfaRead}
 use Rattle.ac_tables.proofs.dfa.automaton.DFALookUp.read_on.Goals as goal
 
 pub loop-read-init : goal.loop-read-init

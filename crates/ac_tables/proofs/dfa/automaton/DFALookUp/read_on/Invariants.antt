@@ -1,6 +1,6 @@
-use Rattle.ac_automaton.proofs.CursorLemmas.{HasAdvanced}
+use Rattle.ac_automaton.proofs.lemmas.CursorLemmas.{HasAdvanced}
 use Rattle.ac_automaton.specs.ReadOn.{is_between}
-use Rattle.ac_tables.specs.DfaReads.{dfa_built_as, IsDfaRead}
+use Rattle.ac_tables.specs.Dfa.DfaReads.{dfa_built_as, IsDfaRead}
 use Rattle.ac_tables.proofs.dfa.automaton.DFALookUp.read_on.Given as goal
 
 abbrev pub invariant-loop-read : goal.invariant-loop-read

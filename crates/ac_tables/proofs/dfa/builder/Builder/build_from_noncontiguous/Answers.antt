@@ -1,14 +1,15 @@
--- The table, and what the automaton is built as.
+-- The table is made from the automaton, and the DFA is built as the automaton was.
 use Rattle.std.proofs.Common.{◌≡◌, ℕ, List, ap, sym, subst, ◌∙◌}
 use Rattle.std.proofs.lemmas.Result.{err_from_is_err_and}
 use Rattle.ac_input.specs.declared.search.MatchKind.{MatchKind}
 use Rattle.ac_input.specs.Dictionary.{Dictionary, dictionary_of}
-use Rattle.ac_automaton.specs.Passing.{AreOpenedBy}
-use Rattle.ac_noncontiguous.specs.Reads.{dictionary, built_as}
-use Rattle.ac_tables.specs.DfaBuild.{DfaSettings}
-use Rattle.ac_tables.specs.DfaMade.{IsTableFor, IsTableRefused}
-use Rattle.ac_tables.specs.DfaReads.{IsDfaMadeOf}
-use Rattle.ac_tables.proofs.DfaBuildLemmas.{dfa-of, refused-of, parts-of}
+use Rattle.std.specs.Prelude.{IfSome}
+use Rattle.ac_literal.specs.Openings.{AreOpenings}
+use Rattle.ac_noncontiguous.specs.Nfa.Reads.{dictionary, built_as}
+use Rattle.ac_tables.specs.Dfa.DfaBuild.{DfaSettings}
+use Rattle.ac_tables.specs.Dfa.DfaMade.{IsTableFor, IsTableRefused}
+use Rattle.ac_tables.specs.Dfa.DfaReads.{IsDfaMadeOf}
+use Rattle.ac_tables.proofs.dfa.DfaBuildLemmas.{dfa-of, refused-of, parts-of}
 use Rattle.ac_tables.proofs.dfa.builder.Builder.build_from_noncontiguous.Goals as goal
 
 pub returns-in_err-table-clause-refused : goal.returns-in_err-table-clause-refused
@@ -31,7 +32,7 @@ from_parts-requires-clause-opened c =
     let same : dictionary_of c.in_ok-lens.lens c.pairing.result.now c.match_kind.result ≡ dictionary nfa =
     ap (λ (q : List (List ℕ)). dictionary_of q c.pairing.result.now c.match_kind.result) (c.in_ok-lens.ensures ∙ c.pattern_lens.ensures)
     ∙ (ap (λ (q : List ℕ). dictionary_of (dictionary nfa).patterns q c.match_kind.result) c.pairing.ensures.value ∙ ap (λ (k : MatchKind). dictionary_of (dictionary nfa).patterns (dictionary nfa).pairing k) c.match_kind.ensures) in
-    subst (λ (m : Dictionary). ∥ AreOpenedBy m c.openings-openings.result ∥₁) (sym same) c.openings-openings.ensures
+    subst (λ (m : Dictionary). ∥ IfSome c.openings-openings.result (AreOpenings m) ∥₁) (sym same) c.openings-openings.ensures
 
 pub returns-clause-built : goal.returns-clause-built
 returns-clause-built c =

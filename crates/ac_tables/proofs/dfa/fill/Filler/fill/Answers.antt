@@ -1,12 +1,12 @@
--- One row or two, by the start kind.
+-- One row or two are filled, depending on the start kind.
 use Rattle.std.proofs.Common.{◌≡◌, sym, refl, subst}
 use Rattle.ac_input.specs.declared.search.Anchored.{Anchored}
 use Rattle.ac_input.specs.declared.search.Anchored.TheVariants.{No, Yes}
 use Rattle.ac_input.specs.declared.search.StartKind.{StartKind}
 use Rattle.ac_input.specs.declared.search.StartKind.TheVariants as starts
 use Rattle.ac_input.specs.Dfa.{Serves}
-use Rattle.ac_tables.specs.Filler.{row_plan_of}
-use Rattle.ac_tables.proofs.FilledLemmas.{filled-plain, filled-anchored, filled-both, blank-still}
+use Rattle.ac_tables.specs.Dfa.Filler.{row_plan_of}
+use Rattle.ac_tables.proofs.dfa.FilledLemmas.{filled-plain, filled-anchored, filled-both, blank-still}
 use Rattle.ac_tables.proofs.dfa.fill.Filler.fill.Goals as goal
 
 -- which anchorings a start kind serves

@@ -1,11 +1,11 @@
--- The starts first, then the two runs of states by depth.
+-- The starts are filled first, and then the two runs of states in order of depth.
 use Rattle.std.proofs.Common.{◌≡◌, ◌<◌, ◌≤◌, ◌+◌, ℕ, inl, inr, ⊎_elim, sym, ap, subst, ◌∙◌, arith}
 use Rattle.ac_input.specs.declared.search.Anchored.TheVariants.{No, Yes}
 use Rattle.ac_noncontiguous.specs.declared.nfa.read.Special.{Special}
-use Rattle.ac_noncontiguous.specs.ReadCalls.{special_in, fail_in}
-use Rattle.ac_tables.specs.Filling.{number_in, IsRowRight, IsUnwritten, AreRowsFilled, AreRowsUpTo, IsDone}
-use Rattle.ac_tables.specs.Filler.{row_plan_of}
-use Rattle.ac_tables.proofs.FilledLemmas.{rows-none, rows-starts, rows-low, rows-high, rows-all, fresh-low, fresh-high, failure-right_start, failure-right_low, failure-right_high, met-both, met-start_own}
+use Rattle.ac_noncontiguous.specs.Nfa.ReadCalls.{special_in, fail_in}
+use Rattle.ac_tables.specs.Dfa.Filling.{number_in, IsRowRight, IsUnwritten, AreRowsFilled, AreRowsUpTo, IsDone}
+use Rattle.ac_tables.specs.Dfa.Filler.{row_plan_of}
+use Rattle.ac_tables.proofs.dfa.FilledLemmas.{rows-none, rows-starts, rows-low, rows-high, rows-all, fresh-low, fresh-high, failure-right_start, failure-right_low, failure-right_high, met-both, met-start_own}
 use Rattle.ac_tables.proofs.dfa.fill.Filler.fill_all.Goals as goal
 
 pub fill-requires-clause-failure : goal.fill-requires-clause-failure
@@ -76,7 +76,7 @@ loop-low-preserved-then-is_first_next c =
       rows = rows-low p c.loop-low.low c.loop-low.high c.loop-low.trans c.fill-then-is_first_next.new.trans c.args.self.now.fit before i.rows (subst (λ (sid : ℕ). AreRowsFilled p sid sid c.loop-low.trans c.fill-then-is_first_next.new.trans) c.must-next.ensures c.fill-then-is_first_next.ensures);
     }
 
--- ---- one of the second
+-- ---- a state of the second run
 
 pub fill-requires-else-is_first_next-clause-failure : goal.fill-requires-else-is_first_next-clause-failure
 fill-requires-else-is_first_next-clause-failure c serves =
@@ -111,7 +111,7 @@ loop-low-preserved c =
       rows = rows-high p c.loop-low.low c.loop-low.high c.loop-low.trans c.fill-else-is_first_next.new.trans c.args.self.now.fit (omega (arith, at, i.low_in)) (omega (arith, at, i.high_past)) i.rows (subst (λ (sid : ℕ). AreRowsFilled p sid sid c.loop-low.trans c.fill-else-is_first_next.new.trans) c.must-next-else-is_first_next.ensures c.fill-else-is_first_next.ensures);
     }
 
--- ---- all
+-- ---- all rows
 
 pub returns : goal.returns
 returns c =

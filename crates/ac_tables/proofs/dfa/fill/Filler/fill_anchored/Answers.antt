@@ -1,9 +1,9 @@
--- The transitions over a blank row.
+-- The transitions are written over a blank row.
 use Rattle.std.proofs.Common.{length}
 use Rattle.ac_input.specs.declared.search.Anchored.TheVariants.{Yes}
-use Rattle.ac_tables.specs.Filler.{row_plan_of}
-use Rattle.ac_tables.proofs.CellLemmas.{row-anchored}
-use Rattle.ac_tables.proofs.FilledLemmas.{row-space}
+use Rattle.ac_tables.specs.Dfa.Filler.{row_plan_of}
+use Rattle.ac_tables.proofs.dfa.CellLemmas.{row-anchored}
+use Rattle.ac_tables.proofs.dfa.FilledLemmas.{row-space}
 use Rattle.ac_tables.proofs.dfa.fill.Filler.fill_anchored.Goals as goal
 
 pub write-requires-clause-room : goal.write-requires-clause-room

@@ -1,13 +1,13 @@
--- The row of the failure, with the state's own transitions over it.
+-- The failure's row is copied, and the state's own transitions are written over it.
 use Rattle.std.proofs.Common.{◌≡◌, ℕ, ◌+◌, ◌-◌, ◌<◌, length, sym, ap, subst, ◌∙◌, arith}
 use Rattle.std.specs.Prelude.{slice_index}
 use Rattle.ac_input.specs.declared.search.Anchored.TheVariants.{No}
-use Rattle.ac_noncontiguous.specs.ReadCalls.{fail_in, edges_in, FailsIn}
-use Rattle.ac_tables.specs.Filling.{number_in, IsEntry, IsChangedIn}
-use Rattle.ac_tables.specs.Filler.{row_plan_of}
-use Rattle.ac_tables.proofs.CellLemmas.{row-plain}
-use Rattle.ac_tables.proofs.WriteLemmas.{changed-on}
-use Rattle.ac_tables.proofs.FilledLemmas.{row-space, number-small, copied-changed, copied-entry}
+use Rattle.ac_noncontiguous.specs.Nfa.ReadCalls.{fail_in, edges_in, FailsIn}
+use Rattle.ac_tables.specs.Dfa.Filling.{number_in, IsEntry, IsChangedIn}
+use Rattle.ac_tables.specs.Dfa.Filler.{row_plan_of}
+use Rattle.ac_tables.proofs.dfa.CellLemmas.{row-plain}
+use Rattle.ac_tables.proofs.dfa.WriteLemmas.{changed-on}
+use Rattle.ac_tables.proofs.dfa.FilledLemmas.{row-space, number-small, copied-changed, copied-entry}
 use Rattle.ac_tables.proofs.dfa.fill.Filler.fill_unanchored.Goals as goal
 
 pub copy_within-requires-clause-in_bounds : goal.copy_within-requires-clause-in_bounds

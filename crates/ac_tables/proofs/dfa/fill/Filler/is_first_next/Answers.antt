@@ -1,7 +1,7 @@
 -- Which of two states is filled next.
 use Rattle.std.proofs.Common.{◌≡◌, ap, ◌∙◌, arith}
 use Rattle.std.proofs.lemmas.Bool.{leb-true, leb-false}
-use Rattle.ac_noncontiguous.specs.ReadCalls.{depth_in}
+use Rattle.ac_noncontiguous.specs.Nfa.ReadCalls.{depth_in}
 use Rattle.ac_tables.proofs.dfa.fill.Filler.is_first_next.Goals as goal
 
 pub must-requires-2 : goal.must-requires-2

@@ -1,10 +1,10 @@
--- One transition after another.
+-- One transition after another is written.
 use Rattle.std.proofs.Common.{◌≡◌, [], ◌∷◌, ◌++◌, ◌+◌, ℕ, length, slice_set, subst, arith}
 use Rattle.ac_input.specs.Alphabet.{class}
-use Rattle.ac_noncontiguous.specs.ReadCalls.{edges_in}
-use Rattle.ac_tables.specs.Filling.{number_in, AreWritten}
-use Rattle.ac_tables.specs.Filler.{row_plan_of}
-use Rattle.ac_tables.proofs.WriteLemmas.{written-more, item-at, items-on}
+use Rattle.ac_noncontiguous.specs.Nfa.ReadCalls.{edges_in}
+use Rattle.ac_tables.specs.Dfa.Filling.{number_in, AreWritten}
+use Rattle.ac_tables.specs.Dfa.Filler.{row_plan_of}
+use Rattle.ac_tables.proofs.dfa.WriteLemmas.{written-more, item-at, items-on}
 use Rattle.ac_tables.proofs.dfa.fill.Filler.write.Goals as goal
 
 pub entry-requires : goal.entry-requires

@@ -1,7 +1,7 @@
 use Rattle.std.proofs.Common.{◌≡◌, ◌++◌}
-use Rattle.ac_noncontiguous.specs.ReadCalls.{edges_in}
-use Rattle.ac_tables.specs.Filling.{number_in, AreWritten}
-use Rattle.ac_tables.specs.Filler.{row_plan_of}
+use Rattle.ac_noncontiguous.specs.Nfa.ReadCalls.{edges_in}
+use Rattle.ac_tables.specs.Dfa.Filling.{number_in, AreWritten}
+use Rattle.ac_tables.specs.Dfa.Filler.{row_plan_of}
 use Rattle.ac_tables.proofs.dfa.fill.Filler.write.Given as goal
 
 abbrev pub invariant-loop-byte : goal.invariant-loop-byte

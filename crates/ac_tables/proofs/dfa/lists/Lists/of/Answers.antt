@@ -1,11 +1,11 @@
--- One list after another.
+-- One list after another is appended.
 use Rattle.std.proofs.Common.{◌≡◌, ℕ, ◌+◌, ◌-◌, ◌≤◌, ap, subst, ◌∙◌, arith}
 use Rattle.ac_noncontiguous.specs.declared.nfa.read.Special.{Special}
-use Rattle.ac_noncontiguous.specs.Reads.{matches_at}
-use Rattle.ac_noncontiguous.specs.ReadCalls.{special_in}
-use Rattle.ac_tables.specs.DfaLists.{AreFirstLists}
-use Rattle.ac_tables.proofs.CellLemmas.{last-match_past}
-use Rattle.ac_tables.proofs.DfaListLemmas.{lists-more}
+use Rattle.ac_noncontiguous.specs.Nfa.Reads.{matches_at}
+use Rattle.ac_noncontiguous.specs.Nfa.ReadCalls.{special_in}
+use Rattle.ac_tables.specs.Dfa.DfaLists.{AreFirstLists}
+use Rattle.ac_tables.proofs.dfa.CellLemmas.{last-match_past}
+use Rattle.ac_tables.proofs.dfa.DfaListLemmas.{lists-more}
 use Rattle.ac_tables.proofs.dfa.lists.Lists.of.Goals as goal
 
 pub loop-sid-preserved : goal.loop-sid-preserved

@@ -1,16 +1,15 @@
--- The table of an automaton.
+-- The table is made from an automaton.
 use Rattle.std.proofs.Common.{◌≡◌, ◌+◌, ◌-◌, ◌*◌, ◌≤◌, ◌<◌, ℕ, true, false, ⊎_elim, ap, ap₂, subst, ◌∙◌, arith}
 use Rattle.std.proofs.lemmas.Result.{err_from_is_err_and}
 use Rattle.ac_input.specs.Number.{greatest_number}
 use Rattle.ac_input.specs.declared.search.Anchored.TheVariants.{No, Yes}
 use Rattle.ac_input.specs.Dfa.{dfa_states}
 use Rattle.ac_noncontiguous.specs.declared.nfa.read.Special.{Special}
-use Rattle.ac_noncontiguous.specs.ReadCalls.{state_len, special_in}
-use Rattle.ac_tables.specs.DfaMade.{nfa_start_of}
-use Rattle.ac_tables.specs.DfaTable.{dfa_number_of}
-use Rattle.ac_tables.specs.Filling.{IsOverflow}
-use Rattle.ac_tables.proofs.CellLemmas.{source-of, last-match_is}
-use Rattle.ac_tables.proofs.DfaBuildLemmas.{rows-some, size-refused, chosen-fit, number-kept, stride-is, table-for}
+use Rattle.ac_noncontiguous.specs.Nfa.ReadCalls.{state_len, special_in}
+use Rattle.ac_tables.specs.Dfa.DfaTable.{dfa_number_of}
+use Rattle.ac_tables.specs.Dfa.Filling.{IsOverflow}
+use Rattle.ac_tables.proofs.dfa.CellLemmas.{source-of, last-match_is}
+use Rattle.ac_tables.proofs.dfa.DfaBuildLemmas.{rows-some, size-refused, chosen-fit, number-kept, stride-is, table-for}
 use Rattle.ac_tables.proofs.dfa.table.Table.of.Goals as goal
 
 pub check_size-requires : goal.check_size-requires
@@ -42,7 +41,7 @@ number-requires c =
     let rows : c.rows-rows.result ≡ dfa_states c.args.kind (state_len nfa) = c.rows-rows.ensures ∙ ap (dfa_states c.args.kind) c.state_len.ensures.value in
     let fits = subst (λ (n : ℕ). (n - 1) * c.stride-stride.result ≤ greatest_number) rows c.in_ok-check_size.ensures.fits in
     let fit = chosen-fit c.args.classed nfa c.args.kind c.in_ok-classes.classes c.stride-stride.result c.special-special.ensures.whole c.in_ok-classes.ensures.classes c.stride-stride.ensures.value c.stride-stride.ensures.fits fits in
-    let start : c.special-special.result.start_unanchored_id ≡ nfa_start_of nfa = ap (λ (x : Special). x.start_unanchored_id) c.special-special.ensures.value in
+    let start : c.special-special.result.start_unanchored_id ≡ (special_in nfa).start_unanchored_id = ap (λ (x : Special). x.start_unanchored_id) c.special-special.ensures.value in
     number-kept _ No c.special-special.result.start_unanchored_id c.special-special.result.start_unanchored_id fit start (omega (arith, start, s.1))
 
 pub number-requires-2 : goal.number-requires-2
@@ -52,8 +51,8 @@ number-requires-2 c =
     let rows : c.rows-rows.result ≡ dfa_states c.args.kind (state_len nfa) = c.rows-rows.ensures ∙ ap (dfa_states c.args.kind) c.state_len.ensures.value in
     let fits = subst (λ (n : ℕ). (n - 1) * c.stride-stride.result ≤ greatest_number) rows c.in_ok-check_size.ensures.fits in
     let fit = chosen-fit c.args.classed nfa c.args.kind c.in_ok-classes.classes c.stride-stride.result c.special-special.ensures.whole c.in_ok-classes.ensures.classes c.stride-stride.ensures.value c.stride-stride.ensures.fits fits in
-    let start : c.special-special.result.start_unanchored_id ≡ nfa_start_of nfa = ap (λ (x : Special). x.start_unanchored_id) c.special-special.ensures.value in
-    let next : c.special-special.result.start_anchored_id ≡ nfa_start_of nfa + 1 = ap (λ (x : Special). x.start_anchored_id) c.special-special.ensures.value in
+    let start : c.special-special.result.start_unanchored_id ≡ (special_in nfa).start_unanchored_id = ap (λ (x : Special). x.start_unanchored_id) c.special-special.ensures.value in
+    let next : c.special-special.result.start_anchored_id ≡ (special_in nfa).start_unanchored_id + 1 = ap (λ (x : Special). x.start_anchored_id) c.special-special.ensures.value in
     number-kept _ Yes c.special-special.result.start_unanchored_id c.special-special.result.start_anchored_id fit start (omega (arith, next, s.1))
 
 pub number-requires-3 : goal.number-requires-3
@@ -63,9 +62,9 @@ number-requires-3 c =
     let rows : c.rows-rows.result ≡ dfa_states c.args.kind (state_len nfa) = c.rows-rows.ensures ∙ ap (dfa_states c.args.kind) c.state_len.ensures.value in
     let fits = subst (λ (n : ℕ). (n - 1) * c.stride-stride.result ≤ greatest_number) rows c.in_ok-check_size.ensures.fits in
     let fit = chosen-fit c.args.classed nfa c.args.kind c.in_ok-classes.classes c.stride-stride.result c.special-special.ensures.whole c.in_ok-classes.ensures.classes c.stride-stride.ensures.value c.stride-stride.ensures.fits fits in
-    let start : c.special-special.result.start_unanchored_id ≡ nfa_start_of nfa = ap (λ (x : Special). x.start_unanchored_id) c.special-special.ensures.value in
+    let start : c.special-special.result.start_unanchored_id ≡ (special_in nfa).start_unanchored_id = ap (λ (x : Special). x.start_unanchored_id) c.special-special.ensures.value in
     let last : c.special-special.result.max_match_id ≡ (special_in nfa).max_match_id = ap (λ (x : Special). x.max_match_id) c.special-special.ensures.value in
-    let within : (special_in nfa).max_match_id < state_len nfa = ⊎_elim (λ (l : (special_in nfa).max_match_id + 1 ≡ nfa_start_of nfa). omega (arith, l, s.1)) (λ (r : (special_in nfa).max_match_id ≡ nfa_start_of nfa + 1). omega (arith, r, s.1)) (last-match_is nfa c.special-special.ensures.whole) in
+    let within : (special_in nfa).max_match_id < state_len nfa = ⊎_elim (λ (l : (special_in nfa).max_match_id + 1 ≡ (special_in nfa).start_unanchored_id). omega (arith, l, s.1)) (λ (r : (special_in nfa).max_match_id ≡ (special_in nfa).start_unanchored_id + 1). omega (arith, r, s.1)) (last-match_is nfa c.special-special.ensures.whole) in
     number-kept _ Yes c.special-special.result.start_unanchored_id c.special-special.result.max_match_id fit start (omega (arith, last, within))
 
 pub returns-clause-made : goal.returns-clause-made
@@ -76,8 +75,8 @@ returns-clause-made c =
     let rows : c.rows-rows.result ≡ dfa_states kind (state_len nfa) = c.rows-rows.ensures ∙ ap (dfa_states kind) c.state_len.ensures.value in
     let fits = subst (λ (n : ℕ). (n - 1) * stride ≤ greatest_number) rows c.in_ok-check_size.ensures.fits in
     let fit = chosen-fit c.args.classed nfa kind c.in_ok-classes.classes stride c.special-special.ensures.whole c.in_ok-classes.ensures.classes c.stride-stride.ensures.value c.stride-stride.ensures.fits fits in
-    let start : c.special-special.result.start_unanchored_id ≡ nfa_start_of nfa = ap (λ (x : Special). x.start_unanchored_id) c.special-special.ensures.value in
-    let next : c.special-special.result.start_anchored_id ≡ nfa_start_of nfa + 1 = ap (λ (x : Special). x.start_anchored_id) c.special-special.ensures.value in
+    let start : c.special-special.result.start_unanchored_id ≡ (special_in nfa).start_unanchored_id = ap (λ (x : Special). x.start_unanchored_id) c.special-special.ensures.value in
+    let next : c.special-special.result.start_anchored_id ≡ (special_in nfa).start_unanchored_id + 1 = ap (λ (x : Special). x.start_anchored_id) c.special-special.ensures.value in
     let last : c.special-special.result.max_match_id ≡ (special_in nfa).max_match_id = ap (λ (x : Special). x.max_match_id) c.special-special.ensures.value in
     table-for nfa _ c.args.classed stride c.special-special.ensures.whole c.in_ok-classes.ensures.classes (stride-is _ stride c.stride2.result c.stride-stride.ensures.value c.stride2.ensures.value) c.stride2.ensures.fits c.stride2.ensures.value fit c.in_ok-trans.ensures c.in_ok-lists.ensures
     (c.number.ensures ∙ ap (λ (n : ℕ). dfa_number_of kind n stride false n) start)

@@ -1,14 +1,14 @@
-use Rattle.std.proofs.Common.{subst, sym, ◌∙◌}
-use Rattle.ac_automaton.specs.Automaton.{IsState}
+use Rattle.ac_automaton.specs.Automaton.{Built, IsState}
 use Rattle.aho_corasick.specs.declared.engine.Engine.{Engine}
 use Rattle.aho_corasick.specs.Engine.{IsEngineRead}
+use Rattle.aho_corasick.proofs.lemmas.EngineLemmas.{to-engine}
 use Rattle.aho_corasick.proofs.ahocorasick.automaton.AhoCorasickAutomaton.match_len.Goals as goal
 
 pub match_len-requires-clause-valid : goal.match_len-requires-clause-valid
-match_len-requires-clause-valid c = subst (λ (e : Engine). IsState (IsEngineRead e) c.args.sid) (sym c.deref.ensures ∙ c.in-Noncontiguous.is) c.requires.valid
+match_len-requires-clause-valid c = to-engine (λ (b : Built) (e : Engine). IsState (IsEngineRead e) c.args.sid) c.serving.ensures.engine c.serving.ensures.built c.in-Noncontiguous.is c.requires.valid
 
 pub match_len-requires-in-Contiguous-clause-valid : goal.match_len-requires-in-Contiguous-clause-valid
-match_len-requires-in-Contiguous-clause-valid c = subst (λ (e : Engine). IsState (IsEngineRead e) c.args.sid) (sym c.deref.ensures ∙ c.in-Contiguous.is) c.requires.valid
+match_len-requires-in-Contiguous-clause-valid c = to-engine (λ (b : Built) (e : Engine). IsState (IsEngineRead e) c.args.sid) c.serving.ensures.engine c.serving.ensures.built c.in-Contiguous.is c.requires.valid
 
 pub match_len-requires-in-Dfa-clause-valid : goal.match_len-requires-in-Dfa-clause-valid
-match_len-requires-in-Dfa-clause-valid c = subst (λ (e : Engine). IsState (IsEngineRead e) c.args.sid) (sym c.deref.ensures ∙ c.in-Dfa.is) c.requires.valid
+match_len-requires-in-Dfa-clause-valid c = to-engine (λ (b : Built) (e : Engine). IsState (IsEngineRead e) c.args.sid) c.serving.ensures.engine c.serving.ensures.built c.in-Dfa.is c.requires.valid

@@ -1,32 +1,47 @@
--- The noncontiguous NFA of the patterns first, then the automaton that serves.
-use Rattle.std.proofs.Common.{◌≡◌, ap, subst, ◌∙◌}
-use Rattle.std.proofs.lemmas.Result.{IfOk-weaker, IfErr-weaker}
+-- The noncontiguous NFA of the patterns first, then the automaton that serves, with what it was built as and by which settings.
+use Rattle.std.proofs.Common.{ap, subst, sym, ◌∙◌}
 use Rattle.ac_input.specs.Dictionary.{Dictionary}
 use Rattle.ac_literal.specs.Packed.{bytes_of}
-use Rattle.ac_noncontiguous.specs.Builder.{Settings, IsBuiltOf, dictionary_by}
-use Rattle.ac_noncontiguous.specs.Reads.{built_as}
-use Rattle.aho_corasick.specs.AhoCorasick.{as_built}
-use Rattle.aho_corasick.specs.Builder.{front_dictionary}
-use Rattle.aho_corasick.specs.Served.{IsFrontMadeOf, IsNotMade}
-use Rattle.aho_corasick.specs.declared.ahocorasick.AhoCorasick.{AhoCorasick}
-use Rattle.aho_corasick.proofs.ServedLemmas.{dictionary-refused, front-built, front-dictionary}
+use Rattle.ac_noncontiguous.specs.Builder.{Settings, IsBuiltOf}
+use Rattle.ac_noncontiguous.specs.Nfa.Reads.{built_as}
+use Rattle.aho_corasick.specs.Builder.{FrontSettings, front_dictionary}
+use Rattle.aho_corasick.specs.Served.{IsEngineOf}
+use Rattle.aho_corasick.specs.declared.shared.Shared.{Shared}
+use Rattle.aho_corasick.proofs.lemmas.ServedLemmas.{built-for, front-built, made-as, starts-shared}
 use Rattle.aho_corasick.proofs.ahocorasick.builder.AhoCorasickBuilder.build.Goals as goal
 
-pub returns : goal.returns
-returns c =
+pub invariant_of-shared : goal.invariant_of-shared
+invariant_of-shared c =
     let s = c.args.self.now in
     let patterns = bytes_of c.args.patterns.now in
     let nfa = c.in_ok-nfa.nfa in
-    let share = c.share.result in
     let own = subst (λ (t : Settings). IsBuiltOf t c.args.patterns.now (built_as nfa)) c.noncontiguous.ensures c.in_ok-nfa.ensures.built in
-    let same : (ac : AhoCorasick) → IsFrontMadeOf s nfa ac → (as_built ac).dictionary ≡ front_dictionary s patterns = λ ac made. front-dictionary s patterns nfa ac own made in
     record {
-      patterns = IfOk-weaker share (IsFrontMadeOf s nfa) _ (λ ac made. ap (λ (m : Dictionary). m.patterns) (same ac made)) c.share.ensures.made;
-      kind = IfOk-weaker share (IsFrontMadeOf s nfa) _ (λ ac made. ap (λ (m : Dictionary). m.kind) (same ac made)) c.share.ensures.made;
-      pairing = IfOk-weaker share (IsFrontMadeOf s nfa) _ (λ ac made. ap (λ (m : Dictionary). m.pairing) (same ac made)) c.share.ensures.made;
-      starts = IfOk-weaker share (IsFrontMadeOf s nfa) _ (λ ac made. made.0) c.share.ensures.made;
-      served = IfOk-weaker share (IsFrontMadeOf s nfa) _ (λ ac made. front-built s patterns nfa ac own made) c.share.ensures.made;
-      refused =
-          let from = c.in_ok-nfa.ensures.built.dictionary ∙ ap (λ (t : Settings). dictionary_by t c.args.patterns.now) c.noncontiguous.ensures in
-          IfErr-weaker share (IsNotMade s nfa) _ (λ error refused. dictionary-refused s nfa (front_dictionary s patterns) error from refused) c.share.ensures.refused;
+      same = c.of.ensures;
+      made = ∣ made-as s (front_dictionary s patterns) nfa c.in_ok-engine.engine c.of.result.value c.of-2.result.value own c.in_ok-engine.ensures.served.0 c.of.ensures c.of-2.ensures ∣₁;
+    }
+
+pub invariant_of-result : goal.invariant_of-result
+invariant_of-result c =
+    let asked = ap (λ (s : FrontSettings). s.start_kind) c.self.view_is in
+    let same = ap (λ (t : Shared). t.engine) c.in-Ok.ensures.ok in
+    record { starts = starts-shared c.args.self.now c.in_ok-nfa.nfa c.self.inside.start_kind c.in_ok-engine.engine c.in-Ok.shared.value.engine asked c.in_ok-engine.ensures.served.0 same }
+
+pub returns-in-Ok : goal.returns-in-Ok
+returns-in-Ok c =
+    let s = c.args.self.now in
+    let patterns = bytes_of c.args.patterns.now in
+    let nfa = c.in_ok-nfa.nfa in
+    let shared = c.in-Ok.shared.value in
+    let own = subst (λ (t : Settings). IsBuiltOf t c.args.patterns.now (built_as nfa)) c.noncontiguous.ensures c.in_ok-nfa.ensures.built in
+    let made = subst (IsEngineOf s.kind s nfa) (sym (ap (λ (t : Shared). t.engine) c.in-Ok.ensures.ok)) c.in_ok-engine.ensures.served in
+    let settings = ap (λ (t : Shared). t.settings.value) c.in-Ok.ensures.ok ∙ c.of-2.ensures in
+    let for_patterns = built-for s (front_dictionary s patterns) nfa shared.engine shared.built.value own made.0 shared.same in
+    record {
+      patterns = ap (λ (m : Dictionary). m.patterns) for_patterns;
+      kind = ap (λ (m : Dictionary). m.kind) for_patterns;
+      pairing = ap (λ (m : Dictionary). m.pairing) for_patterns;
+      starts = ap (λ (t : FrontSettings). t.start_kind) c.self.view_is;
+      served = front-built s patterns nfa _ own made settings;
+      refused = tt;
     }

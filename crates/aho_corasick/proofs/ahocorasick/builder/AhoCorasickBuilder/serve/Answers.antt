@@ -1,10 +1,11 @@
 -- The automaton that was named serves.
 use Rattle.std.proofs.Common.{◌≡◌, Some, rules, subst}
 use Rattle.std.proofs.lemmas.Result.{err_from_is_err_and}
-use Rattle.ac_tables.specs.ContiguousBuilder.{ContiguousSettings, IsRefusedFrom}
-use Rattle.ac_tables.specs.DfaBuild.{DfaSettings, IsDfaRefused}
+use Rattle.ac_tables.specs.Contiguous.ContiguousBuilder.{ContiguousSettings, IsRefusedFrom}
+use Rattle.ac_tables.specs.Dfa.DfaBuild.{DfaSettings, IsTooLargeOr}
+use Rattle.ac_noncontiguous.specs.Nfa.Reads.{dictionary}
 use Rattle.aho_corasick.specs.declared.ahocorasick.AhoCorasickKind.TheVariants as kinds
-use Rattle.aho_corasick.proofs.ServedLemmas.{named-contiguous, named-dfa, served-contiguous, served-dfa}
+use Rattle.aho_corasick.proofs.lemmas.ServedLemmas.{named-contiguous, named-dfa, served-contiguous, served-dfa}
 use Rattle.aho_corasick.proofs.ahocorasick.builder.AhoCorasickBuilder.serve.Goals as goal
 
 pub returns-in_ok-made-in-Some-ContiguousNFA-clause-served : goal.returns-in_ok-made-in-Some-ContiguousNFA-clause-served
@@ -19,7 +20,7 @@ returns-in_ok-made-in-Some-DFA-clause-served c =
     let named : s.kind ≡ Some kinds.DFA = search rules in
     served-dfa s c.args.nfa c.dfa.result c.in_ok-made-in-Some-DFA.made named c.dfa.ensures c.in_ok-made-in-Some-DFA.ensures.built
 
--- the one that was named isn't made
+-- the automaton that was named can't be made
 pub returns-in_err-made-in-Some-ContiguousNFA-clause-refused : goal.returns-in_err-made-in-Some-ContiguousNFA-clause-refused
 returns-in_err-made-in-Some-ContiguousNFA-clause-refused c =
     let s = c.args.self.now in
@@ -34,4 +35,4 @@ returns-in_err-made-in-Some-DFA-clause-refused c =
     let error = c.in_err-made-in-Some-DFA.field-0.0 in
     let named : s.kind ≡ Some kinds.DFA = search rules in
     let p = err_from_is_err_and c.from_residual-in_err-made-in-Some-DFA.result c.from_residual-in_err-made-in-Some-DFA.ensures.1 in
-    rw (p.1, p.2) (named-dfa s c.args.nfa error named (subst (λ (b : DfaSettings). IsDfaRefused b c.args.nfa error) c.dfa.ensures c.in_err-made-in-Some-DFA.ensures.refused))
+    rw (p.1, p.2) (named-dfa s c.args.nfa error named (subst (λ (b : DfaSettings). IsTooLargeOr b (dictionary c.args.nfa) (λ _. ⊥) error) c.dfa.ensures c.in_err-made-in-Some-DFA.ensures.refused))

@@ -1,9 +1,10 @@
--- The contiguous NFA is taken where no DFA is, within its limit.
+-- The contiguous NFA, within its limit, is taken if no DFA is.
 use Rattle.std.proofs.Common.{rules}
-use Rattle.ac_noncontiguous.specs.Reads.{dictionary}
-use Rattle.ac_tables.specs.ContiguousBuilder.{IsMadeFrom}
-use Rattle.aho_corasick.specs.Served.{TakesDfa, contiguous_by}
-use Rattle.aho_corasick.proofs.ServedLemmas.{within-contiguous}
+use Rattle.ac_noncontiguous.specs.Nfa.Reads.{dictionary}
+use Rattle.ac_tables.specs.Contiguous.ContiguousBuilder.{IsMadeFrom}
+use Rattle.aho_corasick.specs.Made.{contiguous_by}
+use Rattle.aho_corasick.specs.Served.{TakesDfa}
+use Rattle.aho_corasick.proofs.lemmas.ServedLemmas.{within-contiguous}
 use Rattle.aho_corasick.proofs.ahocorasick.builder.AhoCorasickBuilder.take.Goals as goal
 
 pub returns-in-Some-2-clause-taken : goal.returns-in-Some-2-clause-taken

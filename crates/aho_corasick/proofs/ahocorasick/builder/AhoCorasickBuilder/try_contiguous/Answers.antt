@@ -1,5 +1,5 @@
--- A contiguous NFA is made where it isn't too large.
-use Rattle.aho_corasick.proofs.ServedLemmas.{tries-contiguous, tries-contiguous_memory}
+-- A contiguous NFA is made if it isn't too large.
+use Rattle.aho_corasick.proofs.lemmas.ServedLemmas.{tries-contiguous, tries-contiguous_memory}
 use Rattle.aho_corasick.proofs.ahocorasick.builder.AhoCorasickBuilder.try_contiguous.Goals as goal
 
 pub returns-clause-tried : goal.returns-clause-tried

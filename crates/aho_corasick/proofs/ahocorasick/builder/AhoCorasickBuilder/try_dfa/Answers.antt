@@ -2,9 +2,9 @@
 use Rattle.std.proofs.Common.{◌≤◌, arith, rules, length}
 use Rattle.std.specs.Prelude.{◌≢◌}
 use Rattle.ac_input.specs.declared.search.StartKind.TheVariants.{Both}
-use Rattle.ac_noncontiguous.specs.Reads.{dictionary}
+use Rattle.ac_noncontiguous.specs.Nfa.Reads.{dictionary}
 use Rattle.aho_corasick.specs.Served.{most_for_dfa}
-use Rattle.aho_corasick.proofs.ServedLemmas.{tries-dfa}
+use Rattle.aho_corasick.proofs.lemmas.ServedLemmas.{tries-dfa}
 use Rattle.aho_corasick.proofs.ahocorasick.builder.AhoCorasickBuilder.try_dfa.Goals as goal
 
 pub returns-clause-tried : goal.returns-clause-tried

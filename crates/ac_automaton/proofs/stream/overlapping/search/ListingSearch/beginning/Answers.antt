@@ -1,10 +1,10 @@
 -- A search that has read nothing stands in the start state.
 use Rattle.std.proofs.Common.{[], false, subst, sym, arith}
 use Rattle.ac_input.specs.declared.search.Anchored.TheVariants.{No}
-use Rattle.ac_automaton.specs.StreamListing.{IsOnListing, ListingProgress, fresh_listing}
-use Rattle.ac_automaton.specs.StreamListingSearch.{IsListingSearch}
-use Rattle.ac_automaton.proofs.AheadLemmas.{blank-notes}
-use Rattle.ac_automaton.proofs.StreamListingSearchLemmas.{first_place, fresh-listing-right, fresh-listing-view}
+use Rattle.ac_automaton.specs.Stream.StreamListing.{IsOnListing, ListingProgress, fresh_listing}
+use Rattle.ac_automaton.specs.Stream.StreamListingSearch.{IsListingSearch}
+use Rattle.ac_automaton.proofs.ahead.AheadLemmas.{blank-notes}
+use Rattle.ac_automaton.proofs.stream.StreamListingSearchLemmas.{first_place, fresh-listing-right, fresh-listing-view}
 use Rattle.ac_automaton.proofs.stream.overlapping.search.ListingSearch.beginning.Given.{Over}
 use Rattle.ac_automaton.proofs.stream.overlapping.search.ListingSearch.beginning.Goals as goal
 

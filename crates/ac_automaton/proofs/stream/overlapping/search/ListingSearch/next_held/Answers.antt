@@ -1,10 +1,10 @@
--- The next occurrence in what was read is that of the walk over the last piece.
+-- The next occurrence in the bytes read is the next of the walk over the last piece.
 use Rattle.std.proofs.Common.{ℕ, List, take, subst, refl, ◌∙◌, ap}
 use Rattle.ac_input.specs.declared.search.Anchored.TheVariants.{No}
 use Rattle.ac_automaton.specs.Ahead.{AreNotes}
-use Rattle.ac_automaton.specs.StreamListing.{ListingCounts, ListingProgress, ListsHeld}
-use Rattle.ac_automaton.specs.StreamListingSearch.{listing_at}
-use Rattle.ac_automaton.proofs.StreamListingSearchLemmas.{HasListed, listed-on, listing-counts-none}
+use Rattle.ac_automaton.specs.Stream.StreamListing.{ListingCounts, ListingProgress, ListsHeld}
+use Rattle.ac_automaton.specs.Stream.StreamListingSearch.{listing_at}
+use Rattle.ac_automaton.proofs.stream.StreamListingSearchLemmas.{HasListed, listed-on, listing-counts-none}
 use Rattle.ac_automaton.proofs.stream.overlapping.search.ListingSearch.next_held.Given.{Over}
 use Rattle.ac_automaton.proofs.stream.overlapping.search.ListingSearch.next_held.Goals as goal
 

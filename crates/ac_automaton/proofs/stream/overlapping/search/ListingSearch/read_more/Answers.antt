@@ -1,12 +1,12 @@
--- What a read returned lies at the front of the buffer, after what was read before.
+-- The bytes of a read lie at the front of the buffer, after the bytes read before.
 use Rattle.std.proofs.Common.{◌≡◌, ◌-◌, ◌∙◌, ◌∷◌, ◌++◌, [], ℕ, List, ap, append-nil, length, nat_lt, refl, subst, sym, take, arith}
 use Rattle.std.specs.List.{concat}
 use Rattle.ac_input.specs.declared.search.Anchored.TheVariants.{No}
 use Rattle.ac_automaton.specs.Stream.{CanBeCounted}
-use Rattle.ac_automaton.specs.StreamListing.{ListingProgress, ListingReads, all_read}
-use Rattle.ac_automaton.specs.StreamListingSearch.{listing_at}
-use Rattle.ac_automaton.proofs.AheadLemmas.{blank-notes}
-use Rattle.ac_automaton.proofs.StreamListingSearchLemmas.{HasReading, reading-on, reading-test}
+use Rattle.ac_automaton.specs.Stream.StreamListing.{ListingProgress, ListingReads, all_read}
+use Rattle.ac_automaton.specs.Stream.StreamListingSearch.{listing_at}
+use Rattle.ac_automaton.proofs.ahead.AheadLemmas.{blank-notes}
+use Rattle.ac_automaton.proofs.stream.StreamListingSearchLemmas.{HasReading, reading-on, reading-test}
 use Rattle.ac_automaton.proofs.stream.overlapping.search.ListingSearch.read_more.Given.{Over}
 use Rattle.ac_automaton.proofs.stream.overlapping.search.ListingSearch.read_more.Goals as goal
 

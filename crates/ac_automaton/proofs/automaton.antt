@@ -1,0 +1,4 @@
+pub mod LinkedLemmas
+pub mod NamedLemmas
+pub mod NamedPassingLemmas
+pub mod PassLemmas

@@ -1,0 +1,4 @@
+pub mod BufferLemmas
+pub mod MovedLemmas
+pub mod OutputLemmas
+pub mod WriteWholeLoop

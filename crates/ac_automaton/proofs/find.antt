@@ -1,0 +1,5 @@
+pub mod CountedLemmas
+pub mod FindLemmas
+pub mod FindWalkLemmas
+pub mod TakenLemmas
+pub mod ToldLemmas

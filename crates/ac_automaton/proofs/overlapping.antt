@@ -1,0 +1,5 @@
+pub mod OverlappingAheadLemmas
+pub mod OverlappingLemmas
+pub mod OverlappingReadLemmas
+pub mod OverlappingStateLemmas
+pub mod ShowLemmas

@@ -1,0 +1,3 @@
+pub mod IdleLemmas
+pub mod PassingLemmas
+pub mod ReadOnLemmas

@@ -1,0 +1,249 @@
+-- What a search of a stream for every occurrence keeps between its calls stays right.
+use Rattle.std.proofs.Common.{◌≡◌, ℕ, ◌+◌, ◌-◌, ◌≤◌, nat_lt, Bool, true, false, List, [], ◌∷◌, ◌++◌, length, take, drop, Option, None, Some, sym, ap, subst, refl, ◌∙◌, arith, append-nil, length-append}
+use Rattle.std.specs.List.{concat}
+use Rattle.std.proofs.Math.Seq.{drop-append_seam, take-append_seam}
+use Rattle.std.proofs.lemmas.Bool.{false≢true, ltb-false, ltb-true}
+use Rattle.std.proofs.lemmas.List.{take-append-le}
+use Rattle.std.proofs.lemmas.List.Elements.{All-push}
+use Rattle.std.proofs.lemmas.List.Folds.{concat-append}
+use Rattle.ac_input.specs.declared.search.Anchored.{Anchored}
+use Rattle.ac_input.specs.declared.search.Anchored.TheVariants.{No}
+use Rattle.ac_input.specs.declared.steps.Steps.{Steps}
+use Rattle.ac_input.specs.Number.{StateID}
+use Rattle.ac_input.specs.Dictionary.{IsLive, live_len}
+use Rattle.ac_input.specs.Occurrence.{Occurrence}
+use Rattle.ac_input.specs.Steps.{Added, AreNone, Done}
+use Rattle.ac_input.specs.Tells.{Tells, ending}
+use Rattle.ac_automaton.specs.Automaton.{Built}
+use Rattle.ac_automaton.specs.Devices.Buffer.{least_room}
+use Rattle.ac_automaton.specs.Devices.Moved.{HasGiven}
+use Rattle.ac_automaton.specs.Stream.{CanBeCounted, CanStream}
+use Rattle.ac_automaton.specs.Stream.StreamListing.{IsOnListing, ListingCounts, ListingProgress, ListingReads, ListsHeld, all_read, fresh_listing, occurrences_in, searched_by}
+use Rattle.ac_automaton.specs.Stream.StreamListingSearch.{IsListingSearch, ListsOn, after_listed, listing_at}
+use Rattle.std.specs.Prelude.{map}
+use Rattle.ac_automaton.specs.Stream.StreamSearch.{some_of}
+use Rattle.ac_automaton.specs.declared.stream.overlapping.search.ListPlace.{ListPlace}
+use Rattle.ac_automaton.specs.declared.stream.overlapping.search.Listed.{Listed}
+use Rattle.ac_automaton.specs.declared.watched.Watched.{Watched}
+use Rattle.ac_automaton.proofs.stream.StreamListingLemmas.{listing-first, stands-listing}
+use Rattle.ac_automaton.proofs.stream.StreamSearchLemmas.{added-done}
+
+-- ---- counting
+
+-- nothing was done
+pub listing-counts-none : (s : ListingProgress) (x : Steps) → ListingCounts s s x x
+listing-counts-none s x = (0, record { looked = omega arith; scanned = omega arith; moved = omega arith }, omega arith, refl, refl)
+
+-- the counts of two steps in turn add up
+pub listing-counts-then : (s u t : ListingProgress) (x y z : Steps) → ListingCounts s u x y → ListingCounts u t y z → ListingCounts s t x z
+listing-counts-then s u t x y z one two =
+    let a = one.1 in
+    let b = two.1 in (
+      one.0 + two.0,
+      record { looked = omega (arith, a.looked, b.looked); scanned = omega (arith, a.scanned, b.scanned); moved = omega (arith, a.moved, b.moved) },
+      omega (arith, one.2, two.2),
+      two.3 ∙ one.3,
+      two.4 ∙ one.4,
+    )
+
+-- ---- the next occurrence
+
+-- how far the search has come after a call, from what it keeps then
+pub listed-view : (b : Built) (pieces : List (List ℕ)) (count : ℕ) (place : ListPlace) (sums : Steps) (r : Listed) (looks : ℕ) (more : Steps) (number : ℕ)
+    → length (take count (occurrences_in b (concat pieces))) ≡ count
+    → IsOnListing (after_listed (listing_at b pieces count place sums) r looks)
+    → number ≡ count + length (some_of r.found)
+    → Done looks 0 0 sums more
+    → listing_at b pieces number r.place more ≡ after_listed (listing_at b pieces count place sums) r looks
+listed-view b pieces count place sums r looks more number is course numbered done =
+    let all : List Occurrence = occurrences_in b (concat pieces) in
+    let given : List Occurrence = take count all in
+    let both = length-append given (some_of r.found) in
+    let long : number ≡ length (given ++ some_of r.found) = omega (arith, both, numbered, is) in
+    let begun = course.begun in
+    let front : take number all ≡ given ++ some_of r.found = ap (λ (n : ℕ). take n all) long ∙ ap (take (length (given ++ some_of r.found))) begun.1 ∙ take-append_seam (given ++ some_of r.found) begun.0 in
+    let scanned : more.scanned.value ≡ sums.scanned.value = omega (arith, done.scanned) in
+    let moved : more.moved.value ≡ sums.moved.value = omega (arith, done.moved) in
+    λ i. record {
+      built = b;
+      pieces = pieces;
+      given = front i;
+      at = r.place.at;
+      looked = done.looked i;
+      scanned = scanned i;
+      moved = moved i;
+    }
+
+-- what the search keeps after a call is right
+pub listed-right : (Reaches : List ℕ → StateID → Type 0) (matches : StateID → List ℕ) (s : ListingProgress) (place : ListPlace) (count room : ℕ) (held : List ℕ) (filled : ℕ) (over : Bool) (r : Listed) (x y : Steps) (number : ℕ)
+    → IsListingSearch Reaches matches s place count room held filled over → (on : ListsOn Reaches matches s place r x y) → number ≡ count + length (some_of r.found)
+    → IsListingSearch Reaches matches (after_listed s r on.looks) r.place number room held filled over
+listed-right Reaches matches s place count room held filled over r x y number is on numbered = record {
+  stands = on.stands;
+  number = let both = length-append s.given (some_of r.found) in omega (arith, both, is.number, numbered);
+  long = is.long;
+  fits = is.fits;
+  bytes = is.bytes ∙ ap (λ (k : ℕ). drop k (all_read s)) (sym on.from);
+  countable = is.countable;
+  uncountable = is.uncountable;
+}
+
+-- what the search counts after a call is what was done
+pub listed-counts : (s : ListingProgress) (r : Listed) (looks : ℕ) (fresh taken before after : Steps) → AreNone fresh → Done looks 0 0 fresh taken → Added taken before after → ListingCounts s (after_listed s r looks) before after
+listed-counts s r looks fresh taken before after none done added = (looks, added-done looks fresh taken before after none done added, refl, refl, refl)
+
+-- ---- at first
+
+-- where a search stands that has read nothing
+abbrev pub first_place : StateID → ℕ → ListPlace
+first_place start len = record { sid = start; from = 0; at = 0; index = 0; len = len }
+
+-- how far a search that has read nothing has come, from what it keeps
+pub fresh-listing-view : (b : Built) (pieces : List (List ℕ)) (count : ℕ) (start : StateID) (len : ℕ) (sums : Steps) → pieces ≡ [] → count ≡ 0 → AreNone sums → listing_at b pieces count (first_place start len) sums ≡ fresh_listing b
+fresh-listing-view b pieces count start len sums none zero_given no_sums = λ i. record {
+  built = b;
+  pieces = none i;
+  given = take (zero_given i) (occurrences_in b (concat (none i)));
+  at = 0;
+  looked = no_sums.looked i;
+  scanned = no_sums.scanned i;
+  moved = no_sums.moved i;
+}
+
+-- nothing of an empty text is live
+nothing-live : (live : Option ℕ) → live_len [] live ≡ 0
+nothing-live None = refl
+nothing-live (Some from) = omega arith
+
+-- what a search that has read nothing keeps is right
+pub fresh-listing-right : (b : Built) (supports : Anchored → Type 0) (Reaches : List ℕ → StateID → Type 0) (matches : StateID → List ℕ) (start : StateID) (len count room : ℕ)
+    → CanStream b supports → Reaches [] start → Tells b.dictionary No [] (matches start) → ((live : Option ℕ) × IsLive b.dictionary false [] live)
+    → len ≡ length (matches start) → len ≤ 18446744073709551615 → count ≡ 0 → room ≡ 65536
+    → IsListingSearch Reaches matches (fresh_listing b) (first_place start len) count room [] 0 false
+fresh-listing-right b supports Reaches matches start len count room can begins tells live numbered few none long = record {
+  stands = stands-listing Reaches matches (fresh_listing b) (first_place start len) can.1 can.2 (omega arith) (λ k d lt. absurd (omega arith)) refl refl refl (omega arith) begins numbered few
+      (listing-first b.dictionary (matches start) can.1 tells)
+      (λ one is. let e = nothing-live one in (omega (arith, e), omega arith, λ d. omega arith))
+      live;
+  number = sym none;
+  long = long;
+  fits = omega arith;
+  bytes = refl;
+  countable = λ e. omega arith;
+  uncountable = λ e. absurd (false≢true e);
+}
+
+-- ---- a read
+
+-- how far a search has come after a read
+abbrev pub after_reading : ListingProgress → List ℕ → ListingProgress
+after_reading s piece = record s { pieces = s.pieces ++ piece ∷ [] }
+
+-- the bytes read after a read are those before it and the piece
+pub reading-more : (s : ListingProgress) (piece : List ℕ) → all_read (after_reading s piece) ≡ all_read s ++ piece
+reading-more s piece = concat-append s.pieces (piece ∷ []) ∙ ap (λ (l : List ℕ). all_read s ++ l) (append-nil piece)
+
+-- how far the search has come after a read, from what it keeps then
+pub reading-view : (b : Built) (pieces after : List (List ℕ)) (count : ℕ) (place : ListPlace) (from : ℕ) (sums : Steps) (piece : List ℕ)
+    → length (take count (occurrences_in b (concat pieces))) ≡ count
+    → IsOnListing (listing_at b pieces count place sums)
+    → after ≡ pieces ++ piece ∷ []
+    → listing_at b after count (record place { from = from }) sums ≡ after_reading (listing_at b pieces count place sums) piece
+reading-view b pieces after count place from sums piece number course is =
+    let s : ListingProgress = listing_at b pieces count place sums in
+    let first = course.first piece in
+    let all : occurrences_in b (concat after) ≡ s.given ++ first.0 = ap (λ (l : List (List ℕ)). occurrences_in b (concat l)) is ∙ ap (occurrences_in b) (reading-more s piece) ∙ first.1 in
+    let front : take count (occurrences_in b (concat after)) ≡ s.given = ap (take count) all ∙ ap (λ (n : ℕ). take n (s.given ++ first.0)) (sym number) ∙ take-append_seam s.given first.0 in
+    λ i. record {
+      built = b;
+      pieces = is i;
+      given = front i;
+      at = place.at;
+      looked = sums.looked.value;
+      scanned = sums.scanned.value;
+      moved = sums.moved.value;
+    }
+
+-- What the search keeps after a read is right, and `over` is true exactly where there are more bytes than places.
+pub reading-right : (Reaches : List ℕ → StateID → Type 0) (matches : StateID → List ℕ) (s : ListingProgress) (place : ListPlace) (count room : ℕ) (held : List ℕ) (filled : ℕ) (was over : Bool) (room_after : ℕ) (piece now : List ℕ) (n : ℕ)
+    → IsListingSearch Reaches matches s place count room held filled was → s.at ≡ length (all_read s)
+    → ((live : Option ℕ) × IsLive s.built.dictionary false (searched_by s) live)
+    → length piece ≡ n → n ≤ room → now ≡ piece → room_after ≡ room
+    → (over ≡ false → CanBeCounted (all_read s ++ piece)) → (over ≡ true → ¬ CanBeCounted (all_read s ++ piece))
+    → IsListingSearch Reaches matches (after_reading s piece) (record place { from = place.at }) count room_after now n over
+reading-right Reaches matches s place count room held filled was over room_after piece now n is searched live long fits holds same few many =
+    let stands = is.stands in
+    let course = stands.course in
+    let t : ListingProgress = after_reading s piece in
+    let there : ListPlace = record place { from = place.at } in
+    let more = reading-more s piece in
+    let both = length-append (all_read s) piece in
+    let all = ap length more in
+    let text : searched_by t ≡ searched_by s = ap (take s.at) more ∙ take-append-le s.at (all_read s) piece course.ordered in
+    let m = s.built.dictionary in
+    let start : place.at ≡ length (all_read s) = stands.at ∙ searched in
+    record {
+      stands = stands-listing Reaches matches t there course.standard course.filled (omega (arith, course.ordered, both, all)) (All-push (λ l. length l ≤ least_room) s.pieces piece course.short (omega (arith, long, fits, is.long)))
+          course.paid.scanned course.paid.moved stands.at (omega arith) (subst (λ (l : List ℕ). Reaches l place.sid) (sym text) stands.reads) stands.len stands.few
+          (subst (λ (l : List ℕ). occurrences_in s.built l ≡ s.given ++ map (ending m l) (drop place.index (matches place.sid))) (sym text) stands.left)
+          (λ one alive. let old = stands.lookups one (subst (λ (l : List ℕ). IsLive m false l one) text alive) in let e = ap (λ (l : List ℕ). live_len l one) text in (omega (arith, old.0, e), old.1, old.2))
+          (subst (λ (l : List ℕ). (live : Option ℕ) × IsLive m false l live) (sym text) live);
+      number = is.number;
+      long = same ∙ is.long;
+      fits = omega (arith, fits, same);
+      bytes = holds ∙ sym (ap (λ (k : ℕ). drop k (all_read t)) start ∙ ap (drop (length (all_read s))) more ∙ drop-append_seam (all_read s) piece);
+      countable = λ e. subst CanBeCounted (sym more) (few e);
+      uncountable = λ e. subst (λ (l : List ℕ). ¬ CanBeCounted l) (sym more) (many e);
+    }
+
+-- the test for more bytes than places
+pub reading-test : (x piece : List ℕ) (at n : ℕ) → at ≤ 18446744073709551615 → at ≡ length x → length piece ≡ n
+    → (nat_lt (18446744073709551615 - at) n ≡ false → CanBeCounted (x ++ piece)) × (nat_lt (18446744073709551615 - at) n ≡ true → ¬ CanBeCounted (x ++ piece))
+reading-test x piece at n fits is long =
+    let both = length-append x piece in
+    (λ e. let le = ltb-false (18446744073709551615 - at) n e in omega arith, λ e few. let lt = ltb-true (18446744073709551615 - at) n e in omega arith)
+
+-- ---- by what a search keeps
+
+-- After a call that went on: what the search keeps is right, and it gave the next occurrence or none, at this cost.
+pub record HasListed (Reaches : List ℕ → StateID → Type 0) (matches : StateID → List ℕ) (s t : ListingProgress) (r : Listed) (number room : ℕ) (held : List ℕ) (filled : ℕ) (over : Bool) (before after : Steps) : Type 0 where
+  pub right : IsListingSearch Reaches matches t r.place number room held filled over
+  pub finds : ListsHeld s r.found t
+  pub counts : ListingCounts s t before after
+
+pub listed-on : (Reaches : List ℕ → StateID → Type 0) (matches : StateID → List ℕ) (b : Built) (pieces : List (List ℕ)) (count : ℕ) (place : ListPlace) (room : ℕ) (held : List ℕ) (filled : ℕ) (over : Bool) (sums more fresh taken before after : Steps) (r : Listed) (number : ℕ)
+    → IsListingSearch Reaches matches (listing_at b pieces count place sums) place count room held filled over
+    → ListsOn Reaches matches (listing_at b pieces count place sums) place r fresh taken
+    → number ≡ count + length (some_of r.found) → AreNone fresh → Added taken before after → Added taken sums more
+    → HasListed Reaches matches (listing_at b pieces count place sums) (listing_at b pieces number r.place more) r number room held filled over before after
+listed-on Reaches matches b pieces count place room held filled over sums more fresh taken before after r number is on numbered none added summed =
+    let s : ListingProgress = listing_at b pieces count place sums in
+    let done = added-done on.looks fresh taken sums more none on.done summed in
+    let view = listed-view b pieces count place sums r on.looks more number is.number on.stands.course numbered done in
+    record {
+      right = subst (λ (t : ListingProgress). IsListingSearch Reaches matches t r.place number room held filled over) (sym view) (listed-right Reaches matches s place count room held filled over r fresh taken number is on numbered);
+      finds = subst (λ (t : ListingProgress). ListsHeld s r.found t) (sym view) on.finds;
+      counts = subst (λ (t : ListingProgress). ListingCounts s t before after) (sym view) (listed-counts s r on.looks fresh taken before after none on.done added);
+    }
+
+-- After a read: what the search keeps is right, and the read returned this piece.
+pub record HasReading {R : Type 0} (remaining : R → Option (List ℕ)) (Reaches : List ℕ → StateID → Type 0) (matches : StateID → List ℕ) (s t : ListingProgress) (place : ListPlace) (count room : ℕ) (held : List ℕ) (filled : ℕ) (over : Bool) (before after : Watched R) (piece : List ℕ) (failed : ℕ) : Type 0 where
+  pub right : IsListingSearch Reaches matches t place count room held filled over
+  pub read : ListingReads remaining s t before after piece failed
+
+pub reading-on : {R : Type 0} (remaining : R → Option (List ℕ)) (Reaches : List ℕ → StateID → Type 0) (matches : StateID → List ℕ) (b : Built) (pieces all : List (List ℕ)) (count : ℕ) (place : ListPlace) (room : ℕ) (held : List ℕ) (filled : ℕ) (was over : Bool) (sums : Steps) (before after : Watched R) (piece now : List ℕ) (failed n room_after : ℕ)
+    → IsListingSearch Reaches matches (listing_at b pieces count place sums) place count room held filled was
+    → place.at ≡ length (concat pieces)
+    → ((text : List ℕ) (sid : StateID) → Reaches text sid → (live : Option ℕ) × IsLive b.dictionary false text live)
+    → HasGiven remaining before after (piece ∷ []) failed → length piece ≡ n → n ≤ room → now ≡ piece → all ≡ pieces ++ piece ∷ [] → room_after ≡ room
+    → (over ≡ false → CanBeCounted (concat pieces ++ piece)) → (over ≡ true → ¬ CanBeCounted (concat pieces ++ piece))
+    → HasReading remaining Reaches matches (listing_at b pieces count place sums) (listing_at b all count (record place { from = place.at }) sums) (record place { from = place.at }) count room_after now n over before after piece failed
+reading-on remaining Reaches matches b pieces all count place room held filled was over sums before after piece now failed n room_after is searched lives gave long fits holds joined same few many =
+    let s : ListingProgress = listing_at b pieces count place sums in
+    let there : ListPlace = record place { from = place.at } in
+    let view = reading-view b pieces all count place place.at sums piece is.number is.stands.course joined in
+    record {
+      right = subst (λ (t : ListingProgress). IsListingSearch Reaches matches t there count room_after now n over) (sym view)
+          (reading-right Reaches matches s place count room held filled was over room_after piece now n is searched (lives (searched_by s) place.sid is.stands.reads) long fits holds same few many);
+      read = record { same = view; short = omega (arith, long, fits, is.long); read = gave };
+    }

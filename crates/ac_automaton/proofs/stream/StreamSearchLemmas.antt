@@ -1,0 +1,521 @@
+-- What a search of a stream keeps between its calls stays right.
+use Rattle.std.proofs.Common.{◌≡◌, ℕ, ◌+◌, ◌-◌, ◌*◌, ◌≤◌, nat_lt, Bool, true, false, IsTrue, List, [], ◌∷◌, ◌++◌, length, take, drop, Option, None, Some, slice_range, sym, ap, subst, refl, ◌∙◌, arith, append-nil, append_assoc, length-append, length-drop}
+use Rattle.std.specs.List.{concat}
+use Rattle.std.proofs.Math.Seq.{drop-append_seam, take-append_seam}
+use Rattle.std.proofs.lemmas.Bool.{false≢true, ltb-false, ltb-true}
+use Rattle.std.proofs.lemmas.List.{drop-append-le, drop-drop}
+use Rattle.std.proofs.lemmas.List.Elements.{All-push}
+use Rattle.std.proofs.lemmas.List.Folds.{concat-append}
+use Rattle.ac_input.specs.Number.{StateID}
+use Rattle.ac_input.specs.declared.steps.Steps.{Steps}
+use Rattle.ac_input.specs.declared.search.MatchKind.{MatchKind}
+use Rattle.ac_input.specs.declared.search.MatchKind.TheVariants.{Standard, LeftmostFirst, LeftmostLongest}
+use Rattle.ac_input.specs.Dictionary.{IsLive, live_len, whole}
+use Rattle.ac_input.specs.Best.{IsBest}
+use Rattle.ac_input.specs.Laws.LiveLaws.{IsOwnInverse}
+use Rattle.ac_input.specs.Walk.{IsWalk}
+use Rattle.ac_input.proofs.lemmas.BeginningLemmas.{slice_range-append}
+use Rattle.ac_input.specs.Occurrence.{Occurrence}
+use Rattle.ac_input.specs.Work.{longest, shortest}
+use Rattle.ac_input.specs.Steps.{Added, AreNone, Done}
+use Rattle.ac_automaton.specs.Automaton.{Built}
+use Rattle.ac_automaton.specs.Devices.Buffer.{Filled, Held, IsRollPaid, room_for, nothing_held, rolled}
+use Rattle.std.specs.Prelude.{max}
+use Rattle.ac_automaton.specs.Replace.{matches_in}
+use Rattle.ac_automaton.specs.Stream.StreamSearch.{HoldsRead, IsStreamSearch, StandsInState, since_last, SearchesOn, after_search, progress_at, some_of}
+use Rattle.ac_automaton.specs.Stream.{CanBeCounted, HasRead, IsOnCourse, cut_of, StreamProgress, fresh_progress, room_of, IsDecided, StreamCounts, read_by, read_in_all, closed_by, may_wait}
+use Rattle.ac_automaton.specs.Devices.Moved.{HasGiven}
+use Rattle.ac_automaton.specs.declared.watched.Watched.{Watched}
+use Rattle.ac_automaton.specs.declared.stream.search.Progress.{Progress}
+use Rattle.ac_input.specs.declared.search.Anchored.TheVariants.{No}
+use Rattle.ac_automaton.specs.declared.stream.search.StreamSearch.TheInside.{Inside}
+use Rattle.ac_automaton.specs.declared.automaton.Automaton.{Ghosts}
+use Rattle.ac_automaton.specs.declared.stream.search.Searched.{Searched}
+use Rattle.ac_automaton.proofs.stream.SearchLemmas.{live-empty, wait-standard, stands-from, nothing-in_empty, alive-none}
+use Rattle.ac_automaton.proofs.stream.StreamLemmas.{walk-any}
+
+-- ---- counting
+
+-- nothing was done
+pub counts-none : (s : StreamProgress) (x : Steps) → StreamCounts s s x x
+counts-none s x = (0, 0, 0, record { looked = omega arith; scanned = omega arith; moved = omega arith }, omega arith, omega arith, omega arith)
+
+-- what is done in fresh steps is done in the steps to which they are added
+pub added-done : (looks : ℕ) (fresh taken before after : Steps) → AreNone fresh → Done looks 0 0 fresh taken → Added taken before after → Done looks 0 0 before after
+added-done looks fresh taken before after none done added =
+    let a = none.looked in
+    let b = none.scanned in
+    let d = none.moved in
+    let e = done.looked in
+    let f = done.scanned in
+    let h = done.moved in
+    let i = added.looked in
+    let j = added.scanned in
+    let k = added.moved in
+    record { looked = omega arith; scanned = omega arith; moved = omega arith }
+
+-- ---- what was given
+
+-- the matches returned are the first of all matches
+pub given-front : (s : StreamProgress) → IsDecided s → take (length s.given) (matches_in s.built (read_by s)) ≡ s.given
+given-front s decided =
+    let rest = decided [] (λ _. refl) in
+    let all : matches_in s.built (read_by s) ≡ s.given ++ rest.0 = ap (matches_in s.built) (sym (append-nil (read_by s))) ∙ rest.1 in
+    ap (take (length s.given)) all ∙ take-append_seam s.given rest.0
+
+-- ---- the next match
+
+-- how far a search has come after the next match, from what it keeps then
+pub next-view : (b : Built) (pieces : List (List ℕ)) (count : ℕ) (p : Progress) (buffer : Held) (sums : Steps) (r : Searched) (looks : ℕ) (more : Steps) (number : ℕ)
+    → length (take count (matches_in b (concat pieces))) ≡ count
+    → IsDecided (after_search (progress_at b pieces count p buffer sums) r looks)
+    → r.progress.closed ≡ p.closed
+    → r.progress.from ≡ p.from
+    → number ≡ count + length (some_of r.found)
+    → Done looks 0 0 sums more
+    → progress_at b pieces number r.progress buffer more ≡ after_search (progress_at b pieces count p buffer sums) r looks
+next-view b pieces count p buffer sums r looks more number is decided closed from numbered done =
+    let given : List Occurrence = take count (matches_in b (concat pieces)) in
+    let long : number ≡ length (given ++ some_of r.found) = let both = length-append given (some_of r.found) in omega arith in
+    let front : take number (matches_in b (concat pieces)) ≡ given ++ some_of r.found = ap (λ (n : ℕ). take n (matches_in b (concat pieces))) long ∙ given-front (after_search (progress_at b pieces count p buffer sums) r looks) decided in
+    let scanned : more.scanned.value ≡ sums.scanned.value = let e = done.scanned in omega arith in
+    λ i. record {
+      built = b;
+      pieces = pieces;
+      closed = closed i;
+      given = front i;
+      from = from i;
+      at = r.progress.at;
+      last = r.progress.last;
+      looked = done.looked i;
+      scanned = scanned i;
+      moved = buffer.moved;
+    }
+
+-- what the search keeps after the next match is right
+pub next-stream : (Reaches : List ℕ → StateID → Type 0) (s : StreamProgress) (start sid : StateID) (best : Option Occurrence) (count : ℕ) (buffer : Held) (over : Bool) (r : Searched) (x y : Steps) (number : ℕ)
+    → IsStreamSearch Reaches s start sid best count buffer over → (on : SearchesOn Reaches s start r x y) → number ≡ count + length (some_of r.found) → IsStreamSearch Reaches (after_search s r on.looks) start r.progress.sid r.progress.best number buffer over
+next-stream Reaches s start sid best count buffer over r x y number is on numbered = record {
+  stands = on.stands;
+  number = let both = length-append s.given (some_of r.found) in let n = is.number in omega arith;
+  holds = record { bytes = is.holds.bytes; keep = is.holds.keep; read = is.holds.read; moved = is.holds.moved; paid = is.holds.paid };
+  countable = is.countable;
+  uncountable = is.uncountable;
+}
+
+-- what the search counts after the next match is what was done
+pub next-counts : (s : StreamProgress) (r : Searched) (looks : ℕ) (fresh taken before after : Steps) → AreNone fresh → Done looks 0 0 fresh taken → Added taken before after → StreamCounts s (after_search s r looks) before after
+next-counts s r looks fresh taken before after none done added = (looks, 0, 0, added-done looks fresh taken before after none done added, refl, omega arith, omega arith)
+
+-- ---- at first
+
+-- a search that has read nothing stands in the start state
+fresh-stands : (b : Built) (Reaches : List ℕ → StateID → Type 0) (start : StateID) → 1 ≤ shortest b.dictionary.patterns → Reaches [] start → IsOwnInverse b.dictionary.pairing → ((live : Option ℕ) × IsLive b.dictionary false [] live) → StandsInState Reaches (fresh_progress b) start start None
+fresh-stands b Reaches start filled begins inverse live =
+    let nothing = nothing-in_empty b.dictionary [] filled refl in
+    let alive = alive-none b.dictionary [] live.0 nothing live.1 in
+    let kind = b.dictionary.kind in
+    stands-from Reaches (fresh_progress b) start start None None alive.0 (λ standard. refl) filled (omega arith) (omega arith) (omega arith) (omega arith) (omega arith) (omega arith) (λ k d lt. absurd (omega arith)) refl (omega arith) begins begins
+    refl nothing (λ standard. refl) inverse alive.1
+    (λ more rest follows walk. walk-any kind (whole b.dictionary more false) 0 (Some 0) None rest (omega arith) filled walk)
+    (λ one is. let none = live-empty [] 0 one in (omega arith, omega arith, λ d. omega arith))
+
+-- how far a search that has read nothing has come, from what it keeps
+pub fresh-view : (b : Built) (pieces : List (List ℕ)) (count : ℕ) (start : StateID) (n : ℕ) (buffer : Held) (sums : Steps) → pieces ≡ [] → count ≡ 0 → buffer ≡ nothing_held (max n 1) → AreNone sums
+    → progress_at b pieces count (record { sid = start; from = 0; at = 0; last = 0; best = None; closed = false }) buffer sums ≡ fresh_progress b
+fresh-view b pieces count start n buffer sums none zero_given empty no_sums = λ i. record {
+  built = b;
+  pieces = none i;
+  closed = false;
+  given = take (zero_given i) (matches_in b (concat (none i)));
+  from = 0;
+  at = 0;
+  last = 0;
+  looked = no_sums.looked i;
+  scanned = no_sums.scanned i;
+  moved = (empty i).moved;
+}
+
+-- and what it keeps is right
+pub fresh-right : (b : Built) (Reaches : List ℕ → StateID → Type 0) (start : StateID) (n count : ℕ) (buffer : Held) → 1 ≤ shortest b.dictionary.patterns → Reaches [] start → IsOwnInverse b.dictionary.pairing → ((live : Option ℕ) × IsLive b.dictionary false [] live)
+    → n ≡ longest b.dictionary.patterns → count ≡ 0 → buffer ≡ nothing_held (max n 1) → IsRollPaid buffer → IsStreamSearch Reaches (fresh_progress b) start start None count buffer false
+fresh-right b Reaches start n count buffer filled begins inverse live long none empty paid = record {
+  stands = fresh-stands b Reaches start filled begins inverse live;
+  number = sym none;
+  holds = record {
+    bytes = ap (λ (h : Held). h.bytes) empty;
+    keep = ap (λ (h : Held). h.keep) empty ∙ ap (λ longest. max longest 1) long;
+    read = ap (λ (h : Held). h.read) empty;
+    moved = ap (λ (h : Held). h.moved) empty;
+    paid = paid;
+  };
+  countable = λ e. omega arith;
+  uncountable = λ e. absurd (false≢true e);
+}
+
+-- ---- the end of the input
+
+-- a closed search has nothing more to read
+wait-follows : (kind : MatchKind) (closed : Bool) (more : List ℕ) → (kind ≡ Standard → closed ≡ false) → (may_wait kind ≡ true → more ≡ []) → closed ≡ true → more ≡ []
+wait-follows Standard closed more none follows is = absurd (false≢true (sym (none refl) ∙ is))
+wait-follows LeftmostFirst closed more none follows is = follows refl
+wait-follows LeftmostLongest closed more none follows is = follows refl
+
+-- closing a search leaves it where it stands
+closed-stands : (Reaches : List ℕ → StateID → Type 0) (s : StreamProgress) (start sid : StateID) (best : Option Occurrence) → StandsInState Reaches s start sid best → StandsInState Reaches (closed_by s) start sid best
+closed-stands Reaches s start sid best stands =
+    let course = stands.course in
+    let kind = s.built.dictionary.kind in
+    record {
+      course = record {
+        unclosed = λ standard. wait-standard kind standard;
+        filled = course.filled;
+        ordered = course.ordered;
+        kept = course.kept;
+        short = course.short;
+        begun = course.begun;
+        ended = course.ended;
+        decided = λ more follows. course.decided more (wait-follows kind s.closed more course.unclosed follows);
+        paid = record { some = course.paid.some; looked = course.paid.looked; scanned = course.paid.scanned; moved = course.paid.moved };
+      };
+      begins = stands.begins;
+      reads = stands.reads;
+      found = stands.found;
+      kept = stands.kept;
+      told = stands.told;
+      quiet = stands.quiet;
+      inverse = stands.inverse;
+      live = stands.live;
+      alive = stands.alive;
+      goes = λ more rest follows walk. stands.goes more rest (wait-follows kind s.closed more course.unclosed follows) walk;
+      lookups = stands.lookups;
+    }
+
+-- and what it keeps is right
+pub closed-right : (Reaches : List ℕ → StateID → Type 0) (s : StreamProgress) (start sid : StateID) (best : Option Occurrence) (count : ℕ) (buffer : Held) (over : Bool) → IsStreamSearch Reaches s start sid best count buffer over → IsStreamSearch Reaches (closed_by s) start sid best count buffer over
+closed-right Reaches s start sid best count buffer over is = record {
+  stands = closed-stands Reaches s start sid best is.stands;
+  number = is.number;
+  holds = record { bytes = is.holds.bytes; keep = is.holds.keep; read = is.holds.read; moved = is.holds.moved; paid = is.holds.paid };
+  countable = is.countable;
+  uncountable = is.uncountable;
+}
+
+-- ---- a read
+
+-- the buffer holds what it held, and this piece at its end
+pub record IsGrown (old new : Held) (piece : List ℕ) : Type 0 where
+  pub bytes : new.bytes ≡ old.bytes ++ piece
+  pub read : new.read ≡ old.read + length piece
+  pub keep : new.keep ≡ old.keep
+  pub moved : new.moved ≡ old.moved
+  pub paid : IsRollPaid new
+
+-- how far a search has come after a read
+abbrev pub after_read : StreamProgress → List ℕ → StreamProgress
+after_read s piece = record s { pieces = s.pieces ++ piece ∷ [] }
+
+-- the bytes read after a read are those before it and the piece
+pub read-more : (s : StreamProgress) (piece : List ℕ) → read_by (after_read s piece) ≡ read_by s ++ piece
+read-more s piece = concat-append s.pieces (piece ∷ []) ∙ ap (λ (l : List ℕ). read_by s ++ l) (append-nil piece)
+
+-- what comes after a read: the piece and what follows it
+read-on : (s : StreamProgress) (piece more : List ℕ) → read_by (after_read s piece) ++ more ≡ read_by s ++ (piece ++ more)
+read-on s piece more = ap (λ (l : List ℕ). l ++ more) (read-more s piece) ∙ append_assoc (read_by s) piece more
+
+-- a read leaves the search in its state
+read-stands : (Reaches : List ℕ → StateID → Type 0) (s : StreamProgress) (start sid : StateID) (best : Option Occurrence) (piece : List ℕ) → StandsInState Reaches s start sid best → s.closed ≡ false → length (read_by s ++ piece) ≤ s.from + room_of s.built → length piece ≤ room_of s.built → StandsInState Reaches (after_read s piece) start sid best
+read-stands Reaches s start sid best piece is open_ fits short =
+    let m = s.built.dictionary in
+    let t = after_read s piece in
+    let more = read-more s piece in
+    let longer = ap length more in
+    let both = length-append (read_by s) piece in
+    let course = is.course in
+    let ordered = course.ordered in
+    let moved = course.paid.moved in
+    let kept = course.kept in
+    let same : since_last t ≡ since_last s = ap (λ (l : List ℕ). slice_range l s.last s.at) more ∙ slice_range-append (read_by s) piece s.last s.at ordered.0 ordered.1 in
+    stands-from Reaches t start sid best is.found is.live course.unclosed course.filled ordered.0 (omega (arith, ordered.1)) course.ended kept.0 kept.1 (omega arith) (All-push (λ l. length l ≤ room_of s.built) s.pieces piece course.short short) course.paid.scanned (omega arith) is.begins
+    (subst (λ (l : List ℕ). Reaches l sid) (sym same) is.reads)
+    is.kept
+    (subst (λ (l : List ℕ). IsBest m.kind (whole m l false) is.found) (sym same) is.told)
+    is.quiet is.inverse
+    (subst (λ (l : List ℕ). IsLive m false l (Some is.live)) (sym same) is.alive)
+    (λ after rest follows walk.
+    let e = read-on s piece after in
+    subst (λ (l : List ℕ). IsWalk m.kind (whole m l false) 0 None (s.given ++ rest)) (sym e)
+    (is.goes (piece ++ after) rest (λ closed. absurd (false≢true (sym open_ ∙ closed))) (subst (λ (l : List ℕ). IsWalk m.kind (whole m l false) s.last (Some s.last) rest) e walk)))
+    (λ one alive.
+    subst (λ (l : List ℕ). (s.looked + live_len l one ≤ 2 * read_in_all s) × (s.at ≤ s.looked) × (IsTrue s.built.deterministic → s.looked ≤ read_in_all s)) (sym same)
+    (is.lookups one (subst (λ (l : List ℕ). IsLive m false l one) same alive)))
+
+-- how many bytes are held after the piece
+pub grown-long : (s : StreamProgress) (old new : Held) (piece : List ℕ) → IsOnCourse s → HoldsRead s old → IsGrown old new piece → length new.bytes + s.from ≡ length (read_by s ++ piece)
+grown-long s old new piece course holds grown =
+    let bytes = ap length grown.bytes in
+    let joined = length-append old.bytes piece in
+    let held = ap length holds.bytes in
+    let dropped = length-drop s.from (read_by s) in
+    let both = length-append (read_by s) piece in
+    let behind = course.kept.1 in
+    let inside = course.ordered.1 in
+    omega arith
+
+-- the bytes fit the buffer
+grown-fits : (s : StreamProgress) (old new : Held) (piece : List ℕ) → IsOnCourse s → HoldsRead s old → IsGrown old new piece → length (read_by s ++ piece) ≤ s.from + room_of s.built
+grown-fits s old new piece course holds grown =
+    let long = grown-long s old new piece course holds grown in
+    let within = grown.paid.within in
+    let room : new.room ≡ room_of s.built = grown.paid.room ∙ ap room_for (grown.keep ∙ holds.keep) in
+    omega arith
+
+-- no piece is longer than the buffer
+pub piece-short : (s : StreamProgress) (old new : Held) (piece : List ℕ) → IsOnCourse s → HoldsRead s old → IsGrown old new piece → length piece ≤ room_of s.built
+piece-short s old new piece course holds grown =
+    let within = grown.paid.within in
+    let room : new.room ≡ room_of s.built = grown.paid.room ∙ ap room_for (grown.keep ∙ holds.keep) in
+    let bytes = ap length grown.bytes in
+    let joined = length-append old.bytes piece in
+    omega arith
+
+-- moving the held bytes to the front leaves what the search keeps right
+pub roll-right : (Reaches : List ℕ → StateID → Type 0) (s : StreamProgress) (start sid : StateID) (best : Option Occurrence) (count : ℕ) (old new : Held) (over : Bool) (cut : ℕ)
+    → IsStreamSearch Reaches s start sid best count old over → cut ≡ cut_of s → new ≡ rolled old (cut - s.from) → IsRollPaid new
+    → IsStreamSearch Reaches (record s { from = cut; moved = new.moved }) start sid best count new over
+roll-right Reaches s start sid best count old new over cut is at moves paid =
+    let stands = is.stands in
+    let course = stands.course in
+    let before = course.kept.0 in
+    let behind = course.kept.1 in
+    let room = course.kept.2 in
+    let ordered = course.ordered in
+    let more = paid.paid in
+    let read : new.read ≡ length (read_by s) = ap (λ (h : Held). h.read) moves ∙ is.holds.read in
+    let there : s.from + (cut - s.from) ≡ cut = omega (arith, before, at) in
+    record {
+      stands = record {
+        course = record {
+          unclosed = course.unclosed;
+          filled = course.filled;
+          ordered = ordered;
+          kept = (omega (arith, at), omega (arith, at, ordered.0), omega (arith, room, before, at));
+          short = course.short;
+          begun = course.begun;
+          ended = course.ended;
+          decided = course.decided;
+          paid = record { some = course.paid.some; looked = course.paid.looked; scanned = course.paid.scanned; moved = omega (arith, more, read) };
+        };
+        begins = stands.begins;
+        reads = stands.reads;
+        found = stands.found;
+        kept = stands.kept;
+        told = stands.told;
+        quiet = stands.quiet;
+        inverse = stands.inverse;
+        live = stands.live;
+        alive = stands.alive;
+        goes = stands.goes;
+        lookups = stands.lookups;
+      };
+      number = is.number;
+      holds = record {
+        bytes = ap (λ (h : Held). h.bytes) moves ∙ (ap (drop (cut - s.from)) is.holds.bytes ∙ (drop-drop (cut - s.from) s.from (read_by s) ∙ ap (λ (n : ℕ). drop n (read_by s)) there));
+        keep = ap (λ (h : Held). h.keep) moves ∙ is.holds.keep;
+        read = read;
+        moved = refl;
+        paid = paid;
+      };
+      countable = is.countable;
+      uncountable = is.uncountable;
+    }
+
+-- What a search keeps after a read is right, and `over` is true exactly where there are more bytes than places.
+pub read-right : (Reaches : List ℕ → StateID → Type 0) (s : StreamProgress) (start sid : StateID) (best : Option Occurrence) (count : ℕ) (old new : Held) (was over : Bool) (piece : List ℕ)
+    → IsStreamSearch Reaches s start sid best count old was → IsGrown old new piece
+    → s.closed ≡ false
+    → (over ≡ false → CanBeCounted (read_by s ++ piece)) → (over ≡ true → ¬ CanBeCounted (read_by s ++ piece))
+    → IsStreamSearch Reaches (after_read s piece) start sid best count new over
+read-right Reaches s start sid best count old new was over piece is grown open_ few many =
+    let more = read-more s piece in
+    let course = is.stands.course in
+    let behind = course.kept.1 in
+    let inside = course.ordered.1 in
+    let le : s.from ≤ length (read_by s) = omega arith in
+    record {
+      stands = read-stands Reaches s start sid best piece is.stands open_ (grown-fits s old new piece course is.holds grown) (piece-short s old new piece course is.holds grown);
+      number = is.number;
+      holds = record {
+        bytes = grown.bytes ∙ ap (λ (l : List ℕ). l ++ piece) is.holds.bytes ∙ sym (drop-append-le s.from (read_by s) piece le) ∙ ap (drop s.from) (sym more);
+        keep = grown.keep ∙ is.holds.keep;
+        read = grown.read ∙ ap (λ (n : ℕ). n + length piece) is.holds.read ∙ sym (length-append (read_by s) piece) ∙ ap length (sym more);
+        moved = grown.moved ∙ is.holds.moved;
+        paid = grown.paid;
+      };
+      countable = λ e. subst CanBeCounted (sym more) (few e);
+      uncountable = λ e. subst (λ (l : List ℕ). ¬ CanBeCounted l) (sym more) (many e);
+    }
+
+-- how far the search has come after a read, from what it keeps then
+pub read-view : (b : Built) (pieces after : List (List ℕ)) (count : ℕ) (p : Progress) (old new : Held) (sums : Steps) (piece : List ℕ)
+    → length (take count (matches_in b (concat pieces))) ≡ count
+    → IsDecided (progress_at b pieces count p old sums)
+    → p.closed ≡ false
+    → IsGrown old new piece
+    → after ≡ pieces ++ piece ∷ []
+    → progress_at b after count p new sums ≡ after_read (progress_at b pieces count p old sums) piece
+read-view b pieces after count p old new sums piece number decided open_ grown is =
+    let s : StreamProgress = progress_at b pieces count p old sums in
+    let rest = decided piece (λ closed. absurd (false≢true (sym open_ ∙ closed))) in
+    let all : matches_in b (concat after) ≡ s.given ++ rest.0 = ap (λ (l : List (List ℕ)). matches_in b (concat l)) is ∙ ap (matches_in b) (read-more s piece) ∙ rest.1 in
+    let front : take count (matches_in b (concat after)) ≡ s.given = ap (take count) all ∙ ap (λ (n : ℕ). take n (s.given ++ rest.0)) (sym number) ∙ take-append_seam s.given rest.0 in
+    λ i. record {
+      built = b;
+      pieces = is i;
+      closed = p.closed;
+      given = front i;
+      from = p.from;
+      at = p.at;
+      last = p.last;
+      looked = sums.looked.value;
+      scanned = sums.scanned.value;
+      moved = grown.moved i;
+    }
+
+-- the test for more bytes than places
+pub over-test : (from held all : ℕ) → from ≤ 18446744073709551615 → held + from ≡ all → (nat_lt (18446744073709551615 - from) held ≡ false → all ≤ 18446744073709551615) × (nat_lt (18446744073709551615 - from) held ≡ true → ¬ (all ≤ 18446744073709551615))
+over-test from held all fits is =
+    (λ e. let le = ltb-false (18446744073709551615 - from) held e in omega arith, λ e few. let lt = ltb-true (18446744073709551615 - from) held e in omega arith)
+
+-- the last n bytes of the buffer are the piece
+piece-behind : (held front piece : List ℕ) (n : ℕ) → held ≡ front ++ piece → length piece ≡ n → drop (length held - n) held ≡ piece
+piece-behind held front piece n is long =
+    let both = length-append front piece in
+    let all = ap length is in
+    let k : length held - n ≡ length front = omega arith in
+    ap (λ (i : ℕ). drop i held) k ∙ ap (drop (length front)) is ∙ drop-append_seam front piece
+
+-- After a failed read: what the search keeps is right, and the read returned an empty piece.
+read-failed : {R : Type 0} (remaining : R → Option (List ℕ)) (before after : Watched R) (b : Built) (Reaches : List ℕ → StateID → Type 0) (start : StateID) (pieces all : List (List ℕ)) (count : ℕ) (p : Progress) (old new : Held) (sums : Steps) (over : Bool)
+    → IsStreamSearch Reaches (progress_at b pieces count p old sums) start p.sid p.best count old over
+    → p.closed ≡ false
+    → new ≡ old → IsRollPaid new → all ≡ pieces ++ [] ∷ []
+    → HasGiven remaining before after ([] ∷ []) 1
+    → IsStreamSearch Reaches (progress_at b all count p new sums) start p.sid p.best count new over
+    × HasRead remaining (progress_at b pieces count p old sums) (progress_at b all count p new sums) before after [] 1
+read-failed {R} remaining before after b Reaches start pieces all count p old new sums over is open_ same paid more failed =
+    let s : StreamProgress = progress_at b pieces count p old sums in
+    let grown : IsGrown old new [] = record {
+      bytes = ap (λ (h : Held). h.bytes) same ∙ sym (append-nil old.bytes);
+      read = let e = ap (λ (h : Held). h.read) same in omega arith;
+      keep = ap (λ (h : Held). h.keep) same;
+      moved = ap (λ (h : Held). h.moved) same;
+      paid = paid;
+    } in
+    let view = read-view b pieces all count p old new sums [] is.number is.stands.course.decided open_ grown more in
+    let none = append-nil (read_by s) in (
+      subst (λ (t : StreamProgress). IsStreamSearch Reaches t start p.sid p.best count new over) (sym view)
+          (read-right Reaches s start p.sid p.best count old new over over [] is grown open_
+          (λ e. subst CanBeCounted (sym none) (is.countable e)) (λ e. subst (λ (l : List ℕ). ¬ CanBeCounted l) (sym none) (is.uncountable e))),
+      subst (λ (t : StreamProgress). HasRead remaining s t before after [] 1) (sym view)
+          (record {
+            built = refl;
+            pieces = refl;
+            closed = refl;
+            given = refl;
+            at = refl;
+            last = refl;
+            from = is.stands.course.kept.0;
+            short = omega arith;
+            read = failed;
+          }),
+    )
+
+-- After a piece was taken: what the search keeps is right, and how far it has come.
+pub grown-right : (b : Built) (Reaches : List ℕ → StateID → Type 0) (start : StateID) (pieces all : List (List ℕ)) (count : ℕ) (p : Progress) (old new : Held) (sums : Steps) (was : Bool) (piece held : List ℕ)
+    → IsStreamSearch Reaches (progress_at b pieces count p old sums) start p.sid p.best count old was
+    → p.closed ≡ false
+    → IsGrown old new piece → held ≡ new.bytes → all ≡ pieces ++ piece ∷ [] → p.from ≤ 18446744073709551615
+    → IsStreamSearch Reaches (progress_at b all count p new sums) start p.sid p.best count new (nat_lt (18446744073709551615 - p.from) (length held))
+    × (progress_at b all count p new sums ≡ after_read (progress_at b pieces count p old sums) piece)
+grown-right b Reaches start pieces all count p old new sums was piece held is open_ grown holds joined fits =
+    let s : StreamProgress = progress_at b pieces count p old sums in
+    let course = is.stands.course in
+    let view = read-view b pieces all count p old new sums piece is.number course.decided open_ grown joined in
+    let long : length held + p.from ≡ length (read_by s ++ piece) = ap (λ (l : List ℕ). length l + p.from) holds ∙ grown-long s old new piece course is.holds grown in
+    let test = over-test p.from (length held) (length (read_by s ++ piece)) fits long in
+    let right = read-right Reaches s start p.sid p.best count old new was (nat_lt (18446744073709551615 - p.from) (length held)) piece is grown open_ test.0 test.1 in
+    (subst (λ (t : StreamProgress). IsStreamSearch Reaches t start p.sid p.best count new (nat_lt (18446744073709551615 - p.from) (length held))) (sym view) right, view)
+
+-- After a read of some bytes: what the search keeps is right, and the read returned this piece.
+read-gave : {R : Type 0} (remaining : R → Option (List ℕ)) (before after : Watched R) (b : Built) (Reaches : List ℕ → StateID → Type 0) (start : StateID) (pieces all : List (List ℕ)) (count : ℕ) (p : Progress) (old new : Held) (sums : Steps) (was : Bool) (n : ℕ) (held : List ℕ)
+    → IsStreamSearch Reaches (progress_at b pieces count p old sums) start p.sid p.best count old was
+    → p.closed ≡ false
+    → (filled : Filled remaining old new before after n) → IsRollPaid new
+    → held ≡ new.bytes → all ≡ pieces ++ drop (length held - n) held ∷ []
+    → p.from ≤ 18446744073709551615
+    → IsStreamSearch Reaches (progress_at b all count p new sums) start p.sid p.best count new (nat_lt (18446744073709551615 - p.from) (length held))
+    × HasRead remaining (progress_at b pieces count p old sums) (progress_at b all count p new sums) before after filled.piece 0
+read-gave {R} remaining before after b Reaches start pieces all count p old new sums was n held is open_ filled paid holds more fits =
+    let s : StreamProgress = progress_at b pieces count p old sums in
+    let piece : List ℕ = filled.piece in
+    let grown : IsGrown old new piece = record {
+      bytes = ap (λ (h : Held). h.bytes) filled.held;
+      read = ap (λ (h : Held). h.read) filled.held ∙ ap (λ (k : ℕ). old.read + k) (sym filled.count);
+      keep = ap (λ (h : Held). h.keep) filled.held;
+      moved = ap (λ (h : Held). h.moved) filled.held;
+      paid = paid;
+    } in
+    let course = is.stands.course in
+    let last = piece-behind held old.bytes piece n (holds ∙ grown.bytes) filled.count in
+    let joined : all ≡ pieces ++ piece ∷ [] = more ∙ ap (λ (l : List ℕ). pieces ++ l ∷ []) last in
+    let right = grown-right b Reaches start pieces all count p old new sums was piece held is open_ grown holds joined fits in (
+      right.0,
+      subst (λ (t : StreamProgress). HasRead remaining s t before after piece 0) (sym right.1)
+          (record {
+            built = refl;
+            pieces = refl;
+            closed = refl;
+            given = refl;
+            at = refl;
+            last = refl;
+            from = course.kept.0;
+            short = piece-short s old new piece course is.holds grown;
+            read = filled.read;
+          }),
+    )
+
+-- ---- what a read leaves, by what the search keeps
+
+-- how far a search has come, from what it keeps
+abbrev pub come_by : {S : Type 0} → Ghosts S → Inside S → StreamProgress
+come_by A i = progress_at (A.built i.automaton) i.pieces.items i.given.value i.progress i.buffer i.sums
+
+module _ {S R : Type 0} (A : Ghosts S) (remaining : R → Option (List ℕ)) (i : Inside S) (before after : Watched R) (all : List (List ℕ)) (new : Held) where
+  -- where the search stands after a read
+  abbrev pub filled_by : StreamProgress
+  filled_by = progress_at (A.built i.automaton) all i.given.value i.progress new i.sums
+
+  -- After a read: what the search keeps is right, and the read returned this piece.
+  pub record HasFilled (over : Bool) (piece : List ℕ) (errors : ℕ) : Type 0 where
+    pub right : IsStreamSearch (A.Reaches i.automaton No) filled_by i.start i.progress.sid i.progress.best i.given.value new over
+    pub read : HasRead remaining (come_by A i) filled_by before after piece errors
+
+-- what a failed read leaves
+pub fill-failed : {S R : Type 0} (A : Ghosts S) (remaining : R → Option (List ℕ)) (i : Inside S) (before after : Watched R) (all : List (List ℕ)) (new : Held)
+    → IsStreamSearch (A.Reaches i.automaton No) (come_by A i) i.start i.progress.sid i.progress.best i.given.value i.buffer i.over → i.progress.closed ≡ false
+    → new ≡ i.buffer → IsRollPaid new → all ≡ i.pieces.items ++ [] ∷ [] → HasGiven remaining before after ([] ∷ []) 1 → HasFilled A remaining i before after all new i.over [] 1
+fill-failed A remaining i before after all new is open_ same paid more failed =
+    let a = i.automaton in
+    let r = read-failed remaining before after (A.built a) (A.Reaches a No) i.start i.pieces.items all i.given.value i.progress i.buffer new i.sums i.over is open_ same paid more failed in
+    record { right = r.0; read = r.1 }
+
+-- what a read of some bytes leaves
+pub fill-gave : {S R : Type 0} (A : Ghosts S) (remaining : R → Option (List ℕ)) (i : Inside S) (before after : Watched R) (all : List (List ℕ)) (new : Held) (n : ℕ) (held : List ℕ)
+    → IsStreamSearch (A.Reaches i.automaton No) (come_by A i) i.start i.progress.sid i.progress.best i.given.value i.buffer i.over → i.progress.closed ≡ false
+    → (gave : Filled remaining i.buffer new before after n) → IsRollPaid new → held ≡ new.bytes → all ≡ i.pieces.items ++ drop (length held - n) held ∷ [] → i.progress.from ≤ 18446744073709551615
+    → HasFilled A remaining i before after all new (nat_lt (18446744073709551615 - i.progress.from) (length held)) gave.piece 0
+fill-gave A remaining i before after all new n held is open_ gave paid holds more fits =
+    let a = i.automaton in
+    let r = read-gave remaining before after (A.built a) (A.Reaches a No) i.start i.pieces.items all i.given.value i.progress i.buffer new i.sums i.over n held is open_ gave paid holds more fits in
+    record { right = r.0; read = r.1 }

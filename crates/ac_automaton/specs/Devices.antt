@@ -1,0 +1,4 @@
+pub mod Buffer
+pub mod Moved
+pub mod Output
+pub mod Watched

@@ -1,0 +1,3 @@
+pub mod SlotMoves
+pub mod SlotSends
+pub mod SlotSteps

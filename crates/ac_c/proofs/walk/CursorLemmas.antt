@@ -1,0 +1,82 @@
+-- A walk that goes on from a cursor: which matches are left, and where it stands.
+use Rattle.std.proofs.Common.{◌≡◌, ℕ, zero, suc, ◌+◌, ◌-◌, ◌*◌, ◌^◌, ◌<◌, ◌≤◌, List, ◌∷◌, length, drop, Option, Some, None, IfSome, refl, sym, ap, subst, ◌∙◌, arith}
+use Rattle.ac_input.specs.declared.search.MatchKind.{MatchKind}
+use Rattle.ac_input.specs.Computed.{pick_of, walk_from, walk_after}
+use Rattle.ac_input.specs.Input.{Asked}
+use Rattle.ac_input.specs.Occurrence.{Search, Occurrence, starting_at}
+use Rattle.ac_input.proofs.lemmas.WalkLemmas.{walk_from-none, walk_from-some}
+use Rattle.ac_automaton.specs.Automaton.{Built, kind_asked, searched}
+use Rattle.ac_automaton.specs.Iter.{Walk, GivesPick, IsOnItsWay, IsPlaceIn, left_of, walk_from_place, walk_after_pick}
+use Rattle.ac_automaton.proofs.iter.IterLemmas.{pick-yields}
+use Rattle.aho_corasick.specs.AhoCorasick.{as_built}
+use Rattle.aho_corasick.specs.declared.ahocorasick.AhoCorasick.{AhoCorasick}
+use Rattle.ac_c.specs.declared.found.Found.{Found}
+use Rattle.ac_c.specs.declared.walk.Cursor.{Cursor}
+use Rattle.ac_c.specs.Find.{asked_by}
+use Rattle.ac_c.specs.Walk.{AreGiven, Goes, IsCursorAfter, IsCursorIn, IsFirstLeft, TakesSome, bounds_of, last_of, left_of_walk, no_place, place_of_cursor}
+
+-- the matches of a walk from a place on don't depend on where its search began
+one-more : (turns : ℕ) (kind : MatchKind) (s : Search) (begun at : ℕ) (last : Option ℕ) (r : Option Occurrence) → pick_of kind s at last ≡ r
+    → ((o : Occurrence) → walk_from turns kind (starting_at s begun) o.end (Some o.end) ≡ walk_from turns kind s o.end (Some o.end))
+    → walk_from (suc turns) kind (starting_at s begun) at last ≡ walk_from (suc turns) kind s at last
+one-more turns kind s begun at last None e more = walk_from-none (suc turns) kind (starting_at s begun) at last e ∙ sym (walk_from-none (suc turns) kind s at last e)
+one-more turns kind s begun at last (Some o) e more =
+    walk_from-some turns kind (starting_at s begun) at last o e ∙ (ap (λ (os : List Occurrence). o ∷ os) (more o) ∙ sym (walk_from-some turns kind s at last o e))
+
+wherever : (turns : ℕ) (kind : MatchKind) (s : Search) (begun at : ℕ) (last : Option ℕ) → walk_from turns kind (starting_at s begun) at last ≡ walk_from turns kind s at last
+wherever zero kind s begun at last = refl
+wherever (suc turns) kind s begun at last = one-more turns kind s begun at last (pick_of kind s at last) refl (λ o. wherever turns kind s begun o.end (Some o.end))
+
+-- a last match that ended within a span ended before the number that stands for no match
+small : (last : Option ℕ) (at : ℕ) → at < no_place → IfSome last (λ end. end ≤ at) → IfSome last (λ end. end < no_place)
+small None at lt h = tt
+small (Some end) at lt h = let le : end ≤ at = h in omega arith
+
+-- a cursor that was moved to where a walk stands is valid, and has the matches that the walk has left
+pub cursor-after : (ac : AhoCorasick) (haystack : List ℕ) (c d : Cursor) (v : Walk) → length haystack < 2 ^ 63 → c.end ≤ length haystack
+    → v.built ≡ as_built ac → v.asked ≡ asked_by haystack (bounds_of c) → IsPlaceIn v.asked (record { start = v.at; last = v.last }) → Goes c (record { start = v.at; last = v.last }) d
+    → IsCursorAfter ac haystack c d (left_of v)
+cursor-after ac haystack c d v fits inside built asked within goes =
+    let a : Asked = asked_by haystack (bounds_of c) in let b : Built = as_built ac in
+    let here : IsPlaceIn a (record { start = v.at; last = v.last }) = subst (λ (z : Asked). IsPlaceIn z (record { start = v.at; last = v.last })) asked within in
+    let at_most : v.at ≤ c.end + 1 = here.0 in
+    let below : v.at < no_place = omega arith in
+    let last : last_of d ≡ v.last = goes.1 (small v.last v.at below here.1) in
+    let start : d.start ≡ v.at = ap (λ (z : Cursor). z.start) goes.0 in
+    let end : d.end ≡ c.end = ap (λ (z : Cursor). z.end) goes.0 in
+    let kind : MatchKind = kind_asked b a in let s : Search = searched b a in
+    let moved : Cursor = record c { start = v.at; last = d.last } in
+    let same_last : last_of moved ≡ v.last = sym (ap last_of goes.0) ∙ last in
+    record {
+      valid = ((omega arith, omega arith), subst (λ (o : Option ℕ). IfSome o (λ e. e ≤ d.start)) (sym last) (subst (λ (at : ℕ). IfSome v.last (λ e. e ≤ at)) (sym start) here.1));
+      same = goes.0 ∙ ap (λ (at : ℕ). record c { start = at; last = d.last }) (sym start);
+      rest = ap (left_of_walk ac haystack) goes.0 ∙ (ap (λ (o : Option ℕ). walk_after kind (starting_at s v.at) v.at o) same_last
+          ∙ (wherever (2 * (s.end + 1 - v.at) + 1) kind s v.at v.at v.last ∙ sym (λ i. walk_after (kind_asked (built i) (asked i)) (searched (built i) (asked i)) v.at v.last)));
+    }
+
+-- the next match of a walk changes neither its automaton nor its input
+pub after-same : (w : Walk) (r : Option Occurrence) (v : Walk) → (v ≡ record (walk_after_pick w r) { looked = v.looked; scanned = v.scanned; moved = v.moved }) → (v.built ≡ w.built) × (v.asked ≡ w.asked)
+after-same w None v h = (ap (λ (z : Walk). z.built) h, ap (λ (z : Walk). z.asked) h)
+after-same w (Some o) v h = (ap (λ (z : Walk). z.built) h, ap (λ (z : Walk). z.asked) h)
+
+-- one step from a cursor gives the first match left, and moves the cursor after it
+pub cursor-step : (ac : AhoCorasick) (haystack : List ℕ) (c d : Cursor) (w v : Walk) (r : Option Occurrence) → length haystack < 2 ^ 63 → IsCursorIn haystack c
+    → w ≡ walk_from_place (as_built ac) (asked_by haystack (bounds_of c)) (place_of_cursor c) → GivesPick w r v → IsOnItsWay v → IsPlaceIn v.asked (record { start = v.at; last = v.last }) → Goes c (record { start = v.at; last = v.last }) d
+    → (rest : List Occurrence) × IsFirstLeft (left_of_walk ac haystack c) r rest × IsCursorAfter ac haystack c d rest
+cursor-step ac haystack c d w v r fits valid e gives way within goes =
+    let same = after-same w r v gives.1 in (
+      left_of v,
+      subst (λ (z : Walk). IsFirstLeft (left_of z) r (left_of v)) e (pick-yields w v r way.within.1 gives.0 gives.1),
+      cursor-after ac haystack c d v fits valid.0.1 (same.0 ∙ ap (λ (z : Walk). z.built) e) (same.1 ∙ ap (λ (z : Walk). z.asked) e) within goes,
+    )
+
+-- several steps from a cursor fill the buffer, and move the cursor after the last match
+pub cursor-some : (ac : AhoCorasick) (haystack : List ℕ) (c : Cursor) (w : Walk) (old new : List Found) (taken : ℕ × Cursor) → length haystack < 2 ^ 63 → IsCursorIn haystack c
+    → w ≡ walk_from_place (as_built ac) (asked_by haystack (bounds_of c)) (place_of_cursor c) → TakesSome w c old new taken
+    → AreGiven (left_of_walk ac haystack c) old new taken.0 × IsCursorAfter ac haystack c taken.1 (drop taken.0 (left_of_walk ac haystack c))
+cursor-some ac haystack c w old new taken fits valid e h =
+    let all : left_of w ≡ left_of_walk ac haystack c = ap left_of e in (
+      subst (λ (os : List Occurrence). AreGiven os old new taken.0) all h.given,
+      subst (IsCursorAfter ac haystack c taken.1) (h.rest ∙ ap (drop taken.0) all)
+          (cursor-after ac haystack c taken.1 h.after fits valid.0.1 (h.built ∙ ap (λ (z : Walk). z.built) e) (h.asked ∙ ap (λ (z : Walk). z.asked) e) h.within h.goes),
+    )

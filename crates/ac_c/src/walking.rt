@@ -1,0 +1,48 @@
+//! What gives the matches of a walk: an iterator that reads ahead, or one that doesn't.
+ghost use Rattle.std.specs.Prelude.{◌≡◌};
+
+use aho_corasick::{FindIter, FindIterAhead, Match, Steps, WalkPlace};
+
+/// An iterator over the matches of a walk.
+pub trait Walking {
+    ghost use Rattle.std.specs.Iterator.{YieldsFirst};
+    ghost use Rattle.ac_automaton.specs.Iter.{GivesPick, IsOnItsWay, IsPlaceIn, Walk, left_of};
+
+    /// The walk, where it stands.
+    ghost walk: { Self → Walk };
+
+    /// The next match.
+    fn next_match(&mut self, steps: &mut Steps) -> Option<Match>
+        ensures gives { GivesPick (walk self.old) result (walk self.new) }
+        ensures yields { YieldsFirst left_of (walk self.old) result (walk self.new) }
+        ensures kept { IsOnItsWay (walk self.new) };
+
+    /// Where the walk stands.
+    fn stands(&self) -> WalkPlace
+        ensures value { result ≡ (record { start = (walk self.now).at; last = (walk self.now).last }) }
+        ensures within { IsPlaceIn (walk self.now).asked result };
+}
+
+impl<'a, 'h> Walking for FindIter<'a, 'h> {
+    ghost walk = { λ w. w };
+
+    fn next_match(&mut self, steps: &mut Steps) -> Option<Match> {
+        self.next_counted(steps)
+    }
+
+    fn stands(&self) -> WalkPlace {
+        self.place()
+    }
+}
+
+impl<'a, 'h> Walking for FindIterAhead<'a, 'h> {
+    ghost walk = { λ w. w };
+
+    fn next_match(&mut self, steps: &mut Steps) -> Option<Match> {
+        self.next_counted(steps)
+    }
+
+    fn stands(&self) -> WalkPlace {
+        self.place()
+    }
+}

@@ -1,0 +1,2 @@
+pub mod FingerprintLemmas
+pub mod OpeningLemmas

@@ -1,0 +1,11 @@
+pub mod BucketLemmas
+pub mod FindLemmas
+pub mod HashLemmas
+pub mod LaneLemmas
+pub mod NextLemmas
+pub mod OnlyLemmas
+pub mod PatternLemmas
+pub mod PreferenceLemmas
+pub mod TableLemmas
+pub mod TeddyLemmas
+pub mod TextLemmas

@@ -1,0 +1,9 @@
+pub mod BuilderLemmas
+pub mod CandidateLemmas
+pub mod ChoiceLemmas
+pub mod MemmemLemmas
+pub mod NeedleLemmas
+pub mod PackedLemmas
+pub mod RareBytesLemmas
+pub mod SpanLemmas
+pub mod StartBytesLemmas

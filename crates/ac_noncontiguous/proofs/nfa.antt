@@ -1,0 +1,14 @@
+pub mod ByteLemmas
+pub mod ChildLemmas
+pub mod CountLemmas
+pub mod IdleLemmas
+pub mod LookupLemmas
+pub mod MeaningLemmas
+pub mod NamesLemmas
+pub mod NextLemmas
+pub mod OverLemmas
+pub mod PassingLemmas
+pub mod PatternLensLemmas
+pub mod ReadCallLemmas
+pub mod ReadLemmas
+pub mod TableLemmas

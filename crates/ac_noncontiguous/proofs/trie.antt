@@ -1,0 +1,17 @@
+pub mod BridgeLemmas
+pub mod ChildrenLemmas
+pub mod DictionaryLemmas
+pub mod FailLemmas
+pub mod FailsLemmas
+pub mod FirstLemmas
+pub mod GrownLemmas
+pub mod LinkedLemmas
+pub mod MarkLemmas
+pub mod OwnLemmas
+pub mod StandingLemmas
+pub mod StepLemmas
+pub mod StuckLemmas
+pub mod TextLemmas
+pub mod TreeLemmas
+pub mod TrieLemmas
+pub mod WalkLemmas

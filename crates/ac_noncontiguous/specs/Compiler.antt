@@ -1,0 +1,5 @@
+pub mod Assembly
+pub mod Edges
+pub mod Layout
+pub mod Numbering
+pub mod Only

@@ -1,0 +1,11 @@
+pub mod CellLemmas
+pub mod DfaBuildLemmas
+pub mod DfaCopyLemmas
+pub mod DfaIdleLemmas
+pub mod DfaListLemmas
+pub mod DfaPassingLemmas
+pub mod DfaReadLemmas
+pub mod FilledLemmas
+pub mod RowLemmas
+pub mod TableLemmas
+pub mod WriteLemmas

@@ -1,0 +1,106 @@
+-- What a search by a DFA may pass in the start: places at which no pattern opens.
+use Rattle.std.proofs.Common.{◌≡◌, ⊎_elim, inl, ℕ, suc, ◌+◌, ◌<◌, ◌≤◌, true, false, IsTrue, List, [], ◌∷◌, ◌++◌, Option, None, Some, refl, subst, ◌∙◌, arith}
+use Rattle.std.specs.Coded.{le_prop}
+use Rattle.std.specs.Prelude.{slice_index, length}
+use Rattle.std.proofs.Math.Logic.{∥∥₁_elim, ∥∥₁_map, ∥∥₁_prop}
+use Rattle.std.proofs.lemmas.Bool.{cases_eq}
+use Rattle.std.proofs.lemmas.List.{append_assoc}
+use Rattle.ac_input.specs.Alphabet.{class}
+use Rattle.ac_input.specs.declared.search.Anchored.TheVariants.{No, Yes}
+use Rattle.ac_input.specs.declared.search.StartKind.{StartKind}
+use Rattle.ac_input.specs.declared.search.StartKind.TheVariants.{Both, Unanchored, Anchored}
+use Rattle.ac_input.specs.Candidate.{Filter}
+use Rattle.ac_input.specs.Dfa.{Serves}
+use Rattle.ac_input.specs.Dictionary.{IsLive, IsPattern}
+use Rattle.ac_automaton.specs.Ahead.{MayNote}
+use Rattle.ac_automaton.specs.Automaton.{IsReached, Leads}
+use Rattle.ac_automaton.specs.Held.{last_special_of}
+use Rattle.ac_automaton.specs.Passing.{MayPass, MayReadBy}
+use Rattle.ac_automaton.proofs.lemmas.CursorLemmas.{leads-none}
+use Rattle.ac_automaton.proofs.automaton.NamedPassingLemmas.{may-pass}
+use Rattle.ac_automaton.proofs.skip.PassingLemmas.{StopsBefore, may-read}
+use Rattle.ac_automaton.proofs.skip.ReadOnLemmas.{between}
+use Rattle.ac_automaton.specs.declared.look.Between.{Between}
+use Rattle.ac_automaton.specs.declared.look.LookUp.{Ghosts}
+use Rattle.ac_tables.specs.declared.dfa.DFA.{DFA}
+use Rattle.ac_tables.specs.declared.dfa.table.Table.{Table}
+use Rattle.ac_tables.specs.Dfa.DfaReads.{dfa_dictionary, dfa_built_as, dfa_matches_at, is_dfa_start_at, is_dfa_special_at, IsNamingFor, IsDfaRead}
+use Rattle.ac_automaton.specs.ReadOn.{is_between}
+use Rattle.ac_tables.proofs.dfa.DfaIdleLemmas.{past-none, stays-in-start}
+use Rattle.ac_tables.proofs.dfa.DfaReadLemmas.{all-names, dead-said, row-leads, start-read, starts-placed, state-matches}
+use Rattle.ac_tables.proofs.contiguous.TestLemmas.{start-has}
+
+-- ---- every text leads somewhere
+
+-- the number to which bytes lead by the table
+pub run : Table → ℕ → List ℕ → ℕ
+run table sid [] = sid
+run table sid (b ∷ bs) = run table (slice_index table.trans.items (sid + class table.classes b)) bs
+
+run-leads : (dfa : DFA) (sid : ℕ) (bytes : List ℕ) → ((k : ℕ) → slice_index bytes k < 256) → Leads (IsDfaRead dfa No) sid bytes (run dfa.table sid bytes)
+unfolding run
+run-leads dfa sid [] small = leads-none (IsDfaRead dfa No) sid
+run-leads dfa sid (b ∷ bs) small = λ text reads.
+    let next = slice_index dfa.table.trans.items (sid + class dfa.table.classes b) in
+    let there = row-leads dfa No sid b next (small 0) refl text reads in
+    subst (λ (l : List ℕ). IsDfaRead dfa No l (run dfa.table next bs)) (append_assoc text (b ∷ []) bs) (run-leads dfa next bs (λ k. small (suc k)) (text ++ b ∷ []) there)
+
+-- ---- the start
+
+-- if it is merely known that unanchored searches are served, they are served
+serves-told : (kind : StartKind) → ∥ Serves kind No ∥₁ → Serves kind No
+serves-told Both h = tt
+serves-told Unanchored h = refl
+serves-told Anchored h = absurd (∥∥₁_elim h (λ x y. absurd x) (λ (e : No ≡ Yes). let r : ⊥ = cc in r))
+
+-- if an unanchored search reaches a number, unanchored searches are served
+pub reached-serves : (dfa : DFA) (sid : ℕ) → IsReached (IsDfaRead dfa No) sid → Serves dfa.table.kind No
+reached-serves dfa sid h = serves-told dfa.table.kind (∥∥₁_elim h ∥∥₁_prop (λ w. ∥∥₁_map w.1.reached (λ v. v.1.0)))
+
+-- if the start matches nothing, a search in it may pass places at which no pattern opens
+dfa-may-pass : (dfa : DFA) (len sid : ℕ) → 0 < len → ((n : ℕ) (p : List ℕ) → IsPattern (dfa_dictionary dfa) n p → len ≤ length p) → IsReached (IsDfaRead dfa No) sid → dfa.table.max_match < dfa.table.start → MayPass (dfa_dictionary dfa) len (IsDfaRead dfa No) dfa.table.start
+dfa-may-pass dfa len sid some long h past =
+    let start = dfa.table.start in
+    may-pass (dfa_built_as dfa) (IsNamingFor dfa No) (dfa_matches_at dfa) (is_dfa_start_at dfa) (is_dfa_special_at dfa) len start (all-names dfa No) some long
+    (start-read dfa No start (reached-serves dfa sid h) refl)
+    (start-has start start dfa.table.start_anchored (inl refl)) (past-none dfa.table start past) (λ bytes small. (run dfa.table start bytes, run-leads dfa start bytes small))
+
+-- a live state at which nothing matches is never between the states at which a search stops
+dfa-quiet : (dfa : DFA) (two : Between) (sid : ℕ) (text : List ℕ) → two.last ≤ dfa.table.max_match → IsDfaRead dfa No text sid → dfa_matches_at dfa sid ≡ [] → ¬ IsLive (dfa_dictionary dfa) false text None → ¬ IsTrue (is_between two sid)
+dfa-quiet dfa two sid text below reads none alive e =
+    let w = (between two sid).0 e in
+    ⊎_elim
+    (λ (zero : sid ≡ 0). alive ((dead-said dfa sid true (λ _. zero, λ _. refl) No text reads).0 refl))
+    (λ some. state-matches dfa sid ∣ (No, text, reads) ∣₁ some (omega (arith, w.1, below)) none)
+    (cases_eq sid 0)
+
+-- ---- up to which number a search stops
+
+-- the unanchored start stands before the anchored one
+starts-ordered : (dfa : DFA) → dfa.table.start ≤ dfa.table.start_anchored
+starts-ordered dfa = ∥∥₁_elim dfa.stands le_prop (λ w. let placed = starts-placed (dfa_dictionary dfa) dfa.table w.0 w.1 in omega (arith, placed))
+
+-- the last special number is past the last that matches only where a prefilter is held; then the starts are special
+pub special-below : (dfa : DFA) (last : ℕ) → last ≡ dfa.max_special → StopsBefore dfa.table.start last dfa.table.max_match
+special-below dfa last is lt = by dfa.prefilter dfa.special
+  where
+    by : (held : Option Filter) → dfa.max_special ≡ last_special_of held dfa.table.start_anchored dfa.table.max_match → last ≡ dfa.table.max_match
+    by None at = is ∙ at
+    by (Some f) at = absurd (let e = starts-ordered dfa in omega (arith, at, is, e, lt))
+
+-- ---- by its skips
+
+-- what a search that skips asks of the automaton
+abbrev pub look_ups : Ghosts DFA
+look_ups = record { built = dfa_built_as; Reaches = IsDfaRead; matches = dfa_matches_at }
+
+-- A search may read on by its skips if its last stop, where that is before the start, is the greatest state that matches.
+pub may-read-by : (dfa : DFA) (two : Between) → StopsBefore dfa.table.start two.last dfa.table.max_match → MayReadBy look_ups dfa dfa.skips two
+may-read-by dfa two = may-read look_ups dfa dfa.skips two dfa.table.start dfa.table.max_match dfa.begins dfa.opened (stays-in-start dfa) (dfa-may-pass dfa) (dfa-quiet dfa two)
+
+-- several walks may go side by side
+pub may-note : (dfa : DFA) (sid : ℕ) → IsReached (IsDfaRead dfa No) sid → MayNote look_ups dfa dfa.table.start dfa.table.max_match
+may-note dfa sid h = record {
+  starts = start-read dfa No dfa.table.start (reached-serves dfa sid h) refl;
+  quiet = past-none dfa.table;
+}

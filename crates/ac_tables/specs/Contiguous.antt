@@ -1,0 +1,9 @@
+pub mod ByRows
+pub mod ContiguousBuild
+pub mod ContiguousBuilder
+pub mod ContiguousReads
+pub mod ContiguousRows
+pub mod ContiguousTable
+pub mod Cut
+pub mod WordReads
+pub mod Words

@@ -1,0 +1,10 @@
+pub mod DfaBuild
+pub mod DfaCopy
+pub mod DfaLists
+pub mod DfaLookups
+pub mod DfaMade
+pub mod DfaNumbers
+pub mod DfaReads
+pub mod DfaTable
+pub mod Filler
+pub mod Filling

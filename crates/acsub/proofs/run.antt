@@ -1,0 +1,4 @@
+pub mod CountLemmas
+pub mod FileLemmas
+pub mod RunLawLemmas
+pub mod RunLemmas

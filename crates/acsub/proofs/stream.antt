@@ -1,0 +1,4 @@
+pub mod CutLemmas
+pub mod StreamListLemmas
+pub mod StreamOverlapLemmas
+pub mod StreamedLemmas

@@ -1,0 +1,48 @@
+-- What the outcome of the program says of the run, the help and the flush.
+use Rattle.std.proofs.Common.{◌≡◌, inl, inr, ℕ, List, Option, Result, Ok, Err, refl, sym, ap, ◌∙◌, subst}
+use Rattle.std.specs.Prelude.{String, Vec}
+use Rattle.std.specs.declared.alloc.Global.{Global}
+use Rattle.std.specs.declared.io.Error.{Error}
+use Rattle.std.specs.declared.vec.IntoIter.{IntoIter}
+use Rattle.ac_automaton.specs.declared.watched.Watched.{Watched}
+use Rattle.acsub.specs.Outcome.{AnswersFile, AnswersHelp, Collects, EndsProgram, EndsTool, Finishes, RanFile, WritesText}
+use Rattle.acsub.specs.Tool.{status_of}
+use Rattle.acsub.specs.declared.error.RunError.{RunError}
+use Rattle.acsub.specs.declared.error.RunError.TheVariants as errors
+use Rattle.acsub.specs.declared.words.Words.{Words}
+use Rattle.acsub.specs.declared.tool.Fault.{Fault}
+use Rattle.acsub.specs.declared.tool.Fault.TheVariants as faults
+use Rattle.acsub.specs.declared.words.WordsFault.TheVariants.{Memory}
+
+-- ---- the outcome after the flush
+
+-- the outcome after help was written and flushed
+pub help-finished : {W : Type 0} (contents : W → Option (List ℕ)) (before between after : Watched W) (text : List ℕ) (answer : Result (Unit {0}) RunError) (outcome : Result (Unit {0}) Fault) → WritesText contents text before between answer → Finishes contents answer between after outcome → AnswersHelp contents before after outcome
+help-finished contents before between after text (Ok done) (Ok none) writes flush = (text, between, writes, flush)
+help-finished contents before between after text (Ok done) (Err fault) writes flush = subst (λ (f : Fault). AnswersHelp contents before after (Err f)) (sym flush.0) (text, between, writes, flush.1)
+help-finished contents before between after text (Err e) (Ok none) writes flush = absurd flush
+help-finished contents before between after text (Err e) (Err fault) writes (told, inl flush) = subst (λ (f : Fault). AnswersHelp contents before after (Err f)) (sym told) (inl (text, between, writes, flush))
+help-finished contents before between after text (Err e) (Err fault) writes (told, inr flush) = subst (λ (f : Fault). AnswersHelp contents before after (Err f)) (sym told) (inr (inl (text, between, writes, flush)))
+
+module _ {F R W : Type 0} (held : F → Option (List ℕ)) (remaining : R → Option (List ℕ)) (contents : W → Option (List ℕ)) (asked : Words) where
+  -- the outcome after a run and a flush
+  pub run-finished : (r r' : Watched R) (before between after : Watched W) (answer : Result (Unit {0}) RunError) (outcome : Result (Unit {0}) Fault)
+      → RanFile held remaining contents asked r r' before between answer → Finishes contents answer between after outcome → AnswersFile held remaining contents asked r r' before after outcome
+  run-finished r r' before between after (Ok done) (Ok none) ran flush = (between, ran, flush)
+  run-finished r r' before between after (Ok done) (Err fault) ran flush = subst (λ (f : Fault). AnswersFile held remaining contents asked r r' before after (Err f)) (sym flush.0) (between, ran, flush.1)
+  run-finished r r' before between after (Err e) (Ok none) ran flush = absurd flush
+  run-finished r r' before between after (Err e) (Err fault) ran (told, inl flush) = subst (λ (f : Fault). AnswersFile held remaining contents asked r r' before after (Err f)) (sym told) (inl (between, ran, flush))
+  run-finished r r' before between after (Err e) (Err fault) ran (told, inr flush) = subst (λ (f : Fault). AnswersFile held remaining contents asked r r' before after (Err f)) (sym told) (inr (inl (between, ran, flush)))
+
+-- ---- the words
+
+module _ {F R W Z A : Type 0} (held : F → Option (List ℕ)) (remaining : R → Option (List ℕ)) (contents : W → Option (List ℕ)) where
+  -- if the words were collected, the program ends as the tool does with these words
+  pub ends-collected : (words : Result (IntoIter (String Z) A) Error) (all : Vec (String Z) Global) (r r' : Watched R) (w w' : Watched W) (status : ℕ) → Collects words (Ok all) → EndsTool held remaining contents all.items r r' w w' status → EndsProgram held remaining contents words r r' w w' status
+  ends-collected (Ok words) all r r' w w' status same ends = subst (λ (ws : List (String Z)). EndsTool held remaining contents ws r r' w w' status) same ends
+  ends-collected (Err error) all r r' w w' status none ends = absurd none
+
+  -- if the words were not collected, the fault is reported, and no device is touched
+  pub ends-uncollected : (words : Result (IntoIter (String Z) A) Error) (fault : Fault) (r : Watched R) (w : Watched W) (status : ℕ) → Collects {Y = Global} words (Err fault) → status ≡ status_of fault → EndsProgram held remaining contents words r r w w status
+  ends-uncollected (Ok words) fault r w status memory told = (Err (faults.Run errors.Memory), told ∙ ap status_of memory, (Err Memory, tt, (refl, (refl, refl))))
+  ends-uncollected (Err error) fault r w status why told = (fault, told, why, (refl, refl))

@@ -1,0 +1,5 @@
+pub mod BuiltLemmas
+pub mod PairsLemmas
+pub mod ParseLemmas
+pub mod PlaceLemmas
+pub mod TypedLemmas

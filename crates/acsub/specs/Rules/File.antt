@@ -1,0 +1,28 @@
+-- A rule file, in either form: of plain text, or of hex.
+use Rattle.std.specs.Prelude.{◌≡◌, ◌↔◌, ℕ, Bool, true, false, List, Result, Err, IfOk}
+use Rattle.ac_input.specs.Rules.{FirstBadLine, FirstBadTextLine, IsRuleFile, IsTextRuleFile, Rule}
+use Rattle.acsub.specs.declared.rules.RuleError.{RuleError}
+use Rattle.acsub.specs.declared.rules.RuleError.TheVariants.{Line, Memory}
+
+-- The form of a rule file: the rules that a file holds, and the number of its first bad line.
+pub record Grammar : Type 1 where
+  pub holds : List ℕ → List Rule → Type 0
+  pub bad : List ℕ → ℕ → Type 0
+
+-- the form in hex, and the one of plain text
+abbrev pub hex_rules : Grammar
+hex_rules = record { holds = IsRuleFile; bad = FirstBadLine }
+
+abbrev pub text_rules : Grammar
+text_rules = record { holds = IsTextRuleFile; bad = FirstBadTextLine }
+
+-- the form that is asked for: of plain text, or in hex
+abbrev pub grammar_of : Bool → Grammar
+grammar_of true = text_rules
+grammar_of false = hex_rules
+
+-- The rules of the file; or its first bad line, exactly if it has one; or memory ran out for the file's rules.
+pub record ReadsRules (text : Bool) (file : List ℕ) (result : Result (List Rule) RuleError) : Type 0 where
+  pub rules : IfOk result ((grammar_of text).holds file)
+  pub bad : (n : ℕ) → (result ≡ Err (Line n)) ↔ (grammar_of text).bad file n
+  pub memory : result ≡ Err Memory → (rules : List Rule) × (grammar_of text).holds file rules

@@ -1,0 +1,21 @@
+-- When two runs write the same text.
+use Rattle.std.specs.Prelude.{◌≡◌, ℕ, Bool, List, Ok}
+use Rattle.std.specs.List.{concat}
+use Rattle.ac_automaton.specs.Devices.Moved.{Moved}
+use Rattle.acsub.specs.Plan.{plan_of}
+use Rattle.acsub.specs.Rules.File.{hex_rules}
+use Rattle.acsub.specs.Run.{AnswersIn}
+use Rattle.acsub.specs.declared.settings.Settings.{Settings}
+
+-- The settings ask for the same text. They may name other engines, and differ in prefilter, dense depth and byte classes.
+pub record AskAlike (settings other : Settings) : Type 0 where
+  pub mode : settings.mode ≡ other.mode
+  pub kind : settings.kind ≡ other.kind
+  pub pairing : settings.pairing ≡ other.pairing
+
+-- Two runs by one rule file that return Ok wrote the same bytes, if their settings ask for the same text and they read the same
+-- bytes. It doesn't matter how the input was cut, nor whether either run streams.
+abbrev pub RunsWriteAlike : Type 0
+RunsWriteAlike =
+    (settings other : Settings) (stream another : Bool) (file : List ℕ) (m n : Moved) → AskAlike settings other → concat m.pieces ≡ concat n.pieces
+    → AnswersIn hex_rules (plan_of stream settings) file m (Ok tt) → AnswersIn hex_rules (plan_of another other) file n (Ok tt) → m.taken ≡ n.taken

@@ -1,0 +1,11 @@
+pub mod BuildLemmas
+pub mod NfaLemmas
+pub mod PackedLemmas
+pub mod PushedLemmas
+pub mod PushedTextLemmas
+pub mod StateLemmas
+pub mod StreamLemmas
+pub mod StreamOverlapLemmas
+pub mod TableLemmas
+pub mod TextLemmas
+pub mod WalkLemmas

@@ -7,7 +7,9 @@ pub mod CutLemmas
 pub mod DeadLemmas
 pub mod DfaLemmas
 pub mod DistinctLemmas
+pub mod ExitLemmas
 pub mod FailureLemmas
+pub mod GhostLemmas
 pub mod LeadsLemmas
 pub mod LeftmostListLemmas
 pub mod LimitLemmas

@@ -1,6 +1,6 @@
 -- Occurrences of texts in a text begin and end between characters. Where a pattern has a character, the text has one of equal
 -- length.
-use Rattle.std.proofs.Common.{◌≡◌, ◌≢◌, ℕ, ◌+◌, ◌-◌, ◌<◌, ◌≤◌, true, List, [], ◌∷◌, ◌++◌, length, take, drop, get_or, slice_range, IsTrue, IsCharBoundary, Contains, refl, sym, ap, subst, ◌∙◌, arith, length-append, take-append-drop, drop-drop, drop_at, get_or-drop}
+use Rattle.std.proofs.Common.{◌≡◌, ◌≢◌, ℕ, ◌+◌, ◌-◌, ◌<◌, ◌≤◌, true, List, [], ◌∷◌, ◌++◌, length, drop, get_or, slice_range, IsTrue, IsCharBoundary, Contains, refl, sym, ap, subst, ◌∙◌, arith, length-append, take-append-drop, drop-drop, drop_at, get_or-drop}
 use Rattle.std.proofs.lemmas.Bool.{and_parts, false≢true}
 use Rattle.std.proofs.lemmas.Bool.Decides.{nat_tests}
 use Rattle.std.proofs.lemmas.List.{drop-append-le}

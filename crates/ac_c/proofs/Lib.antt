@@ -1,1 +1,3 @@
+mod ExitLemmas
+mod Handing
 mod Lending

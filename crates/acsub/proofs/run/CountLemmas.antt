@@ -23,7 +23,7 @@ use Rattle.acsub.specs.Matches.{IsCounted, IsHeldCost, IsListingCounted, IsWalkC
 use Rattle.acsub.specs.Plan.{Plan}
 use Rattle.acsub.specs.Run.{CostsRun, read_for_run}
 use Rattle.acsub.specs.Served.{AreLooksFor, IsServedByDfa}
-use Rattle.acsub.specs.Stream.{CostsStreaming}
+use Rattle.acsub.specs.Stream.{CostsSearch}
 use Rattle.acsub.specs.Run.Transformed.{IsStreamed}
 use Rattle.acsub.specs.declared.error.RunError.{RunError}
 use Rattle.acsub.specs.declared.error.RunError.TheVariants as errors
@@ -199,7 +199,7 @@ unread-cost remaining plan r r' steps errors.Memory held h = held-cost plan r r'
 unread-cost remaining plan r r' steps errors.Position held h = absurd h
 
 -- a run that writes while it reads costs what the search of the stream costs
-pub streamed-cost : {R : Type 0} (plan : Plan) (ac : AhoCorasick) (r r' : Watched R) (before after : Steps) (result : Result (Unit {0}) RunError) → IsServing plan.settings plan.rules ac → IsStreamed plan → CostsStreaming (as_built ac) r r' before after result → CostsRun plan r r' before after result
+pub streamed-cost : {R : Type 0} (plan : Plan) (ac : AhoCorasick) (r r' : Watched R) (before after : Steps) (result : Result (Unit {0}) RunError) → IsServing plan.settings plan.rules ac → IsStreamed plan → CostsSearch (as_built ac) r r' before after result → CostsRun plan r r' before after result
 streamed-cost plan ac r r' before after result serves streamed (pieces, read, cost, whole) =
     let b = as_built ac in
     let x = concat pieces in

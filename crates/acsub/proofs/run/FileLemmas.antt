@@ -14,8 +14,7 @@ use Rattle.acsub.specs.Rules.File.{ReadsRules, grammar_of}
 use Rattle.acsub.specs.Plan.{Plan}
 use Rattle.acsub.specs.Run.{AnswersIn, AnswersRules, CostsIn, CostsRun, HasBegun, RanIn, RanRules, ReadsByBuffer, RefusesIn, RefusesRules, not_read}
 use Rattle.acsub.proofs.run.CountLemmas.{nothing_cost}
-use Rattle.acsub.proofs.run.RunLemmas.{HasMoved-nothing, memory_answer, nothing}
-use Rattle.acsub.proofs.stream.StreamedLemmas.{nothing_short}
+use Rattle.acsub.proofs.run.RunLemmas.{HasMoved-nothing, memory_answer, nothing, nothing_short}
 
 -- ---- the two grammars
 
@@ -56,7 +55,7 @@ module _ (text : Bool) (plan : List Rule → Plan) (file : List ℕ) (rules : Li
   module _ {R : Type 0} (r r' : Watched R) (result : Result (Unit {0}) RunError) where
     module _ {W : Type 0} (w w' : Watched W) where
       pub ran_in : (remaining : R → Option (List ℕ)) (contents : W → Option (List ℕ)) → RanRules remaining contents r r' w w' (plan rules) result → RanIn (grammar_of text) remaining contents r r' w w' plan file result
-      ran_in remaining contents ran = (ran.0, ran.1, answer_in ran.0 result ran.2)
+      ran_in remaining contents ran = (ran.0, ran.1, all_rules (λ rs. ReadsByBuffer (plan rs) ran.0.pieces) ran.2, answer_in ran.0 result ran.3)
 
       -- a run by rules reports no bad line, and their file has none
       pub refuses_in : (m : Moved) → AnswersRules (plan rules) m result → RefusesRules (plan rules) r r' w w' result → RefusesIn (grammar_of text) plan file r r' w w' result
@@ -66,11 +65,8 @@ module _ (text : Bool) (plan : List Rule → Plan) (file : List ℕ) (rules : Li
         rules = all_rules (λ rs. RefusesRules (plan rs) r r' w w' result) refuses;
       }
 
-    pub costs_in : (before after : Steps) → CostsRun (plan rules) r r' before after result → ReadsByBuffer (plan rules) r r' → CostsIn (grammar_of text) plan file r r' before after result
-    costs_in before after cost short = record {
-      steps = all_rules (λ rs. CostsRun (plan rs) r r' before after result) cost;
-      short = all_rules (λ rs. ReadsByBuffer (plan rs) r r') short;
-    }
+    pub costs_in : (before after : Steps) → CostsRun (plan rules) r r' before after result → CostsIn (grammar_of text) plan file r r' before after result
+    costs_in before after cost = all_rules (λ rs. CostsRun (plan rs) r r' before after result) cost
 
 -- ---- a rule file whose rules could not be read
 
@@ -99,7 +95,7 @@ module _ (text : Bool) (plan : List Rule → Plan) (file : List ℕ) (why : Rule
   module _ {R : Type 0} (r : Watched R) where
     module _ {W : Type 0} (w : Watched W) where
       pub unread_ran : (remaining : R → Option (List ℕ)) (contents : W → Option (List ℕ)) → RanIn (grammar_of text) remaining contents r r w w plan file (Err (not_read why))
-      unread_ran remaining contents = (nothing, HasMoved-nothing remaining contents r w, unread_answer)
+      unread_ran remaining contents = (nothing, HasMoved-nothing remaining contents r w, (λ rules grammar. nothing_short (plan rules)), unread_answer)
 
       pub unread_refuses : RefusesIn (grammar_of text) plan file r r w w (Err (not_read why))
       unread_refuses = record {
@@ -109,7 +105,4 @@ module _ (text : Bool) (plan : List Rule → Plan) (file : List ℕ) (why : Rule
       }
 
     pub unread_costs : (steps : Steps) → CostsIn (grammar_of text) plan file r r steps steps (Err (not_read why))
-    unread_costs steps = record {
-      steps = λ rules grammar. nothing_cost (plan rules) r steps (not_read why);
-      short = λ rules grammar. nothing_short (plan rules) r;
-    }
+    unread_costs steps rules grammar = nothing_cost (plan rules) r steps (not_read why)

@@ -1,5 +1,5 @@
 -- Results of a run, given what was moved.
-use Rattle.std.proofs.Common.{◌≡◌, ◌≢◌, ℕ, Option, List, [], ◌++◌, Result, Ok, Err, refl, sym, ap, ◌∙◌, subst, add-zero}
+use Rattle.std.proofs.Common.{◌≡◌, ◌≢◌, ℕ, Option, List, [], ◌++◌, Result, Ok, Err, refl, sym, ap, ◌∙◌, subst, add-zero, arith}
 use Rattle.std.specs.Prelude.{OnOk}
 use Rattle.std.specs.List.{concat}
 use Rattle.std.proofs.lemmas.List.{append-nil}
@@ -20,7 +20,7 @@ use Rattle.acsub.specs.Settings.{IsAccepted}
 use Rattle.acsub.specs.Stream.{IsReturnedAs}
 use Rattle.acsub.specs.Run.Transformed.{IsStreamed, output_of}
 use Rattle.acsub.specs.Rules.File.{hex_rules}
-use Rattle.acsub.specs.Run.{AnswersRules, HasBegun, Prepares, RanIn, RanPrepared, RanRules, RanToFailedWrite, WroteText, WroteTextBy}
+use Rattle.acsub.specs.Run.{AnswersRules, HasBegun, Prepares, RanIn, RanPrepared, RanRules, RanToFailedWrite, ReadsByBuffer, WroteText, WroteTextBy}
 use Rattle.acsub.specs.Finder.{FailsToBuild}
 use Rattle.acsub.specs.Plan.{Plan, plan_for}
 
@@ -30,6 +30,10 @@ nothing = record { pieces = []; failed_reads = 0; taken = []; failed_writes = 0;
 
 pub HasMoved-nothing : {R W : Type 0} (remaining : R → Option (List ℕ)) (contents : W → Option (List ℕ)) (r : Watched R) (w : Watched W) → HasMoved remaining contents r r w w nothing
 HasMoved-nothing remaining contents r w = record { reader = given-none remaining r; writer = taken-none contents w }
+
+-- if nothing was read, no read returned too many bytes
+pub nothing_short : (plan : Plan) → ReadsByBuffer plan []
+nothing_short plan streamed k d lt = absurd (omega arith)
 
 -- the result where memory ran out before anything was read
 pub memory_answer : (plan : Plan) → AnswersRules plan nothing (Err errors.Memory)
@@ -44,6 +48,7 @@ read_answer remaining contents plan r r' w (errors.Build kind) accepted held h =
 read_answer remaining contents plan r r' w (errors.Read e) accepted held h = (
   record { pieces = h.0; failed_reads = 1; taken = []; failed_writes = 0; stalled_writes = 0 },
   record { reader = h.1; writer = taken-none contents w },
+  λ streamed. absurd (held streamed),
   λ refusal. refusal,
   record { accepted = accepted; streamed = λ streamed. absurd (held streamed); whole_input = λ _. refl; written = (_, refl); failed = (refl, refl, refl) },
 )
@@ -52,6 +57,7 @@ read_answer remaining contents plan r r' w errors.WriteZero accepted held h = ab
 read_answer remaining contents plan r r' w errors.Memory accepted held h = (
   record { pieces = h.0; failed_reads = 0; taken = []; failed_writes = 0; stalled_writes = 0 },
   record { reader = h.1; writer = taken-none contents w },
+  λ streamed. absurd (held streamed),
   λ refusal. refusal,
   record { accepted = λ _. accepted; streamed = λ streamed. absurd (held streamed); filled = h.2; written = refl; failed = (refl, refl, refl) },
 )
@@ -69,6 +75,7 @@ module _ {R W : Type 0} (remaining : R → Option (List ℕ)) (contents : W → 
   written_answer sent = (
     record { pieces = pieces; failed_reads = 0; taken = sent.gained; failed_writes = 0; stalled_writes = 0 },
     record { reader = gave; writer = HasTaken-from_sent contents w w' [] [] _ sent },
+    λ streamed. absurd (held streamed),
     λ refusal. refusal,
     record { accepted = accepted; whole = whole; written = sym (append-nil sent.gained) ∙ sent.order ∙ ap (output_of plan.settings plan.rules) is; failed = (refl, refl, refl) },
   )
@@ -80,12 +87,14 @@ module _ {R W : Type 0} (remaining : R → Option (List ℕ)) (contents : W → 
   write_answer (stream.Write error) result t stopped kind = subst (RanPrepared remaining contents r r' w w' plan) (sym t) (
     record { pieces = pieces; failed_reads = 0; taken = stopped.gained; failed_writes = 1; stalled_writes = 0 },
     record { reader = gave; writer = HasTaken-from_stopped contents w w' [] _ 0 stopped (kind ∙ sym (add-zero _)) },
+    λ streamed. absurd (held streamed),
     λ refusal. refusal,
     write_failed contents plan w w' pieces input 0 stopped accepted held whole is,
   )
   write_answer stream.WriteZero result t stopped kind = subst (RanPrepared remaining contents r r' w w' plan) (sym t) (
     record { pieces = pieces; failed_reads = 0; taken = stopped.gained; failed_writes = 1; stalled_writes = 1 },
     record { reader = gave; writer = HasTaken-from_stopped contents w w' [] _ 1 stopped kind },
+    λ streamed. absurd (held streamed),
     λ refusal. refusal,
     write_failed contents plan w w' pieces input 1 stopped accepted held whole is,
   )
@@ -120,7 +129,7 @@ unprepared_begun asked errors.Position h begun = absurd h
 
 -- if memory ran out before anything was read, nothing was moved
 pub memory_ran : {R W : Type 0} (remaining : R → Option (List ℕ)) (contents : W → Option (List ℕ)) (plan : Plan) (r : Watched R) (w : Watched W) → RanPrepared remaining contents r r w w plan (Err errors.Memory)
-memory_ran remaining contents plan r w = (nothing, HasMoved-nothing remaining contents r w, (λ refusal. refusal), memory_answer plan)
+memory_ran remaining contents plan r w = (nothing, HasMoved-nothing remaining contents r w, nothing_short plan, (λ refusal. refusal), memory_answer plan)
 
 -- for accepted rules, the reason why nothing was built is the reason why nothing was prepared
 pub built_error : (asked : Plan) (e : RunError) → IsAccepted asked.settings asked.rules → FailsToBuild asked.settings asked.rules e → Prepares asked (Err e)
@@ -137,7 +146,7 @@ built_error asked errors.Position accepted h = absurd h
 
 -- a run that returns Ok has written the text of all that it read
 pub wrote-text : {R W : Type 0} (remaining : R → Option (List ℕ)) (contents : W → Option (List ℕ)) (plan : Plan) (r r' : Watched R) (w w' : Watched W) (result : Result (Unit {0}) RunError) → RanRules remaining contents r r' w w' plan result → OnOk result (WroteText plan.settings plan.rules r r' w w')
-wrote-text remaining contents plan r r' w w' (Ok done) (m, moved, whole) = record {
+wrote-text remaining contents plan r r' w w' (Ok done) (m, moved, short, whole) = record {
   pieces = m.pieces;
   read = moved.reader.pieces;
   whole = whole.whole;
@@ -147,5 +156,5 @@ wrote-text remaining contents plan r r' w w' (Err error) ran = tt
 
 -- a run by a rule file that returns Ok has written the text of all that it read
 pub wrote-text_by : {R W : Type 0} (remaining : R → Option (List ℕ)) (contents : W → Option (List ℕ)) (settings : Settings) (file : List ℕ) (r r' : Watched R) (w w' : Watched W) (result : Result (Unit {0}) RunError) → RanIn hex_rules remaining contents r r' w w' (plan_for settings) file result → OnOk result (WroteTextBy settings file r r' w w')
-wrote-text_by remaining contents settings file r r' w w' (Ok done) (m, moved, (rules, grammar, whole)) = (rules, grammar, wrote-text remaining contents (plan_for settings rules) r r' w w' (Ok done) (m, moved, whole))
+wrote-text_by remaining contents settings file r r' w w' (Ok done) (m, moved, short, (rules, grammar, whole)) = (rules, grammar, wrote-text remaining contents (plan_for settings rules) r r' w w' (Ok done) (m, moved, short rules grammar, whole))
 wrote-text_by remaining contents settings file r r' w w' (Err error) ran = tt

@@ -13,9 +13,9 @@ use Rattle.ac_input.specs.Work.{longest, shortest}
 use Rattle.ac_input.proofs.lemmas.BeginningLemmas.{listed-beginning}
 use Rattle.ac_automaton.specs.Automaton.{Built}
 use Rattle.ac_automaton.specs.Devices.Buffer.{room_for}
-use Rattle.std.specs.Prelude.{max}
-use Rattle.ac_automaton.specs.Devices.Moved.{AllFit, AreFilled, Moved, but_last}
-use Rattle.ac_automaton.specs.Stream.{IsAnyKindConfigRefusal, IsNear, room_of, IsFront}
+use Rattle.std.specs.Prelude.{IfErr, max}
+use Rattle.ac_automaton.specs.Devices.Moved.{AllFit, AreFilled, Moved, NoneTouched, but_last}
+use Rattle.ac_automaton.specs.Stream.{CanStreamAnyKind, IsAnyKindConfigRefusal, IsAnyKindRefusal, IsFront, IsNear, room_of}
 use Rattle.ac_automaton.specs.Stream.StreamAnswer.{AnswersWriting, WroteToFailedWrite}
 use Rattle.ac_automaton.specs.Stream.StreamReplace.{AcceptsReplacingAnyKind, ReplacesStream, replaced_in}
 use Rattle.ac_automaton.proofs.stream.StreamAnswerLemmas.{cost-none}
@@ -25,7 +25,6 @@ use Rattle.ac_automaton.specs.declared.error.StreamError.{StreamError}
 use Rattle.ac_automaton.specs.declared.error.StreamError.TheVariants as stream
 use Rattle.ac_automaton.specs.declared.watched.Watched.{Watched}
 use Rattle.acsub.specs.declared.error.RunError.{RunError}
-use Rattle.acsub.specs.declared.error.RunError.TheVariants as errors
 use Rattle.acsub.specs.declared.settings.Mode.{Mode}
 use Rattle.acsub.specs.declared.settings.Mode.TheVariants as modes
 use Rattle.acsub.specs.declared.settings.Settings.{Settings}
@@ -33,14 +32,14 @@ use Rattle.aho_corasick.specs.AhoCorasick.{as_built, supported_by}
 use Rattle.aho_corasick.specs.declared.ahocorasick.AhoCorasick.{AhoCorasick}
 use Rattle.acsub.specs.Finder.{IsServing, whole_search}
 use Rattle.acsub.specs.Served.{dictionary_for}
-use Rattle.acsub.specs.Run.{AnswersRules, IsRefusal, RanPrepared, RanToFailedWrite, ReadsByBuffer}
-use Rattle.acsub.specs.Plan.{Plan, plan_for}
+use Rattle.acsub.specs.Run.{AnswersRules, IsRefusal, RanPrepared, RanToFailedWrite}
+use Rattle.acsub.specs.Plan.{Plan}
 use Rattle.acsub.specs.Settings.{HasEmptyPattern, IsAccepted}
 use Rattle.acsub.specs.Rules.Sides.{rule_patterns, replacements_of}
-use Rattle.acsub.specs.Stream.{CostsStreaming, IsReturnedAs, Streams}
+use Rattle.acsub.specs.Stream.{CostsSearch, IfStreamMemory, IsNoRefusal, IsReturnedAs, Streams, WritesPlan, WritesStream}
 use Rattle.acsub.proofs.stream.CutLemmas.{cut-begins}
-use Rattle.acsub.proofs.run.RunLemmas.{HasMoved-nothing, nothing}
-use Rattle.acsub.specs.Run.Transformed.{IsOutputFront, IsStreamed, output_of, room_in, text_in}
+use Rattle.acsub.specs.Run.Transformed.{IsOutputFront, IsStreamed, output_of, room_in, stream_room, text_in}
+use Rattle.ac_input.specs.declared.search.Anchored.{Anchored}
 
 -- ---- a stream that can be searched
 
@@ -52,40 +51,60 @@ filled-shortest (rule ∷ rules) filled =
     let some : length rule.0 ≢ 0 = λ none. filled (0, omega arith, nil_from_length rule.0 none) in
     omega (arith, rest, some)
 
--- if the text is written while the input is read, nothing stands against the search of the stream
-config-none : (ac : AhoCorasick) (plan : Plan) (refusal : MatchErrorKind) → IsServing plan.settings plan.rules ac → IsStreamed plan → ¬ IsAnyKindConfigRefusal (as_built ac) (supported_by ac) refusal
-config-none ac plan refusal serves streamed (inl none) = none.0 serves.start
-config-none ac plan refusal serves streamed (inr empty) =
-    let b = as_built ac in
-    let some = filled-shortest plan.rules streamed.2 in
-    let same : shortest b.dictionary.patterns ≡ shortest (rule_patterns plan.rules) = ap (λ (m : Dictionary). shortest m.patterns) serves.built.dictionary in
-    let none : shortest b.dictionary.patterns ≡ 0 = empty.1 in
-    omega (arith, none, some, same)
+-- if the text is written while the input is read, the search of the stream is supported
+pub streamed-can : (ac : AhoCorasick) (plan : Plan) → IsServing plan.settings plan.rules ac → IsStreamed plan → CanStreamAnyKind (as_built ac) (supported_by ac)
+streamed-can ac plan serves streamed = (
+  serves.start,
+  subst (λ (m : Dictionary). 1 ≤ shortest m.patterns) (sym serves.built.dictionary) (filled-shortest plan.rules streamed.2),
+)
 
--- if the text is written while the input is read, the replacement over the stream isn't refused
-pub not-refused : {R W : Type 0} (ac : AhoCorasick) (plan : Plan) (r r' : Watched R) (w w' : Watched W) (error : StreamError) (refusal : MatchErrorKind) → IsServing plan.settings plan.rules ac → IsStreamed plan
-    → AcceptsReplacingAnyKind (as_built ac) (supported_by ac) r r' w w' (Err error) → error ≢ stream.Config refusal
-not-refused ac plan r r' w w' error refusal serves streamed refused e =
-    let g = subst (λ (other : StreamError). AcceptsReplacingAnyKind (as_built ac) (supported_by ac) r r' w w' (Err other)) e refused in
-    config-none ac plan refusal serves streamed g.0
+module _ (b : Built) (supports : Anchored → Type 0) (can : CanStreamAnyKind b supports) where
+  -- a supported search isn't refused
+  can-config : (refusal : MatchErrorKind) → ¬ IsAnyKindConfigRefusal b supports refusal
+  can-config refusal (inl h) = h.0 can.0
+  can-config refusal (inr h) = let some = can.1 in let zero = h.1 in absurd (omega arith)
+
+  -- a supported search that fails to begin is out of memory
+  pub refused-memory : (error : StreamError) → IsAnyKindRefusal b supports error → error ≡ stream.Memory
+  refused-memory (stream.Config refusal) refused = absurd (can-config refusal refused)
+  refused-memory (stream.Read error) refused = absurd refused
+  refused-memory (stream.Write error) refused = absurd refused
+  refused-memory stream.WriteZero refused = absurd refused
+  refused-memory stream.Memory refused = refl
+  refused-memory stream.Position refused = absurd refused
+
+  module _ {R W : Type 0} (r r' : Watched R) (w w' : Watched W) where
+    -- nor is a replacement over the stream
+    pub replaces-accepted : (result : Result (Unit {0}) StreamError) → AcceptsReplacingAnyKind b supports r r' w w' result → IfErr result IsNoRefusal
+    replaces-accepted (Ok done) accepts = tt
+    replaces-accepted (Err error) accepts = λ refusal e. can-config refusal (subst (λ (other : StreamError). AcceptsReplacingAnyKind b supports r r' w w' (Err other)) e accepts).0
+
+    -- a replacement that is out of memory has touched neither device
+    pub replaces-memory : (result : Result (Unit {0}) StreamError) → AcceptsReplacingAnyKind b supports r r' w w' result → IfStreamMemory result (NoneTouched r r' w w')
+    replaces-memory (Ok done) accepts = tt
+    replaces-memory (Err error) accepts = λ e. (subst (λ (other : StreamError). AcceptsReplacingAnyKind b supports r r' w w' (Err other)) e accepts).1
 
 -- ---- the text
 
+-- the text of a plan, by its mode
+pub output-in : (plan : Plan) (x : List ℕ) (mode : Mode) → plan.settings.mode ≡ mode → text_in mode plan.settings.kind (replacements_of plan.rules) (whole_search plan.settings (rule_patterns plan.rules) x) ≡ output_of plan.settings plan.rules x
+output-in plan x mode is = ap (λ (asked : Mode). text_in asked plan.settings.kind (replacements_of plan.rules) (whole_search plan.settings (rule_patterns plan.rules) x)) (sym is)
+
 -- where matches are replaced, the run's text is that of the automaton's replacement
-replaced-output : (b : Built) (settings : Settings) (rules : List Rule) (x : List ℕ) → b.dictionary ≡ dictionary_for settings rules → settings.mode ≡ modes.Replace → replaced_in b (replacements_of rules) x ≡ output_of settings rules x
-replaced-output b settings rules x is mode =
-    ap (λ (m : Dictionary). replaced_from 0 x (replacements_of rules) (walk_of m.kind (search_of m (whole_of x).anchored (whole_of x).haystack (whole_of x).span))) is
-    ∙ ap (λ (k : Mode). text_in k settings.kind (replacements_of rules) (whole_search settings (rule_patterns rules) x)) (sym mode)
+replaced-output : (b : Built) (plan : Plan) (x : List ℕ) → b.dictionary ≡ dictionary_for plan.settings plan.rules → plan.settings.mode ≡ modes.Replace → replaced_in b (replacements_of plan.rules) x ≡ output_of plan.settings plan.rules x
+replaced-output b plan x is mode =
+    ap (λ (m : Dictionary). replaced_from 0 x (replacements_of plan.rules) (walk_of m.kind (search_of m (whole_of x).anchored (whole_of x).haystack (whole_of x).span))) is
+    ∙ output-in plan x modes.Replace mode
 
 -- where matches are replaced, what can be written early is what the automaton's replacement can
-replaced-front : (b : Built) (settings : Settings) (rules : List Rule) (x text : List ℕ) → b.dictionary ≡ dictionary_for settings rules → settings.mode ≡ modes.Replace → IsFront b.dictionary (replaced_in b (replacements_of rules)) x text → IsOutputFront settings rules x text
-replaced-front b settings rules x text is mode f =
+replaced-front : (b : Built) (plan : Plan) (x text : List ℕ) → b.dictionary ≡ dictionary_for plan.settings plan.rules → plan.settings.mode ≡ modes.Replace → IsFront b.dictionary (replaced_in b (replacements_of plan.rules)) x text → IsOutputFront plan.settings plan.rules x text
+replaced-front b plan x text is mode f =
     record {
       replaced = λ _. record {
         cut = f.cut;
         is_cut = subst (λ (m : Dictionary). IsCut m x f.cut) is f.is_cut;
         near = subst (λ (m : Dictionary). IsNear m x f.cut) is f.near;
-        front = f.front ∙ replaced-output b settings rules (take f.cut x) is mode;
+        front = f.front ∙ replaced-output b plan (take f.cut x) is mode;
       };
       listed = λ other. let apart : modes.Replace ≡ modes.List = sym mode ∙ other in absurd (cc);
       overlapping = λ other. let apart : modes.Replace ≡ modes.Overlap = sym mode ∙ other in absurd (cc);
@@ -102,7 +121,7 @@ front-begins plan x text modes.Replace is streamed f =
     let b = built_for plan.settings plan.rules in
     let begins = cut-begins b x front.cut (replacements_of plan.rules) (filled-shortest plan.rules streamed.2) front.is_cut in (
       begins.0,
-      sym (replaced-output b plan.settings plan.rules x refl is) ∙ begins.1 ∙ ap (λ (t : List ℕ). t ++ begins.0) (replaced-output b plan.settings plan.rules (take front.cut x) refl is ∙ sym front.front),
+      sym (replaced-output b plan x refl is) ∙ begins.1 ∙ ap (λ (t : List ℕ). t ++ begins.0) (replaced-output b plan (take front.cut x) refl is ∙ sym front.front),
     )
 front-begins plan x text modes.List is streamed f =
     let front = f.listed is in
@@ -110,7 +129,7 @@ front-begins plan x text modes.List is streamed f =
     let first = subst (λ (y : List ℕ). IsBeginning front.0 (walk_of m.kind (whole m y false))) (append-nil x) (front.1.first []) in
     let lines = listed-beginning front.0 (walk_of m.kind (whole m x false)) first in (
       lines.0,
-      ap (λ (k : Mode). text_in k plan.settings.kind (replacements_of plan.rules) (whole_search plan.settings (rule_patterns plan.rules) x)) is ∙ lines.1 ∙ ap (λ (t : List ℕ). t ++ lines.0) (sym front.2),
+      sym (output-in plan x modes.List is) ∙ lines.1 ∙ ap (λ (t : List ℕ). t ++ lines.0) (sym front.2),
     )
 front-begins plan x text modes.Overlap is streamed f = ([], sym (f.overlapping is) ∙ sym (append-nil text))
 
@@ -136,26 +155,27 @@ module _ (made text_of : List ℕ → List ℕ) (begun front : List ℕ → List
   answers-alike m (Err stream.Memory) h = h
   answers-alike m (Err stream.Position) h = record { long = h.long; written = subst (IsBeginning m.taken) (same (concat m.pieces)) h.written; failed = h.failed }
 
--- the room of the buffer depends on the longest of the rules' patterns
-pub pieces-within : (b : Built) (settings : Settings) (rules : List Rule) (m : Moved) → b.dictionary ≡ dictionary_for settings rules → AllFit (room_of b) m.pieces → AllFit (room_for (max (longest (rule_patterns rules)) 1)) m.pieces
-pieces-within b settings rules m is short = subst (λ (d : Dictionary). AllFit (room_for (max (longest d.patterns) 1)) m.pieces) is short
+-- the room of the buffer depends on the mode, and on the longest of the rules' patterns
+pub room-in : (plan : Plan) (b : Built) (mode : Mode) → b.dictionary ≡ dictionary_for plan.settings plan.rules → plan.settings.mode ≡ mode → room_for (max (longest (rule_patterns plan.rules)) 1) ≡ room_in mode plan.rules → room_of b ≡ stream_room plan
+room-in plan b mode built is same = ap (λ (d : Dictionary). room_for (max (longest d.patterns) 1)) built ∙ same ∙ ap (λ (asked : Mode). room_in asked plan.rules) (sym is)
 
--- the result of a replacement over a stream becomes that of a run
-pub streams-replaced : {R W : Type 0} (remaining : R → Option (List ℕ)) (contents : W → Option (List ℕ)) (b : Built) (settings : Settings) (rules : List Rule) (texts : List (List ℕ)) (r r' : Watched R) (w w' : Watched W) (searched : Result (Unit {0}) StreamError) (result : Result (Unit {0}) RunError) → b.dictionary ≡ dictionary_for settings rules → settings.mode ≡ modes.Replace → texts ≡ replacements_of rules → IsReturnedAs searched result
-    → ReplacesStream remaining contents b texts r r' w w' searched → Streams remaining contents r r' w w' (plan_for settings rules) result
-streams-replaced remaining contents b settings rules texts r r' w w' searched result is mode same returned (m, moved, short, a) =
-    let alike = answers-alike (replaced_in b (replacements_of rules)) (output_of settings rules) (IsFront b.dictionary (replaced_in b (replacements_of rules))) (IsOutputFront settings rules) (λ x. replaced-output b settings rules x is mode) (λ x text. replaced-front b settings rules x text is mode) in
-    let within = subst (λ (asked : Mode). AllFit (room_in asked rules) m.pieces) (sym mode) (pieces-within b settings rules m is short) in
-    (m, moved, within, searched, returned, alike m searched (subst (λ (ts : List (List ℕ)). AnswersWriting (replaced_in b ts) (IsFront b.dictionary (replaced_in b ts)) m searched) same a))
+-- what writes the same text as a plan, and as early, writes the text of the plan
+module _ (plan : Plan) (room : ℕ) (made : List ℕ → List ℕ) (begun : List ℕ → List ℕ → Type 0) (fits : room ≡ stream_room plan) (same : (x : List ℕ) → made x ≡ output_of plan.settings plan.rules x) (fronts : (x text : List ℕ) → begun x text → IsOutputFront plan.settings plan.rules x text) where
+  pub writes-plan : {R W : Type 0} (remaining : R → Option (List ℕ)) (contents : W → Option (List ℕ)) (r0 r1 : Watched R) (w0 w1 : Watched W) (result : Result (Unit {0}) StreamError) → WritesStream remaining contents room made begun r0 r1 w0 w1 result → WritesPlan remaining contents r0 r1 w0 w1 plan result
+  writes-plan remaining contents r0 r1 w0 w1 result (m, moved, short, a) =
+      (m, moved, subst (λ (n : ℕ). AllFit n m.pieces) fits short, answers-alike made (output_of plan.settings plan.rules) begun (IsOutputFront plan.settings plan.rules) same fronts m result a)
 
--- if memory ran out before anything was read, the run has moved nothing
-pub streams-nothing : {R W : Type 0} (remaining : R → Option (List ℕ)) (contents : W → Option (List ℕ)) (settings : Settings) (rules : List Rule) (r : Watched R) (w : Watched W) → Streams remaining contents r r w w (plan_for settings rules) (Err errors.Memory)
-streams-nothing remaining contents settings rules r w = (nothing, HasMoved-nothing remaining contents r w, λ k d lt. absurd (omega arith), Err stream.Memory, refl, record { pieces = refl; taken = refl; failed = (refl, refl, refl) })
+-- a replacement over a stream writes the text of a plan that replaces
+pub replace-plan : {R W : Type 0} (remaining : R → Option (List ℕ)) (contents : W → Option (List ℕ)) (b : Built) (plan : Plan) (r0 r1 : Watched R) (w0 w1 : Watched W) (result : Result (Unit {0}) StreamError) → b.dictionary ≡ dictionary_for plan.settings plan.rules → plan.settings.mode ≡ modes.Replace
+    → ReplacesStream remaining contents b (replacements_of plan.rules) r0 r1 w0 w1 result → WritesPlan remaining contents r0 r1 w0 w1 plan result
+replace-plan remaining contents b plan r0 r1 w0 w1 result is mode replaces =
+    writes-plan plan (room_of b) (replaced_in b (replacements_of plan.rules)) (IsFront b.dictionary (replaced_in b (replacements_of plan.rules))) (room-in plan b modes.Replace is mode refl)
+    (λ x. replaced-output b plan x is mode) (λ x text. replaced-front b plan x text is mode) remaining contents r0 r1 w0 w1 result replaces
 
 -- ---- what it costs
 
 -- if nothing was read, nothing was counted
-pub cost-nothing : {R E : Type 0} (b : Built) (r : Watched R) (steps : Steps) (error : E) → CostsStreaming b r r steps steps (Err error)
+pub cost-nothing : {R E : Type 0} (b : Built) (r : Watched R) (steps : Steps) (error : E) → CostsSearch b r r steps steps (Err error)
 cost-nothing b r steps error = let cost = cost-none b r steps stream.Memory in (cost.0, cost.1, cost.2, tt)
 
 -- ---- the run's result
@@ -182,15 +202,6 @@ module _ (plan : Plan) (m : Moved) (accepted : IsAccepted plan.settings plan.rul
 -- the result of a run that writes while it reads
 pub streamed_answer : {R W : Type 0} (remaining : R → Option (List ℕ)) (contents : W → Option (List ℕ)) (plan : Plan) (r r' : Watched R) (w w' : Watched W) (result : Result (Unit {0}) RunError) → IsAccepted plan.settings plan.rules → IsStreamed plan
     → Streams remaining contents r r' w w' plan result → RanPrepared remaining contents r r' w w' plan result
-streamed_answer remaining contents plan r r' w w' result accepted streamed (m, moved, short, searched, returned, a) =
+streamed_answer remaining contents plan r r' w w' result accepted streamed (searched, returned, (m, moved, short, a)) =
     let says = streamed-says plan m accepted streamed searched result returned a in
-    (m, moved, says.0, says.1)
-
--- no read returned more bytes than the buffer has room for
-pub streamed_short : {R W : Type 0} (remaining : R → Option (List ℕ)) (contents : W → Option (List ℕ)) (plan : Plan) (r r' : Watched R) (w w' : Watched W) (result : Result (Unit {0}) RunError)
-    → Streams remaining contents r r' w w' plan result → ReadsByBuffer plan r r'
-streamed_short remaining contents plan r r' w w' result (m, moved, short, searched, returned, a) streamed = (m.pieces, moved.reader.pieces, short)
-
--- if nothing was read, no read returned too many bytes
-pub nothing_short : {R : Type 0} (plan : Plan) (r : Watched R) → ReadsByBuffer plan r r
-nothing_short plan r streamed = ([], sym (append-nil r.pieces.items), λ k d lt. absurd (omega arith))
+    (m, moved, (λ _. short), says.0, says.1)

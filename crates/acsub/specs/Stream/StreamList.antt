@@ -6,17 +6,16 @@ use Rattle.ac_input.specs.Text.{listed}
 use Rattle.ac_input.specs.Laws.BeginningLaws.{IsBeginning}
 use Rattle.ac_input.specs.declared.steps.Steps.{Steps}
 use Rattle.ac_automaton.specs.Automaton.{Built}
-use Rattle.ac_automaton.specs.Devices.Moved.{AllFit, AreFilled, AreWhole, HasGiven, HasMoved, HasTaken, Moved, but_last}
+use Rattle.ac_automaton.specs.Devices.Moved.{AreFilled, AreWhole, HasGiven, HasTaken, but_last}
 use Rattle.ac_automaton.specs.Devices.Output.{Sends}
 use Rattle.ac_automaton.specs.Replace.{matches_in}
-use Rattle.ac_automaton.specs.Stream.{AreAllGiven, CanBeCounted, Decides, IsOnCourse, ReadsNothing, StreamProgress, read_by, room_of}
-use Rattle.ac_automaton.specs.Stream.StreamAnswer.{AnswersWriting}
+use Rattle.ac_automaton.specs.Stream.{AreAllGiven, CanBeCounted, Decides, IsOnCourse, StreamProgress, read_by, room_of}
 use Rattle.ac_automaton.specs.Stream.StreamIter.{progress_of, reader_of}
 use Rattle.ac_automaton.specs.declared.error.StreamError.{StreamError}
 use Rattle.ac_automaton.specs.declared.stream.StreamFindIter.{StreamFindIter}
 use Rattle.ac_automaton.specs.declared.watched.Watched.{Watched}
 use Rattle.aho_corasick.specs.declared.ahocorasick.AhoCorasick.{AhoCorasick}
-use Rattle.acsub.specs.Stream.{CostsStreaming}
+use Rattle.acsub.specs.Stream.{CostsSearch, WritesStream}
 use Rattle.acsub.specs.Run.Transformed.{IsDecidedList}
 
 -- a line for each match of a text
@@ -27,8 +26,7 @@ listed_in b x = listed (matches_in b x)
 
 -- what a list over a stream read and wrote, and its result; no piece was longer than the buffer
 abbrev pub ListsStream : {R W : Type 0} → (R → Option (List ℕ)) → (W → Option (List ℕ)) → Built → Watched R → Watched R → Watched W → Watched W → Result (Unit {0}) StreamError → Type 0
-ListsStream remaining contents b reader_before reader_after writer_before writer_after result =
-    (m : Moved) × HasMoved remaining contents reader_before reader_after writer_before writer_after m × AllFit (room_of b) m.pieces × AnswersWriting (listed_in b) (IsDecidedList b.dictionary) m result
+ListsStream remaining contents b reader_before reader_after writer_before writer_after result = WritesStream remaining contents (room_of b) (listed_in b) (IsDecidedList b.dictionary) reader_before reader_after writer_before writer_after result
 
 -- ---- lists by the iterator over a stream's matches, before and after
 
@@ -39,24 +37,16 @@ module _ {R : Type 0} where
 
   -- what the steps between the iterator's two states cost
   abbrev pub CostsOn : {E : Type 0} → StreamFindIter AhoCorasick R → StreamFindIter AhoCorasick R → Steps → Steps → Result (Unit {0}) E → Type 0
-  CostsOn from to before after result = CostsStreaming (progress_of from).built (reader_of from) (reader_of to) before after result
+  CostsOn from to before after result = CostsSearch (progress_of from).built (reader_of from) (reader_of to) before after result
 
 -- ---- what holds at each point of a list
 
--- In between nothing was read. The next matches of what was read were given, and a line for each was sent; or the sending stopped
--- at a write.
-pub record SendsLines {W : Type 0} (contents : W → Option (List ℕ)) (s t : StreamProgress) (old new : Watched W) (held_before held_after : List ℕ) (result : Result (Unit {0}) StreamError) : Type 0 where
-  pub same : ReadsNothing s t
+-- A line for an occurrence was sent, and one for each that was returned after it; or the sending stopped at a write. These were
+-- returned before and after. Nothing was held back before, and these bytes are after.
+pub record WritesLines {W : Type 0} (contents : W → Option (List ℕ)) (o : Occurrence) (before after : List Occurrence) (old new : Watched W) (held : List ℕ) (result : Result (Unit {0}) StreamError) : Type 0 where
   pub more : List Occurrence
-  pub given : t.given ≡ s.given ++ more
-  pub sends : Sends contents (listed more) old new held_before held_after result
-
--- The same, after a line for a match that was given before. Nothing is held back, before or after.
-pub record WritesLines {W : Type 0} (contents : W → Option (List ℕ)) (o : Occurrence) (s t : StreamProgress) (old new : Watched W) (result : Result (Unit {0}) StreamError) : Type 0 where
-  pub same : ReadsNothing s t
-  pub more : List Occurrence
-  pub given : t.given ≡ s.given ++ more
-  pub sends : Sends contents (listed (o ∷ more)) old new [] [] result
+  pub given : after ≡ before ++ more
+  pub sends : Sends contents (listed (o ∷ more)) old new [] held result
 
 -- more may be read
 abbrev pub IsOpen : {R : Type 0} → StreamProgress → Watched R → Type 0

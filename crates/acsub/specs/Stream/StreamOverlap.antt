@@ -1,21 +1,18 @@
 -- Lists of all that overlap in a stream: what a result says of what was read and written, and what holds at each point.
-use Rattle.std.specs.Prelude.{◌≡◌, ℕ, List, ◌∷◌, ◌++◌, [], false, Option, Result}
-use Rattle.ac_input.specs.Occurrence.{Occurrence}
+use Rattle.std.specs.Prelude.{◌≡◌, ℕ, List, false, Option, Result}
 use Rattle.ac_input.specs.Text.{listed}
 use Rattle.ac_input.specs.declared.steps.Steps.{Steps}
 use Rattle.ac_automaton.specs.Automaton.{Built}
 use Rattle.ac_automaton.specs.Devices.Buffer.{least_room}
-use Rattle.ac_automaton.specs.Devices.Moved.{AllFit, AreFilled, HasGiven, HasMoved, HasTaken, Moved}
-use Rattle.ac_automaton.specs.Devices.Output.{Sends}
+use Rattle.ac_automaton.specs.Devices.Moved.{AreFilled, HasGiven, HasTaken}
 use Rattle.ac_automaton.specs.Stream.{CanBeCounted}
-use Rattle.ac_automaton.specs.Stream.StreamAnswer.{AnswersWriting}
-use Rattle.ac_automaton.specs.Stream.StreamListing.{IsAllListed, IsOnListing, ListingProgress, ListingStays, all_read, occurrences_in}
+use Rattle.ac_automaton.specs.Stream.StreamListing.{IsAllListed, IsOnListing, ListingProgress, all_read, occurrences_in}
 use Rattle.ac_automaton.specs.Stream.StreamOverlappingIter.{listing_of_stream, reader_listed}
 use Rattle.ac_automaton.specs.declared.error.StreamError.{StreamError}
 use Rattle.ac_automaton.specs.declared.stream.overlapping.StreamFindOverlappingIter.{StreamFindOverlappingIter}
 use Rattle.ac_automaton.specs.declared.watched.Watched.{Watched}
 use Rattle.aho_corasick.specs.declared.ahocorasick.AhoCorasick.{AhoCorasick}
-use Rattle.acsub.specs.Stream.{CostsStreaming}
+use Rattle.acsub.specs.Stream.{CostsSearch, WritesStream}
 
 -- a line for each occurrence in a text
 abbrev pub every_line : Built → List ℕ → List ℕ
@@ -25,8 +22,7 @@ every_line b x = listed (occurrences_in b x)
 
 -- what a list of all that overlap read and wrote, and its result; no piece was longer than the buffer
 abbrev pub ListsEvery : {R W : Type 0} → (R → Option (List ℕ)) → (W → Option (List ℕ)) → Built → Watched R → Watched R → Watched W → Watched W → Result (Unit {0}) StreamError → Type 0
-ListsEvery remaining contents b reader_before reader_after writer_before writer_after result =
-    (m : Moved) × HasMoved remaining contents reader_before reader_after writer_before writer_after m × AllFit least_room m.pieces × AnswersWriting (every_line b) (λ x text. text ≡ every_line b x) m result
+ListsEvery remaining contents b reader_before reader_after writer_before writer_after result = WritesStream remaining contents least_room (every_line b) (λ x text. text ≡ every_line b x) reader_before reader_after writer_before writer_after result
 
 -- ---- lists by the iterator over a stream's occurrences, before and after
 
@@ -37,25 +33,9 @@ module _ {R : Type 0} where
 
   -- what the steps between the iterator's two states cost
   abbrev pub CostsEveryOn : {E : Type 0} → StreamFindOverlappingIter AhoCorasick R → StreamFindOverlappingIter AhoCorasick R → Steps → Steps → Result (Unit {0}) E → Type 0
-  CostsEveryOn from to before after result = CostsStreaming (listing_of_stream from).built (reader_listed from) (reader_listed to) before after result
+  CostsEveryOn from to before after result = CostsSearch (listing_of_stream from).built (reader_listed from) (reader_listed to) before after result
 
 -- ---- what holds at each point of a list
-
--- Nothing was read in between. The next occurrences in what was read were returned, and a line for each was sent; or the sending
--- stopped at a write.
-pub record SendsEach {W : Type 0} (contents : W → Option (List ℕ)) (s t : ListingProgress) (old new : Watched W) (held_before held_after : List ℕ) (result : Result (Unit {0}) StreamError) : Type 0 where
-  pub same : ListingStays s t
-  pub more : List Occurrence
-  pub given : t.given ≡ s.given ++ more
-  pub sends : Sends contents (listed more) old new held_before held_after result
-
--- Nothing was read in between. A line for an occurrence, and one for each of the next ones, was written; or the writing stopped at
--- a write. Nothing is held back, before or after.
-pub record WritesEach {W : Type 0} (contents : W → Option (List ℕ)) (o : Occurrence) (s t : ListingProgress) (old new : Watched W) (result : Result (Unit {0}) StreamError) : Type 0 where
-  pub same : ListingStays s t
-  pub more : List Occurrence
-  pub given : t.given ≡ s.given ++ more
-  pub sends : Sends contents (listed (o ∷ more)) old new [] [] result
 
 -- A list between two reads: all occurrences in what was read were returned, and a line for each was written. More may be read.
 pub record HasListedEach {R W : Type 0} (remaining : R → Option (List ℕ)) (contents : W → Option (List ℕ)) (b : Built) (s : ListingProgress) (reader_before reader_after : Watched R) (writer_before writer_after : Watched W) : Type 0 where

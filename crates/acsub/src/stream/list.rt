@@ -9,20 +9,14 @@
 ghost use Rattle.std.specs.Prelude.{◌≡◌, ◌≤◌, [], false, IfErr, OnOk};
 ghost use Rattle.ac_input.specs.Work.{shortest};
 ghost use Rattle.ac_automaton.specs.Devices.Moved.{NoneTouched};
-ghost use Rattle.ac_automaton.specs.Stream.{AreAllGiven, CanBeCounted, CanStreamAnyKind, GoesOn, IsOnCourse, fresh_progress, read_by};
+ghost use Rattle.ac_automaton.specs.Stream.{AreAllGiven, CanBeCounted, CanStreamAnyKind, GoesOn, IsOnCourse, ReadsNothing, fresh_progress, read_by};
 ghost use Rattle.ac_automaton.specs.Stream.StreamIter.{KeepsReader, progress_of, reader_name, reader_of};
 ghost use Rattle.ac_automaton.specs.Stream.StreamReplace.{IsBegun};
 ghost use Rattle.aho_corasick.specs.AhoCorasick.{as_built, supported_by};
-ghost use Rattle.acsub.specs.Finder.{IsServing};
-ghost use Rattle.acsub.specs.Stream.{CostsStreaming, IfMemory, IfStreamMemory, IsNoRefusal, Streams};
-ghost use Rattle.acsub.specs.Stream.StreamList.{CostsOn, ListsOn, ListsStream, SendsLines, WritesLines};
-ghost use Rattle.acsub.specs.Run.Transformed.{IsStreamed};
-ghost use Rattle.acsub.specs.declared.settings.Mode.TheVariants.{List};
+ghost use Rattle.acsub.specs.Stream.{CostsSearch, IfStreamMemory, IsNoRefusal};
+ghost use Rattle.acsub.specs.Stream.StreamList.{CostsOn, ListsOn, ListsStream, WritesLines};
 
-use crate::error::RunError;
 use crate::line::Line;
-use crate::prepared::Prepared;
-use crate::stream::told;
 use ac_automaton::error::StreamError;
 use ac_automaton::output::Output;
 use ac_automaton::stream::stream_find_iter_any_kind;
@@ -33,28 +27,7 @@ use aho_corasick::{AhoCorasick, StreamFindIter};
 use std::alloc::Global;
 use std::io::{Read, Write};
 
-/// Sends a line for each match of what was read that was not given yet, and holds nothing back.
-fn send_held_lines<R: Read, W: Write>(
-    matches: &mut StreamFindIter<'_, R>,
-    output: &mut Output,
-    writer: &mut Watched<W>,
-    steps: &mut Steps,
-) -> Result<(), StreamError>
-    requires countable { CanBeCounted (read_by (progress_of matches.old)) }
-    ensures sends { SendsLines W.contents (progress_of matches.old)
-        (progress_of matches.new) writer.old writer.new output.old [] result }
-    ensures all { OnOk result (AreAllGiven (progress_of matches.new)) }
-    ensures none { output.new ≡ [] }
-    ensures reader { KeepsReader matches.old matches.new }
-    ensures goes { GoesOn (progress_of matches.old) (progress_of matches.new) steps.old steps.new }
-{
-    while let Some(found) = matches.next_held_counted(steps) {
-        output.send(writer, Line::new(&found).as_bytes())?;
-    }
-    output.send_held(writer)
-}
-
-/// Writes a line for a match, and one for each further match of what was read.
+/// Writes a line for a match, and one for each further match of what was read. It holds nothing back.
 fn write_lines<R: Read, W: Write>(
     found: &Match,
     matches: &mut StreamFindIter<'_, R>,
@@ -65,15 +38,19 @@ fn write_lines<R: Read, W: Write>(
     requires countable { CanBeCounted (read_by (progress_of matches.old)) }
     requires course { IsOnCourse (progress_of matches.old) }
     requires empty { output.old ≡ [] }
-    ensures writes { WritesLines W.contents found.now (progress_of matches.old)
-        (progress_of matches.new) writer.old writer.new result }
+    ensures writes { WritesLines W.contents found.now (progress_of matches.old).given
+        (progress_of matches.new).given writer.old writer.new [] result }
+    ensures unread { ReadsNothing (progress_of matches.old) (progress_of matches.new) }
     ensures all { OnOk result (AreAllGiven (progress_of matches.new)) }
     ensures none { output.new ≡ [] }
     ensures reader { KeepsReader matches.old matches.new }
     ensures goes { GoesOn (progress_of matches.old) (progress_of matches.new) steps.old steps.new }
 {
     output.send(writer, Line::new(found).as_bytes())?;
-    send_held_lines(matches, output, writer, steps)
+    while let Some(next) = matches.next_held_counted(steps) {
+        output.send(writer, Line::new(&next).as_bytes())?;
+    }
+    output.send_held(writer)
 }
 
 /// Reads on to the end of the input. Before each read all that can be listed is written.
@@ -101,7 +78,7 @@ fn list_read<R: Read, W: Write>(
 }
 
 /// Takes both buffers, and writes a line for each match of what is read.
-fn list_stream<R: Read, W: Write>(
+pub(crate) fn list_stream<R: Read, W: Write>(
     alloc: Global,
     engine: &AhoCorasick,
     reader: &mut Watched<R>,
@@ -114,7 +91,7 @@ fn list_stream<R: Read, W: Write>(
     // but the last, before a write that failed.
     ensures lists { ListsStream R.remaining W.contents (as_built engine.now)
         reader.old reader.new writer.old writer.new result }
-    ensures costs { CostsStreaming (as_built engine.now) reader.old reader.new
+    ensures costs { CostsSearch (as_built engine.now) reader.old reader.new
         steps.old steps.new result }
     ensures memory { IfStreamMemory result
         (NoneTouched reader.old reader.new writer.old writer.new) }
@@ -125,29 +102,4 @@ fn list_stream<R: Read, W: Write>(
     let outcome = list_read(&mut matches, &mut output, writer, steps);
     let _reader = matches.into_reader();
     outcome
-}
-
-/// Writes a line for each match of what is read, by the automaton that was prepared.
-pub(crate) fn stream_list<R: Read, W: Write>(
-    alloc: Global,
-    prepared: &Prepared<'_>,
-    engine: &AhoCorasick,
-    reader: &mut Watched<R>,
-    writer: &mut Watched<W>,
-    steps: &mut Steps,
-) -> Result<(), RunError>
-    requires open { reader.old.ended ≡ false }
-    requires serves { IsServing prepared.now.settings prepared.now.rules engine.now }
-    requires streamed { IsStreamed prepared.now }
-    requires mode { prepared.now.settings.mode ≡ List }
-    ensures streams { Streams R.remaining W.contents reader.old reader.new writer.old writer.new
-        prepared.now result }
-    ensures costs { CostsStreaming (as_built engine.now) reader.old reader.new
-        steps.old steps.new result }
-    ensures memory { IfMemory result (NoneTouched reader.old reader.new writer.old writer.new) }
-{
-    match list_stream(alloc, engine, reader, writer, steps) {
-        Ok(()) => Ok(()),
-        Err(error) => Err(told(error)),
-    }
 }

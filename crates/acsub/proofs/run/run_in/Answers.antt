@@ -11,12 +11,12 @@ returns-in-Ok-clause-answered g c =
 pub returns-in-Ok-clause-fault : goal.returns-in-Ok-clause-fault
 returns-in-Ok-clause-fault g c =
     let ran = c.run_plan in
-    refuses_in c.args.text (plan_of c.args.stream c.args.settings.now) c.args.file.now c.in-Ok.rules c.in-Ok.ensures.rules c.args.reader.now ran.new.reader ran.result c.args.writer.now ran.new.writer ran.ensures.answered.0 ran.ensures.answered.2 ran.ensures.fault
+    refuses_in c.args.text (plan_of c.args.stream c.args.settings.now) c.args.file.now c.in-Ok.rules c.in-Ok.ensures.rules c.args.reader.now ran.new.reader ran.result c.args.writer.now ran.new.writer ran.ensures.answered.0 ran.ensures.answered.3 ran.ensures.fault
 
 pub returns-in-Ok-clause-cost : goal.returns-in-Ok-clause-cost
 returns-in-Ok-clause-cost g c =
     let ran = c.run_plan in
-    costs_in c.args.text (plan_of c.args.stream c.args.settings.now) c.args.file.now c.in-Ok.rules c.in-Ok.ensures.rules c.args.reader.now ran.new.reader ran.result c.args.steps.now ran.new.steps ran.ensures.cost ran.ensures.short
+    costs_in c.args.text (plan_of c.args.stream c.args.settings.now) c.args.file.now c.in-Ok.rules c.in-Ok.ensures.rules c.args.reader.now ran.new.reader ran.result c.args.steps.now ran.new.steps ran.ensures.cost
 
 pub returns-in-Err-clause-answered : goal.returns-in-Err-clause-answered
 returns-in-Err-clause-answered g c =

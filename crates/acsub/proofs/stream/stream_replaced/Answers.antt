@@ -1,30 +1,42 @@
 -- The text is that of the automaton's replacement over the stream, which it supports.
-use Rattle.std.proofs.Common.{Err, ap, ◌∙◌}
+use Rattle.std.proofs.Common.{List, ap, subst, ◌∙◌, ℕ}
 use Rattle.std.proofs.lemmas.Result.{err_from_is_err_and}
+use Rattle.ac_automaton.specs.Stream.{IsFront, room_of}
+use Rattle.ac_automaton.specs.Stream.StreamReplace.{ReplacesStream, replaced_in}
 use Rattle.ac_literal.specs.Packed.{bytes_of}
-use Rattle.aho_corasick.specs.AhoCorasick.{as_built}
+use Rattle.aho_corasick.specs.AhoCorasick.{as_built, supported_by}
 use Rattle.acsub.specs.Rules.Sides.{replacements_of}
-use Rattle.acsub.proofs.stream.StreamedLemmas.{cost-nothing, not-refused, streams-nothing, streams-replaced}
+use Rattle.acsub.proofs.stream.StreamedLemmas.{cost-nothing, replaces-accepted, replaces-memory}
+use Rattle.acsub.proofs.stream.WritingLemmas.{writes-nothing}
 use Rattle.acsub.proofs.stream.stream_replaced.Goals as goal
 
-pub returns-in_err-replacements-clause-streams : goal.returns-in_err-replacements-clause-streams
-returns-in_err-replacements-clause-streams g c =
+pub returns-in_err-replacements-clause-replaces : goal.returns-in_err-replacements-clause-replaces
+returns-in_err-replacements-clause-replaces g c =
     let p = err_from_is_err_and c.from_residual.result c.from_residual.ensures.1 in
-    let plan = c.args.prepared.now in
-    rw (p.1, p.2) (streams-nothing g.R.Read.remaining g.W.Write.contents plan.settings plan.rules c.args.reader.now c.args.writer.now)
+    let b = as_built c.args.engine.now in
+    let output = replaced_in b (replacements_of c.args.prepared.now.rules) in
+    rw (p.1, p.2) (writes-nothing g.R.Read.remaining g.W.Write.contents (room_of b) output (IsFront b.dictionary output) c.args.reader.now c.args.writer.now)
 
 pub returns-in_err-replacements-clause-costs : goal.returns-in_err-replacements-clause-costs
 returns-in_err-replacements-clause-costs g c =
     let p = err_from_is_err_and c.from_residual.result c.from_residual.ensures.1 in
     rw p.1 (cost-nothing (as_built c.args.engine.now) c.args.reader.now c.args.steps.now p.0)
 
-pub told-requires : goal.told-requires
-told-requires g c = λ refusal e.
-    let plan = c.args.prepared.now in
-    not-refused c.args.engine.now plan _ _ _ _ c.in-Err.error refusal c.requires.serves c.requires.streamed c.in-Err.ensures.accepted e
-
-pub returns-clause-streams : goal.returns-clause-streams
-returns-clause-streams g c =
-    let plan = c.args.prepared.now in
+pub returns-clause-replaces : goal.returns-clause-replaces
+returns-clause-replaces g c =
+    let replaced = c.try_stream_replace_all_any_kind_counted in
     let same = ap bytes_of c.as_slice-texts.ensures.value ∙ c.in_ok-replacements.ensures ∙ ap replacements_of c.rules.ensures in
-    streams-replaced g.R.Read.remaining g.W.Write.contents (as_built c.args.engine.now) plan.settings plan.rules _ c.args.reader.now c.try_stream_replace_all_any_kind_counted.new.reader c.args.writer.now c.try_stream_replace_all_any_kind_counted.new.writer (Err c.in-Err.error) (Err c.told.result) c.requires.serves.built.dictionary c.requires.mode same c.told.ensures c.in-Err.ensures.moved
+    subst (λ (texts : List (List ℕ)). ReplacesStream g.R.Read.remaining g.W.Write.contents (as_built c.args.engine.now) texts c.args.reader.now replaced.new.reader c.args.writer.now replaced.new.writer replaced.result) same replaced.ensures.moved
+
+pub returns-clause-costs : goal.returns-clause-costs
+returns-clause-costs g c = let cost = c.try_stream_replace_all_any_kind_counted.ensures.cost in (cost.0, cost.1, cost.2, cost.3)
+
+pub returns-clause-memory : goal.returns-clause-memory
+returns-clause-memory g c =
+    let replaced = c.try_stream_replace_all_any_kind_counted in
+    replaces-memory (as_built c.args.engine.now) (supported_by c.args.engine.now) c.requires.can c.args.reader.now replaced.new.reader c.args.writer.now replaced.new.writer replaced.result replaced.ensures.accepted
+
+pub returns-clause-accepted : goal.returns-clause-accepted
+returns-clause-accepted g c =
+    let replaced = c.try_stream_replace_all_any_kind_counted in
+    replaces-accepted (as_built c.args.engine.now) (supported_by c.args.engine.now) c.requires.can c.args.reader.now replaced.new.reader c.args.writer.now replaced.new.writer replaced.result replaced.ensures.accepted

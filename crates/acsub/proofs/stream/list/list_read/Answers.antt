@@ -1,12 +1,11 @@
 -- Before each read, a line for each decided match is written.
-use Rattle.std.proofs.Common.{◌≡◌, Err, Ok, refl, sym, subst, ◌∙◌}
+use Rattle.std.proofs.Common.{Err, Ok, refl, sym, subst, ◌∙◌}
 use Rattle.std.proofs.lemmas.Result.{err_from_is_err_and}
 use Rattle.ac_automaton.specs.Stream.{StreamProgress}
-use Rattle.ac_automaton.specs.Stream.StreamIter.{IsStopped}
 use Rattle.ac_automaton.proofs.stream.StreamCountLemmas.{StreamCounts-none, StreamCounts-then}
 use Rattle.ac_automaton.proofs.stream.StreamReplaceLemmas.{write-begun}
 use Rattle.acsub.specs.Stream.StreamList.{HasListed}
-use Rattle.acsub.proofs.stream.StreamListLemmas.{cost-listed, ended-read, ends-failed_write, ends-whole, found-read, gives-begun, less-left, listed-fresh, listed-more, next-stopped, still-open, stopped-read}
+use Rattle.acsub.proofs.stream.StreamListLemmas.{cost-listed, ends-failed_write, ends-whole, found-read, less-left, listed-fresh, listed-more, next-stopped}
 use Rattle.acsub.proofs.stream.list.list_read.Goals as goal
 
 pub loop-next-init : goal.loop-next-init
@@ -24,32 +23,33 @@ loop-next-init g c =
 pub returns-in_err-found-clause-list : goal.returns-in_err-found-clause-list
 returns-in_err-found-clause-list g c =
     let p = err_from_is_err_and c.from_residual.result c.from_residual.ensures.1 in
-    rw (p.1, p.2) (next-stopped g.R.Read.remaining g.W.Write.contents c.args.matches.now.stream.built c.loop-next.matches.stream c.next_counted.new.self.stream c.args.matches.now.reader.now c.loop-next.matches.reader.now c.next_counted.new.self.reader.now c.args.writer.now c.loop-next.writer c.loop-next.invariant.listed c.next_counted.ensures.goes.1 c.in_err-found.field-0.0 (still-open g.R.Read.remaining g.W.Write.contents c.args.matches.now.stream.built c.loop-next.matches.stream c.next_counted.new.self.stream c.args.matches.now.reader.now c.loop-next.matches.reader.now c.next_counted.new.self.reader.now c.args.writer.now c.loop-next.writer c.loop-next.invariant.listed c.next_counted.ensures.goes.1 (Err c.in_err-found.field-0.0) (rw c.in_err-found.was at c.in-Some.ensures.gives.1)) (rw c.in_err-found.was at c.in-Some.ensures.gives.0))
+    let gives = rw c.in_err-found.was at c.in-Some.ensures.gives in
+    rw (p.1, p.2) (next-stopped c.next_counted.new.self.reader.now c.loop-next.invariant.listed c.next_counted.ensures.goes.1 c.in_err-found.field-0.0 gives.0 gives.1).0.0
 
 pub returns-in_err-found-clause-costs : goal.returns-in_err-found-clause-costs
 returns-in_err-found-clause-costs g c =
     let p = err_from_is_err_and c.from_residual.result c.from_residual.ensures.1 in
-    let told = stopped-read g.R.Read.remaining g.W.Write.contents c.args.matches.now.stream.built c.loop-next.matches.stream c.next_counted.new.self.stream c.args.matches.now.reader.now c.loop-next.matches.reader.now c.next_counted.new.self.reader.now c.args.writer.now c.loop-next.writer c.loop-next.invariant.listed c.next_counted.ensures.goes.1 c.in_err-found.field-0.0 (rw c.in_err-found.was at c.in-Some.ensures.gives.0) in
-    rw p.1 (cost-listed c.args.matches.now.stream.built c.args.matches.now.stream c.next_counted.new.self.stream c.args.matches.now.reader.now c.next_counted.new.self.reader.now c.args.steps.now c.next_counted.new.steps (Err p.0) c.requires.fresh (record {
-      built = told.0;
-      read = told.1;
-      counts = StreamCounts-then c.args.matches.now.stream c.loop-next.matches.stream c.next_counted.new.self.stream c.args.steps.now c.loop-next.steps c.next_counted.new.steps c.loop-next.invariant.counted c.next_counted.ensures.goes.0;
-      course = c.next_counted.ensures.goes.1;
-      searched = tt;
-    }))
+    let gives = rw c.in_err-found.was at c.in-Some.ensures.gives in
+    let ends = next-stopped c.next_counted.new.self.reader.now c.loop-next.invariant.listed c.next_counted.ensures.goes.1 c.in_err-found.field-0.0 gives.0 gives.1 in
+    let counts = StreamCounts-then c.args.matches.now.stream c.loop-next.matches.stream c.next_counted.new.self.stream c.args.steps.now c.loop-next.steps c.next_counted.new.steps c.loop-next.invariant.counted c.next_counted.ensures.goes.0 in
+    rw p.1 (cost-listed c.args.matches.now.reader.now c.next_counted.new.self.reader.now c.requires.fresh c.next_counted.ensures.goes.1 (ends.0.1, ends.0.2) counts (Err c.in_err-found.field-0.0) ends.1 tt)
+
+pub returns-in_err-found-clause-begun : goal.returns-in_err-found-clause-begun
+returns-in_err-found-clause-begun g c =
+    let p = err_from_is_err_and c.from_residual.result c.from_residual.ensures.1 in
+    let gives = rw c.in_err-found.was at c.in-Some.ensures.gives in
+    rw (p.1, p.2) (next-stopped c.next_counted.new.self.reader.now c.loop-next.invariant.listed c.next_counted.ensures.goes.1 c.in_err-found.field-0.0 gives.0 gives.1).1
 
 pub loop-next-smaller : goal.loop-next-smaller
 loop-next-smaller g c =
-    let next = rw c.in_ok-found.was at c.in-Some.ensures.gives.0 in
-    let may = still-open g.R.Read.remaining g.W.Write.contents c.args.matches.now.stream.built c.loop-next.matches.stream c.next_counted.new.self.stream c.args.matches.now.reader.now c.loop-next.matches.reader.now c.next_counted.new.self.reader.now c.args.writer.now c.loop-next.writer c.loop-next.invariant.listed c.next_counted.ensures.goes.1 (Ok c.in_ok-found.found) (rw c.in_ok-found.was at c.in-Some.ensures.gives.1) in
-    less-left g.R.Read.remaining g.W.Write.contents c.args.matches.now.stream.built c.loop-next.matches.stream c.next_counted.new.self.stream c.args.matches.now.reader.now c.loop-next.matches.reader.now c.next_counted.new.self.reader.now c.args.writer.now c.loop-next.writer c.loop-next.invariant.listed c.next_counted.ensures.goes.1 c.in_ok-found.found next may c.write_lines.new.matches.stream c.in_ok-write_lines.ensures.writes.same.last
+    let gives = rw c.in_ok-found.was at c.in-Some.ensures.gives in
+    less-left c.next_counted.new.self.reader.now c.loop-next.invariant.listed c.next_counted.ensures.goes.1 c.in_ok-found.found gives.0 gives.1 c.write_lines.new.writer c.write_lines.ensures.unread c.write_lines.ensures.goes.1
 
 pub loop-next-preserved : goal.loop-next-preserved
 loop-next-preserved g c =
-    let next = rw c.in_ok-found.was at c.in-Some.ensures.gives.0 in
-    let may = still-open g.R.Read.remaining g.W.Write.contents c.args.matches.now.stream.built c.loop-next.matches.stream c.next_counted.new.self.stream c.args.matches.now.reader.now c.loop-next.matches.reader.now c.next_counted.new.self.reader.now c.args.writer.now c.loop-next.writer c.loop-next.invariant.listed c.next_counted.ensures.goes.1 (Ok c.in_ok-found.found) (rw c.in_ok-found.was at c.in-Some.ensures.gives.1) in
+    let gives = rw c.in_ok-found.was at c.in-Some.ensures.gives in
     let first = StreamCounts-then c.args.matches.now.stream c.loop-next.matches.stream c.next_counted.new.self.stream c.args.steps.now c.loop-next.steps c.next_counted.new.steps c.loop-next.invariant.counted c.next_counted.ensures.goes.0 in
-    let listed = listed-more g.R.Read.remaining g.W.Write.contents c.args.matches.now.stream.built c.loop-next.matches.stream c.next_counted.new.self.stream c.args.matches.now.reader.now c.loop-next.matches.reader.now c.next_counted.new.self.reader.now c.args.writer.now c.loop-next.writer c.loop-next.invariant.listed c.next_counted.ensures.goes.1 c.in_ok-found.found next may c.write_lines.new.matches.stream c.write_lines.new.writer c.in_ok-write_lines.ensures.writes c.write_lines.ensures.goes.1 c.in_ok-write_lines.ensures.all in
+    let listed = listed-more c.next_counted.new.self.reader.now c.loop-next.invariant.listed c.next_counted.ensures.goes.1 c.in_ok-found.found gives.0 gives.1 c.write_lines.new.writer c.write_lines.ensures.unread c.write_lines.ensures.goes.1 c.in_ok-write_lines.ensures.writes c.in_ok-write_lines.ensures.all in
     record {
       listed = rw c.write_lines.ensures.reader.0 listed;
       empty = c.write_lines.ensures.none;
@@ -60,51 +60,33 @@ loop-next-preserved g c =
 pub returns-in_err-write_lines-clause-list : goal.returns-in_err-write_lines-clause-list
 returns-in_err-write_lines-clause-list g c =
     let p = err_from_is_err_and c.from_residual-in_err-write_lines.result c.from_residual-in_err-write_lines.ensures.1 in
-    let next = rw c.in_ok-found.was at c.in-Some.ensures.gives.0 in
-    let may = still-open g.R.Read.remaining g.W.Write.contents c.args.matches.now.stream.built c.loop-next.matches.stream c.next_counted.new.self.stream c.args.matches.now.reader.now c.loop-next.matches.reader.now c.next_counted.new.self.reader.now c.args.writer.now c.loop-next.writer c.loop-next.invariant.listed c.next_counted.ensures.goes.1 (Ok c.in_ok-found.found) (rw c.in_ok-found.was at c.in-Some.ensures.gives.1) in
-    let lists = ends-failed_write g.R.Read.remaining g.W.Write.contents c.args.matches.now.stream.built c.loop-next.matches.stream c.next_counted.new.self.stream c.args.matches.now.reader.now c.loop-next.matches.reader.now c.next_counted.new.self.reader.now c.args.writer.now c.loop-next.writer c.loop-next.invariant.listed c.next_counted.ensures.goes.1 c.in_ok-found.found next may c.write_lines.new.matches.stream c.write_lines.new.writer c.in_err-write_lines.field-0.0 c.in_err-write_lines.ensures.writes c.write_lines.ensures.goes.1 in
+    let gives = rw c.in_ok-found.was at c.in-Some.ensures.gives in
+    let lists = ends-failed_write c.next_counted.new.self.reader.now c.loop-next.invariant.listed c.next_counted.ensures.goes.1 c.in_ok-found.found gives.0 gives.1 c.write_lines.new.writer c.write_lines.ensures.unread c.write_lines.ensures.goes.1 c.in_err-write_lines.field-0.0 c.in_err-write_lines.ensures.writes in
     rw (p.1, p.2) (rw c.write_lines.ensures.reader.0 lists)
 
 pub returns-in_err-write_lines-clause-costs : goal.returns-in_err-write_lines-clause-costs
 returns-in_err-write_lines-clause-costs g c =
     let p = err_from_is_err_and c.from_residual-in_err-write_lines.result c.from_residual-in_err-write_lines.ensures.1 in
-    let next = rw c.in_ok-found.was at c.in-Some.ensures.gives.0 in
-    let may = still-open g.R.Read.remaining g.W.Write.contents c.args.matches.now.stream.built c.loop-next.matches.stream c.next_counted.new.self.stream c.args.matches.now.reader.now c.loop-next.matches.reader.now c.next_counted.new.self.reader.now c.args.writer.now c.loop-next.writer c.loop-next.invariant.listed c.next_counted.ensures.goes.1 (Ok c.in_ok-found.found) (rw c.in_ok-found.was at c.in-Some.ensures.gives.1) in
-    let told = found-read g.R.Read.remaining g.W.Write.contents c.args.matches.now.stream.built c.loop-next.matches.stream c.next_counted.new.self.stream c.args.matches.now.reader.now c.loop-next.matches.reader.now c.next_counted.new.self.reader.now c.args.writer.now c.loop-next.writer c.loop-next.invariant.listed c.next_counted.ensures.goes.1 c.in_ok-found.found next may c.write_lines.new.matches.stream c.in_err-write_lines.ensures.writes.same in
+    let gives = rw c.in_ok-found.was at c.in-Some.ensures.gives in
+    let read = found-read c.next_counted.new.self.reader.now c.loop-next.invariant.listed c.next_counted.ensures.goes.1 c.in_ok-found.found gives.0 gives.1 c.write_lines.new.writer c.write_lines.ensures.unread c.write_lines.ensures.goes.1 in
     let first = StreamCounts-then c.args.matches.now.stream c.loop-next.matches.stream c.next_counted.new.self.stream c.args.steps.now c.loop-next.steps c.next_counted.new.steps c.loop-next.invariant.counted c.next_counted.ensures.goes.0 in
-    rw p.1 (cost-listed c.args.matches.now.stream.built c.args.matches.now.stream c.write_lines.new.matches.stream c.args.matches.now.reader.now c.write_lines.new.matches.reader.now c.args.steps.now c.write_lines.new.steps (Err p.0) c.requires.fresh (record {
-      built = told.0;
-      read = rw c.write_lines.ensures.reader.0 told.1;
-      counts = StreamCounts-then c.args.matches.now.stream c.next_counted.new.self.stream c.write_lines.new.matches.stream c.args.steps.now c.next_counted.new.steps c.write_lines.new.steps first c.write_lines.ensures.goes.0;
-      course = c.write_lines.ensures.goes.1;
-      searched = tt;
-    }))
-
-pub returns-clause-list : goal.returns-clause-list
-returns-clause-list g c =
-    let next = c.in_default.ensures.gives.0 in
-    let unread : IsStopped c.loop-next.matches.stream c.loop-next.matches.reader.now → c.next_counted.new.self.reader.now ≡ c.loop-next.matches.reader.now = λ stopped. (c.in_default.ensures.gives.1 stopped).3 in
-    (ends-whole g.R.Read.remaining g.W.Write.contents c.args.matches.now.stream.built c.loop-next.matches.stream c.next_counted.new.self.stream c.args.matches.now.reader.now c.loop-next.matches.reader.now c.next_counted.new.self.reader.now c.args.writer.now c.loop-next.writer c.loop-next.invariant.listed c.next_counted.ensures.goes.1 next c.in_default.ensures.gives.1 unread).0
-
-pub returns-clause-costs : goal.returns-clause-costs
-returns-clause-costs g c =
-    let next = c.in_default.ensures.gives.0 in
-    let unread : IsStopped c.loop-next.matches.stream c.loop-next.matches.reader.now → c.next_counted.new.self.reader.now ≡ c.loop-next.matches.reader.now = λ stopped. (c.in_default.ensures.gives.1 stopped).3 in
-    let told = ended-read g.R.Read.remaining g.W.Write.contents c.args.matches.now.stream.built c.loop-next.matches.stream c.next_counted.new.self.stream c.args.matches.now.reader.now c.loop-next.matches.reader.now c.next_counted.new.self.reader.now c.args.writer.now c.loop-next.writer c.loop-next.invariant.listed c.next_counted.ensures.goes.1 next in
-    cost-listed c.args.matches.now.stream.built c.args.matches.now.stream c.next_counted.new.self.stream c.args.matches.now.reader.now c.next_counted.new.self.reader.now c.args.steps.now c.next_counted.new.steps (Ok tt) c.requires.fresh (record {
-      built = told.0;
-      read = told.1;
-      counts = StreamCounts-then c.args.matches.now.stream c.loop-next.matches.stream c.next_counted.new.self.stream c.args.steps.now c.loop-next.steps c.next_counted.new.steps c.loop-next.invariant.counted c.next_counted.ensures.goes.0;
-      course = c.next_counted.ensures.goes.1;
-      searched = (ends-whole g.R.Read.remaining g.W.Write.contents c.args.matches.now.stream.built c.loop-next.matches.stream c.next_counted.new.self.stream c.args.matches.now.reader.now c.loop-next.matches.reader.now c.next_counted.new.self.reader.now c.args.writer.now c.loop-next.writer c.loop-next.invariant.listed c.next_counted.ensures.goes.1 next c.in_default.ensures.gives.1 unread).1;
-    })
-
-pub returns-in_err-found-clause-begun : goal.returns-in_err-found-clause-begun
-returns-in_err-found-clause-begun g c =
-    let p = err_from_is_err_and c.from_residual.result c.from_residual.ensures.1 in
-    rw (p.1, p.2) (gives-begun g.R.Read.remaining c.loop-next.matches.stream c.next_counted.new.self.stream c.loop-next.matches.reader.now c.next_counted.new.self.reader.now c.in_err-found.field-0.0 (rw c.in_err-found.was at c.in-Some.ensures.gives.0))
+    let counts = StreamCounts-then c.args.matches.now.stream c.next_counted.new.self.stream c.write_lines.new.matches.stream c.args.steps.now c.next_counted.new.steps c.write_lines.new.steps first c.write_lines.ensures.goes.0 in
+    let begun = write-begun c.loop-next.writer c.write_lines.new.writer c.in_err-write_lines.field-0.0 c.in_err-write_lines.ensures.writes.sends.1 in
+    rw p.1 (cost-listed c.args.matches.now.reader.now c.write_lines.new.matches.reader.now c.requires.fresh c.write_lines.ensures.goes.1 (rw c.write_lines.ensures.reader.0 read) counts (Err c.in_err-write_lines.field-0.0) begun tt)
 
 pub returns-in_err-write_lines-clause-begun : goal.returns-in_err-write_lines-clause-begun
 returns-in_err-write_lines-clause-begun g c =
     let p = err_from_is_err_and c.from_residual-in_err-write_lines.result c.from_residual-in_err-write_lines.ensures.1 in
     rw (p.1, p.2) (write-begun c.loop-next.writer c.write_lines.new.writer c.in_err-write_lines.field-0.0 c.in_err-write_lines.ensures.writes.sends.1)
+
+pub returns-clause-list : goal.returns-clause-list
+returns-clause-list g c =
+    let gives = c.in_default.ensures.gives in
+    (ends-whole c.next_counted.new.self.reader.now c.loop-next.invariant.listed c.next_counted.ensures.goes.1 gives.0 gives.1).0.0
+
+pub returns-clause-costs : goal.returns-clause-costs
+returns-clause-costs g c =
+    let gives = c.in_default.ensures.gives in
+    let ends = ends-whole c.next_counted.new.self.reader.now c.loop-next.invariant.listed c.next_counted.ensures.goes.1 gives.0 gives.1 in
+    let counts = StreamCounts-then c.args.matches.now.stream c.loop-next.matches.stream c.next_counted.new.self.stream c.args.steps.now c.loop-next.steps c.next_counted.new.steps c.loop-next.invariant.counted c.next_counted.ensures.goes.0 in
+    cost-listed c.args.matches.now.reader.now c.next_counted.new.self.reader.now c.requires.fresh c.next_counted.ensures.goes.1 (ends.0.1, ends.0.2) counts (Ok tt) tt ends.1

@@ -1,26 +1,28 @@
 -- Both buffers are taken first; then the list reads on.
 use Rattle.std.proofs.Common.{ap, rules, subst}
 use Rattle.std.proofs.lemmas.Result.{err_from_is_err_and}
-use Rattle.ac_automaton.specs.Stream.{StreamProgress}
+use Rattle.ac_automaton.specs.Stream.{StreamProgress, room_of}
 use Rattle.ac_automaton.specs.declared.watched.Watched.{Watched}
 use Rattle.aho_corasick.specs.AhoCorasick.{as_built, supported_by}
-use Rattle.acsub.specs.Stream.StreamList.{ListsStream}
-use Rattle.acsub.proofs.stream.StreamedLemmas.{cost-nothing}
-use Rattle.acsub.proofs.stream.StreamListLemmas.{begun-accepted, never-memory, nothing-listed, refused-memory}
+use Rattle.acsub.specs.Stream.StreamList.{ListsStream, listed_in}
+use Rattle.acsub.specs.Run.Transformed.{IsDecidedList}
+use Rattle.acsub.proofs.stream.StreamedLemmas.{cost-nothing, refused-memory}
+use Rattle.acsub.proofs.stream.WritingLemmas.{begun-accepted, never-memory, writes-nothing}
 use Rattle.acsub.proofs.stream.list.list_stream.Goals as goal
 
 pub returns-in_err-output-clause-lists : goal.returns-in_err-output-clause-lists
 returns-in_err-output-clause-lists g c =
     let p = err_from_is_err_and c.from_residual.result c.from_residual.ensures.1 in
-    rw (p.1, p.2) (nothing-listed g.R.Read.remaining g.W.Write.contents (as_built c.args.engine.now) c.args.reader.now c.args.writer.now)
+    let b = as_built c.args.engine.now in
+    rw (p.1, p.2) (writes-nothing g.R.Read.remaining g.W.Write.contents (room_of b) (listed_in b) (IsDecidedList b.dictionary) c.args.reader.now c.args.writer.now)
 
 pub returns-in_err-matches-clause-lists : goal.returns-in_err-matches-clause-lists
 returns-in_err-matches-clause-lists g c =
     let p = err_from_is_err_and c.from_residual-in_err-matches.result c.from_residual-in_err-matches.ensures.1 in
     let b = as_built c.args.engine.now in
-    let memory = refused-memory b (supported_by c.args.engine.now) c.in_err-matches.field-0.0 c.requires.can c.in_err-matches.ensures.answer in
+    let memory = refused-memory b (supported_by c.args.engine.now) c.requires.can c.in_err-matches.field-0.0 c.in_err-matches.ensures.answer in
     let untouched = rw c.in_err-matches.was at c.stream_find_iter_any_kind.follows.holds-at-none in
-    rw (p.1, p.2, memory, untouched) (nothing-listed g.R.Read.remaining g.W.Write.contents b c.args.reader.now c.args.writer.now)
+    rw (p.1, p.2, memory, untouched) (writes-nothing g.R.Read.remaining g.W.Write.contents (room_of b) (listed_in b) (IsDecidedList b.dictionary) c.args.reader.now c.args.writer.now)
 
 pub returns-in_err-matches-clause-costs : goal.returns-in_err-matches-clause-costs
 returns-in_err-matches-clause-costs g c =

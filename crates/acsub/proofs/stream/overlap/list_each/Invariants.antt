@@ -6,11 +6,11 @@ use Rattle.acsub.proofs.stream.overlap.list_each.Given as goal
 
 abbrev pub invariant-loop-next : goal.invariant-loop-next
 invariant-loop-next g l = record {
-  listed : HasListedEach g.R.Read.remaining g.W.Write.contents (listing_of_stream l.fn.occurrences).built (listing_of_stream l.occurrences) (reader_listed l.fn.occurrences) (reader_listed l.occurrences) l.fn.writer l.writer;
+  listed : HasListedEach g.R.Read.remaining g.W.Write.contents (listing_of_stream l.fn.iter).built (listing_of_stream l.iter) (reader_listed l.fn.iter) (reader_listed l.iter) l.fn.writer l.writer;
   empty : l.output ≡ [];
-  same_reference : reader_listed_name l.occurrences ≡ reader_listed_name l.fn.occurrences;
-  counted : ListingCounts (listing_of_stream l.fn.occurrences) (listing_of_stream l.occurrences) l.fn.steps l.steps;
+  same_reference : reader_listed_name l.iter ≡ reader_listed_name l.fn.iter;
+  counted : ListingCounts (listing_of_stream l.fn.iter) (listing_of_stream l.iter) l.fn.steps l.steps;
 }
 
 abbrev pub decreases-loop-next : goal.decreases-loop-next
-decreases-loop-next g l = 18446744073709551616 - length (all_read (listing_of_stream l.occurrences))
+decreases-loop-next g l = 18446744073709551616 - length (all_read (listing_of_stream l.iter))

@@ -1,19 +1,21 @@
 -- Both buffers are taken first; then the list reads on.
-use Rattle.std.proofs.Common.{ap, rules, subst, sym}
+use Rattle.std.proofs.Common.{◌≡◌, ap, rules, subst, sym}
 use Rattle.std.proofs.lemmas.Result.{err_from_is_err_and}
+use Rattle.ac_automaton.specs.Devices.Buffer.{least_room}
 use Rattle.ac_automaton.specs.Stream.StreamListing.{IsOnListing, ListingProgress}
 use Rattle.ac_automaton.specs.declared.watched.Watched.{Watched}
 use Rattle.aho_corasick.specs.AhoCorasick.{as_built, supported_by}
-use Rattle.acsub.specs.Stream.StreamOverlap.{ListsEvery}
+use Rattle.acsub.specs.Stream.StreamOverlap.{ListsEvery, every_line}
 use Rattle.acsub.proofs.stream.StreamedLemmas.{cost-nothing}
-use Rattle.acsub.proofs.stream.StreamListLemmas.{begun-accepted, never-memory}
-use Rattle.acsub.proofs.stream.StreamOverlapLemmas.{fresh-on_listing, nothing-every, refused-every}
+use Rattle.acsub.proofs.stream.StreamOverlapLemmas.{fresh-on_listing, refused-every}
+use Rattle.acsub.proofs.stream.WritingLemmas.{begun-accepted, never-memory, writes-nothing}
 use Rattle.acsub.proofs.stream.overlap.list_every.Goals as goal
 
 pub returns-in_err-output-clause-lists : goal.returns-in_err-output-clause-lists
 returns-in_err-output-clause-lists g c =
     let p = err_from_is_err_and c.from_residual.result c.from_residual.ensures.1 in
-    rw (p.1, p.2) (nothing-every g.R.Read.remaining g.W.Write.contents (as_built c.args.engine.now) c.args.reader.now c.args.writer.now)
+    let b = as_built c.args.engine.now in
+    rw (p.1, p.2) (writes-nothing g.R.Read.remaining g.W.Write.contents least_room (every_line b) (λ x text. text ≡ every_line b x) c.args.reader.now c.args.writer.now)
 
 pub returns-in_err-occurrences-clause-lists : goal.returns-in_err-occurrences-clause-lists
 returns-in_err-occurrences-clause-lists g c =
@@ -21,7 +23,7 @@ returns-in_err-occurrences-clause-lists g c =
     let b = as_built c.args.engine.now in
     let memory = refused-every b (supported_by c.args.engine.now) c.in_err-occurrences.field-0.0 c.requires.can c.in_err-occurrences.ensures.answer in
     let untouched = rw c.in_err-occurrences.was at c.stream_find_overlapping_iter.follows.holds-at-none in
-    rw (p.1, p.2, memory, untouched) (nothing-every g.R.Read.remaining g.W.Write.contents b c.args.reader.now c.args.writer.now)
+    rw (p.1, p.2, memory, untouched) (writes-nothing g.R.Read.remaining g.W.Write.contents least_room (every_line b) (λ x text. text ≡ every_line b x) c.args.reader.now c.args.writer.now)
 
 pub returns-in_err-occurrences-clause-costs : goal.returns-in_err-occurrences-clause-costs
 returns-in_err-occurrences-clause-costs g c =

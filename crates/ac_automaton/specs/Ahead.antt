@@ -2,6 +2,7 @@
 use Rattle.std.specs.Prelude.{◌≡◌, ℕ, ◌+◌, ◌-◌, ◌<◌, ◌≤◌, nat_le, Bool, IsTrue, Contains, List, [], length, take, drop}
 use Rattle.std.specs.List.{All}
 use Rattle.ac_input.specs.Number.{StateID}
+use Rattle.ac_input.specs.declared.search.Anchored.{Anchored}
 use Rattle.ac_input.specs.declared.search.Anchored.TheVariants.{No}
 use Rattle.ac_automaton.specs.Automaton.{IsReached, Leads, PassesPlain, is_matching}
 use Rattle.ac_automaton.specs.declared.ahead.Note.{Note}
@@ -15,9 +16,9 @@ pub record IsNote (Reaches : List ℕ → StateID → Type 0) (matches : StateID
   pub reads : Leads Reaches note.sid (take note.len (drop note.from bytes)) note.next
   pub plain : PassesPlain Reaches (is_matching matches) note.sid (drop note.from bytes) note.len
 
--- each of these is a note of the bytes
-abbrev pub AreNotes : (List ℕ → StateID → Type 0) → (StateID → List ℕ) → List ℕ → List Note → Type 0
-AreNotes Reaches matches bytes notes = All (IsNote Reaches matches bytes) notes
+-- each of these is a note of the bytes, by the states of an unanchored search
+abbrev pub AreNotes : {S : Type 0} → (S → Anchored → List ℕ → StateID → Type 0) → (S → StateID → List ℕ) → S → List ℕ → List Note → Type 0
+AreNotes Reaches matches automaton bytes notes = All (IsNote (Reaches automaton No) (matches automaton) bytes) notes
 
 -- a note that covers no bytes
 abbrev pub IsBlank : Note → Type 0

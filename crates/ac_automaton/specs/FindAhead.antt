@@ -18,4 +18,4 @@ pub record MayReadAhead {S : Type 0} (A : Ghosts S) (automaton : S) (asked : Ask
 
 -- the notes describe the haystack up to the end of the span
 abbrev pub AreNotesOf : {S : Type 0} → Ghosts S → S → Asked → List Note → Type 0
-AreNotesOf A automaton asked notes = AreNotes (A.Reaches automaton No) (A.matches automaton) (take asked.span.end asked.haystack) notes
+AreNotesOf A automaton asked notes = AreNotes A.Reaches A.matches automaton (take asked.span.end asked.haystack) notes

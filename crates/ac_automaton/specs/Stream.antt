@@ -35,6 +35,8 @@ use Rattle.ac_automaton.specs.declared.error.MatchErrorKind.{MatchErrorKind}
 use Rattle.ac_automaton.specs.declared.error.MatchErrorKind.TheVariants.{UnsupportedStream, UnsupportedEmpty}
 use Rattle.ac_automaton.specs.declared.error.StreamError.{StreamError}
 use Rattle.ac_automaton.specs.declared.error.StreamError.TheVariants.{Config, Read, Memory, Position}
+use Rattle.ac_automaton.specs.declared.stream.StreamKinds.{StreamKinds}
+use Rattle.ac_automaton.specs.declared.stream.StreamKinds.TheVariants.{AnyKind, OnlyStandard}
 use Rattle.ac_automaton.specs.declared.watched.Watched.{Watched}
 
 -- How far a search of a stream has come: its automaton; the pieces that its reads returned; whether it was told that no more
@@ -110,26 +112,26 @@ pub record IsFront (m : Dictionary) (output : List ℕ → List ℕ) (x text : L
 
 -- ---- whether a stream can be searched
 
--- there is a start for a search that isn't anchored, the kind is the standard one, and no pattern is empty
-abbrev pub CanStream : Built → (Anchored → Type 0) → Type 0
-CanStream b supports = supports No × (b.dictionary.kind ≡ Standard) × (1 ≤ shortest b.dictionary.patterns)
+-- there is a start for a search that isn't anchored, the kind is the standard one unless any is accepted, and no pattern is empty
+abbrev pub CanStream : StreamKinds → Built → (Anchored → Type 0) → Type 0
+CanStream OnlyStandard b supports = supports No × (b.dictionary.kind ≡ Standard) × (1 ≤ shortest b.dictionary.patterns)
+CanStream AnyKind b supports = supports No × (1 ≤ shortest b.dictionary.patterns)
 
--- a stream can be searched under any kind: there is a start for a search that isn't anchored, and no pattern is empty
-abbrev pub CanStreamAnyKind : Built → (Anchored → Type 0) → Type 0
-CanStreamAnyKind b supports = supports No × (1 ≤ shortest b.dictionary.patterns)
-
--- the error of a search that isn't supported: there is no start, or else the kind isn't standard, or else a pattern is empty
-abbrev pub IsConfigRefusal : Built → (Anchored → Type 0) → MatchErrorKind → Type 0
-IsConfigRefusal b supports error =
+-- the error of a search that isn't supported: there is no start, or else the kind isn't accepted, or else a pattern is empty
+abbrev pub IsConfigRefusal : StreamKinds → Built → (Anchored → Type 0) → MatchErrorKind → Type 0
+IsConfigRefusal OnlyStandard b supports error =
     (¬ supports No × (error ≡ refusal_of No))
     ⊎ (supports No × (b.dictionary.kind ≢ Standard) × (error ≡ UnsupportedStream b.dictionary.kind))
     ⊎ (supports No × (b.dictionary.kind ≡ Standard) × (shortest b.dictionary.patterns ≡ 0) × (error ≡ UnsupportedEmpty))
+IsConfigRefusal AnyKind b supports error =
+    (¬ supports No × (error ≡ refusal_of No))
+    ⊎ (supports No × (shortest b.dictionary.patterns ≡ 0) × (error ≡ UnsupportedEmpty))
 
 -- the error says what failed: the search, or the memory for the buffer
-abbrev pub IsStreamRefusal : Built → (Anchored → Type 0) → StreamError → Type 0
-IsStreamRefusal b supports (Config error) = IsConfigRefusal b supports error
-IsStreamRefusal b supports Memory = CanStream b supports
-IsStreamRefusal b supports other = ⊥
+abbrev pub IsStreamRefusal : StreamKinds → Built → (Anchored → Type 0) → StreamError → Type 0
+IsStreamRefusal kinds b supports (Config error) = IsConfigRefusal kinds b supports error
+IsStreamRefusal kinds b supports Memory = CanStream kinds b supports
+IsStreamRefusal kinds b supports other = ⊥
 
 -- ---- what holds wherever a search stands
 
@@ -175,31 +177,14 @@ pub record IsOnCourse (s : StreamProgress) : Type 0 where
   pub paid : IsWithinStreamBudget s
 
 -- A search of a stream was made, which has read nothing yet; or the error says why not.
-abbrev pub AnswersNew : Built → (Anchored → Type 0) → Result StreamProgress StreamError → Type 0
-AnswersNew b supports (Ok s) = CanStream b supports × (s ≡ fresh_progress b) × IsOnCourse s
-AnswersNew b supports (Err error) = IsStreamRefusal b supports error
-
--- ---- a search under any kind
-
--- the error of a search under any kind that isn't supported: there is no start, or else a pattern is empty
-abbrev pub IsAnyKindConfigRefusal : Built → (Anchored → Type 0) → MatchErrorKind → Type 0
-IsAnyKindConfigRefusal b supports error = (¬ supports No × (error ≡ refusal_of No)) ⊎ (supports No × (shortest b.dictionary.patterns ≡ 0) × (error ≡ UnsupportedEmpty))
-
--- the error says what failed: the search, or the memory for the buffer
-abbrev pub IsAnyKindRefusal : Built → (Anchored → Type 0) → StreamError → Type 0
-IsAnyKindRefusal b supports (Config error) = IsAnyKindConfigRefusal b supports error
-IsAnyKindRefusal b supports Memory = CanStreamAnyKind b supports
-IsAnyKindRefusal b supports other = ⊥
+abbrev pub AnswersNew : StreamKinds → Built → (Anchored → Type 0) → Result StreamProgress StreamError → Type 0
+AnswersNew kinds b supports (Ok s) = CanStream kinds b supports × (s ≡ fresh_progress b) × IsOnCourse s
+AnswersNew kinds b supports (Err error) = IsStreamRefusal kinds b supports error
 
 -- the error is that there is no memory
 abbrev pub IsOutOfMemory : StreamError → Type 0
 IsOutOfMemory Memory = Unit {0}
 IsOutOfMemory other = ⊥
-
--- a search of a stream under any kind was made, which has read nothing yet; or the error says why not
-abbrev pub AnswersNewAnyKind : Built → (Anchored → Type 0) → Result StreamProgress StreamError → Type 0
-AnswersNewAnyKind b supports (Ok s) = CanStreamAnyKind b supports × (s ≡ fresh_progress b) × IsOnCourse s
-AnswersNewAnyKind b supports (Err error) = IsAnyKindRefusal b supports error
 
 -- ---- what a call does
 

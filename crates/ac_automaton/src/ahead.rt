@@ -138,10 +138,8 @@ impl Ahead {
     ) -> Option<Note>
         requires reached { IsReached (A.Reaches automaton.now Anchored.No) sid }
         requires within { at ≤ length bytes.now }
-        requires known { AreNotes (A.Reaches automaton.now Anchored.No) (A.matches automaton.now) bytes.now
-            self.old.notes }
-        ensures known { AreNotes (A.Reaches automaton.now Anchored.No) (A.matches automaton.now) bytes.now
-            self.new.notes }
+        requires known { AreNotes A.Reaches A.matches automaton.now bytes.now self.old.notes }
+        ensures known { AreNotes A.Reaches A.matches automaton.now bytes.now self.new.notes }
         ensures noted { IfSome result (IsUpcoming self.new.notes at) }
     {
         let note = self.upcoming(at);
@@ -157,10 +155,8 @@ impl Ahead {
     fn read_block<A: Automaton>(&mut self, automaton: &A, sid: StateID, bytes: &[u8], at: usize)
         requires reached { IsReached (A.Reaches automaton.now Anchored.No) sid }
         requires within { at ≤ length bytes.now }
-        requires known { AreNotes (A.Reaches automaton.now Anchored.No) (A.matches automaton.now) bytes.now
-            self.old.notes }
-        ensures known { AreNotes (A.Reaches automaton.now Anchored.No) (A.matches automaton.now) bytes.now
-            self.new.notes }
+        requires known { AreNotes A.Reaches A.matches automaton.now bytes.now self.old.notes }
+        ensures known { AreNotes A.Reaches A.matches automaton.now bytes.now self.new.notes }
     {
         let block = self.block.min(bytes.len() - at);
         let noted = automaton.note_ahead(sid, bytes, at, block, self.anew, &mut self.notes);
@@ -227,12 +223,10 @@ fn read_part<A: Automaton>(
 ) -> Advance
     requires reached { IsReached (A.Reaches automaton.now Anchored.No) sid }
     requires left { at < length bytes.now }
-    requires known { AreNotes (A.Reaches automaton.now Anchored.No) (A.matches automaton.now) bytes.now
-        ahead.old.notes }
+    requires known { AreNotes A.Reaches A.matches automaton.now bytes.now ahead.old.notes }
     ensures reads { ReadsPart (A.built automaton.now) (A.Reaches automaton.now) Anchored.No
         (is_matching (A.matches automaton.now)) sid (drop at bytes.now) result steps.old steps.new }
-    ensures known { AreNotes (A.Reaches automaton.now Anchored.No) (A.matches automaton.now) bytes.now
-        ahead.new.notes }
+    ensures known { AreNotes A.Reaches A.matches automaton.now bytes.now ahead.new.notes }
 {
     let upcoming = ahead.next_note(automaton, sid, bytes, at);
     if let Some(note) = &upcoming {
@@ -261,14 +255,12 @@ pub(crate) fn advance_to_match<A: Automaton>(
 ) -> Advance
     requires reached { IsReached (A.Reaches automaton.now Anchored.No) sid }
     requires within { from ≤ length bytes.now }
-    requires known { AreNotes (A.Reaches automaton.now Anchored.No) (A.matches automaton.now) bytes.now
-        ahead.old.notes }
+    requires known { AreNotes A.Reaches A.matches automaton.now bytes.now ahead.old.notes }
     ensures goes { AdvancesToMatch (A.Reaches automaton.now Anchored.No) (A.matches automaton.now) sid
         (drop from bytes.now) result }
     ensures cost { IsReadCost (A.built automaton.now) (A.Reaches automaton.now) Anchored.No sid
         (take result.taken (drop from bytes.now)) steps.old steps.new }
-    ensures known { AreNotes (A.Reaches automaton.now Anchored.No) (A.matches automaton.now) bytes.now
-        ahead.new.notes }
+    ensures known { AreNotes A.Reaches A.matches automaton.now bytes.now ahead.new.notes }
 {
     let mut current = sid;
     let mut read = 0;

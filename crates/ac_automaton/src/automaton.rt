@@ -21,7 +21,7 @@ use crate::iter::{FindIter, WalkPlace};
 use crate::overlapping::{FindOverlappingIter, OverlappingState};
 use crate::search::Search;
 use crate::stream::overlapping::{self as stream_overlapping, StreamFindOverlappingIter};
-use crate::stream::{self, StreamFindIter, StreamReplacer, StreamSearch};
+use crate::stream::{self, StreamFindIter, StreamKinds, StreamReplacer, StreamSearch};
 use crate::watched::Watched;
 use crate::{iter, overlapping, replace};
 use ac_input::primitives::{PatternID, StateID};
@@ -56,12 +56,13 @@ pub trait Automaton {
     ghost use Rattle.ac_automaton.specs.Overlapping.{CameFrom, CountsShown, IsOverlappingCost, AnswersOverlapping};
     ghost use Rattle.ac_automaton.specs.Overlapping.OverlappingIter.{AnswersOverlappingIter, rest_of};
     ghost use Rattle.ac_automaton.specs.Items.{AreFewForEach, MatchesAreInOrder, EachLiesWithin, FindsWithin};
-    ghost use Rattle.ac_automaton.specs.Stream.{AnswersNewAnyKind};
-    ghost use Rattle.ac_automaton.specs.Stream.StreamIter.{AnswersAnyKindIter, AnswersStreamIter};
+    ghost use Rattle.ac_automaton.specs.Stream.{AnswersNew};
+    ghost use Rattle.ac_automaton.specs.Stream.StreamIter.{AnswersStreamIter};
     ghost use Rattle.ac_automaton.specs.Stream.StreamOverlappingIter.{AnswersStreamListing};
-    ghost use Rattle.ac_automaton.specs.Stream.StreamReplace.{AcceptsReplacing, AcceptsReplacingAnyKind, CostsStream, ReplacesStream};
-    ghost use Rattle.ac_automaton.specs.Stream.StreamReplaceWith.{ReplacesAnyKindWith, ReplacesStreamWith};
+    ghost use Rattle.ac_automaton.specs.Stream.StreamReplace.{AcceptsReplacing, CostsStream, ReplacesStream};
+    ghost use Rattle.ac_automaton.specs.Stream.StreamReplaceWith.{ReplacesStreamWith};
     ghost use Rattle.ac_automaton.specs.Stream.StreamReplacer.{AnswersReplacer};
+    ghost use Rattle.ac_automaton.specs.declared.stream.StreamKinds.TheVariants.{AnyKind, OnlyStandard};
     ghost use Rattle.ac_automaton.specs.Replace.{IsForMatches, ReplacesText, ReplacesBytes, ReplacesTextWith, ReplacesBytesWith};
 
     /// What it was built as: its patterns, pairing and kind, whether it looks at exactly one state for a byte, its prefilter.
@@ -178,8 +179,8 @@ pub trait Automaton {
     ) -> usize
         requires reached { IsReached (Reaches self.now Anchored.No) _sid }
         requires within { _at ≤ length _bytes.now }
-        requires known { AreNotes (Reaches self.now Anchored.No) (matches self.now) _bytes.now _notes.old }
-        ensures { AreNotes (Reaches self.now Anchored.No) (matches self.now) _bytes.now _notes.new }
+        requires known { AreNotes Reaches matches self.now _bytes.now _notes.old }
+        ensures { AreNotes Reaches matches self.now _bytes.now _notes.new }
     {
         0
     }
@@ -419,7 +420,8 @@ pub trait Automaton {
     where
         Self: Sized + Search,
         requires { reader.old.ended ≡ false }
-        ensures { AnswersStreamIter (built self.now) (supports self.now) reader.entry result }
+        ensures { AnswersStreamIter OnlyStandard (built self.now) (supports self.now) reader.entry
+            result }
     {
         stream::stream_find_iter(reader, self, alloc)
     }
@@ -441,7 +443,8 @@ pub trait Automaton {
     where
         Self: Sized + Search,
         requires { reader.old.ended ≡ false }
-        ensures { AnswersAnyKindIter (built self.now) (supports self.now) reader.entry result }
+        ensures { AnswersStreamIter AnyKind (built self.now) (supports self.now) reader.entry
+            result }
     {
         stream::stream_find_iter_any_kind(reader, self, alloc)
     }
@@ -458,7 +461,7 @@ pub trait Automaton {
     ) -> Result<StreamSearch<&'a Self>, StreamError>
     where
         Self: Sized + Search,
-        ensures { AnswersNewAnyKind (built self.now) (supports self.now) result }
+        ensures { AnswersNew AnyKind (built self.now) (supports self.now) result }
     {
         StreamSearch::any_kind(self, alloc)
     }
@@ -593,7 +596,7 @@ pub trait Automaton {
             ≡ length (built self.now).dictionary.patterns }
         ensures replaced { ReplacesStream R.remaining W.contents (built self.now)
             (map (λ r. r.now) replacements.now) reader.old reader.new writer.old writer.new result }
-        ensures accepted { AcceptsReplacing (built self.now) (supports self.now)
+        ensures accepted { AcceptsReplacing OnlyStandard (built self.now) (supports self.now)
             reader.old reader.new writer.old writer.new result }
     {
         let mut steps = Steps::new();
@@ -617,12 +620,20 @@ pub trait Automaton {
             ≡ length (built self.now).dictionary.patterns }
         ensures replaced { ReplacesStream R.remaining W.contents (built self.now)
             (map (λ r. r.now) replacements.now) reader.old reader.new writer.old writer.new result }
-        ensures accepted { AcceptsReplacing (built self.now) (supports self.now)
+        ensures accepted { AcceptsReplacing OnlyStandard (built self.now) (supports self.now)
             reader.old reader.new writer.old writer.new result }
         ensures cost { CostsStream (built self.now) reader.old reader.new
             steps.old steps.new result }
     {
-        stream::replace::replace_all_counted(self, alloc, reader, writer, replacements, steps)
+        stream::replace::replace_all_counted(
+            self,
+            StreamKinds::OnlyStandard,
+            alloc,
+            reader,
+            writer,
+            replacements,
+            steps,
+        )
     }
 
     /// Writes the input, and in place of each match what the closure writes. The closure takes the match, its bytes and the
@@ -644,10 +655,17 @@ pub trait Automaton {
         requires open { reader.old.ended ≡ false }
         requires ready { IsForMatches F.FnMut (length (built self.now).dictionary.patterns)
             replace_with }
-        ensures { ReplacesStreamWith W.contents F.FnMut R.remaining (built self.now)
+        ensures { ReplacesStreamWith W.contents F.FnMut R.remaining OnlyStandard (built self.now)
             (supports self.now) replace_with reader.old reader.new writer.old writer.new result }
     {
-        stream::replace_with::replace_all_with(self, alloc, reader, writer, replace_with)
+        stream::replace_with::replace_all_with(
+            self,
+            StreamKinds::OnlyStandard,
+            alloc,
+            reader,
+            writer,
+            replace_with,
+        )
     }
 
     /// The same as `try_stream_replace_all` under any kind: under a leftmost one each match is replaced once it is decided. Before
@@ -670,7 +688,7 @@ pub trait Automaton {
             ≡ length (built self.now).dictionary.patterns }
         ensures replaced { ReplacesStream R.remaining W.contents (built self.now)
             (map (λ r. r.now) replacements.now) reader.old reader.new writer.old writer.new result }
-        ensures accepted { AcceptsReplacingAnyKind (built self.now) (supports self.now)
+        ensures accepted { AcceptsReplacing AnyKind (built self.now) (supports self.now)
             reader.old reader.new writer.old writer.new result }
     {
         let mut steps = Steps::new();
@@ -700,13 +718,14 @@ pub trait Automaton {
             ≡ length (built self.now).dictionary.patterns }
         ensures replaced { ReplacesStream R.remaining W.contents (built self.now)
             (map (λ r. r.now) replacements.now) reader.old reader.new writer.old writer.new result }
-        ensures accepted { AcceptsReplacingAnyKind (built self.now) (supports self.now)
+        ensures accepted { AcceptsReplacing AnyKind (built self.now) (supports self.now)
             reader.old reader.new writer.old writer.new result }
         ensures cost { CostsStream (built self.now) reader.old reader.new
             steps.old steps.new result }
     {
-        stream::replace::replace_all_any_kind_counted(
+        stream::replace::replace_all_counted(
             self,
+            StreamKinds::AnyKind,
             alloc,
             reader,
             writer,
@@ -729,9 +748,16 @@ pub trait Automaton {
         requires open { reader.old.ended ≡ false }
         requires ready { IsForMatches F.FnMut (length (built self.now).dictionary.patterns)
             replace_with }
-        ensures { ReplacesAnyKindWith W.contents F.FnMut R.remaining (built self.now)
+        ensures { ReplacesStreamWith W.contents F.FnMut R.remaining AnyKind (built self.now)
             (supports self.now) replace_with reader.old reader.new writer.old writer.new result }
     {
-        stream::replace_with::replace_all_any_kind_with(self, alloc, reader, writer, replace_with)
+        stream::replace_with::replace_all_with(
+            self,
+            StreamKinds::AnyKind,
+            alloc,
+            reader,
+            writer,
+            replace_with,
+        )
     }
 }

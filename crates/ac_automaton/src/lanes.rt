@@ -222,12 +222,10 @@ fn settle<A: LookUp>(
     requires may { MayNote A.LookUp automaton.now start last }
     requires to { WalkedTo (A.Reaches automaton.now No) (is_up_to last) bytes.now lane }
     requires inside { lane.end ≤ length bytes.now }
-    requires known { AreNotes (A.Reaches automaton.now No) (A.matches automaton.now) bytes.now
-        notes.old }
+    requires known { AreNotes A.Reaches A.matches automaton.now bytes.now notes.old }
     ensures walked { HasWalked (A.Reaches automaton.now No) (is_up_to last) bytes.now result }
     ensures same { (result.at ≡ lane.at) × (result.end ≡ lane.end) }
-    ensures known { AreNotes (A.Reaches automaton.now No) (A.matches automaton.now) bytes.now
-        notes.new }
+    ensures known { AreNotes A.Reaches A.matches automaton.now bytes.now notes.new }
 {
     if lane.sid.as_u32() > last.as_u32() {
         return lane;
@@ -260,12 +258,10 @@ fn turn<A: LookUp>(
     requires may { MayNote A.LookUp automaton.now start last }
     requires left { HaveLeft len lanes × (0 < len) }
     requires walked { HaveWalked (A.Reaches automaton.now No) (is_up_to last) bytes.now lanes }
-    requires known { AreNotes (A.Reaches automaton.now No) (A.matches automaton.now) bytes.now
-        notes.old }
+    requires known { AreNotes A.Reaches A.matches automaton.now bytes.now notes.old }
     ensures walked { HaveWalked (A.Reaches automaton.now No) (is_up_to last) bytes.now result }
     ensures on { (lanes.a.at < result.a.at) × (result.a.end ≡ lanes.a.end) }
-    ensures known { AreNotes (A.Reaches automaton.now No) (A.matches automaton.now) bytes.now
-        notes.new }
+    ensures known { AreNotes A.Reaches A.matches automaton.now bytes.now notes.new }
 {
     let gone = walk(automaton, lanes, bytes, len, last);
     Lanes {
@@ -280,9 +276,8 @@ fn turn<A: LookUp>(
 fn finish<A: LookUp>(automaton: &A, lane: Lane, last: StateID, bytes: &[u8], notes: &mut [Note])
     requires quiet { (sid : StateID) → last < sid → A.matches automaton.now sid ≡ [] }
     requires walked { HasWalked (A.Reaches automaton.now No) (is_up_to last) bytes.now lane }
-    requires known { AreNotes (A.Reaches automaton.now No) (A.matches automaton.now) bytes.now
-        notes.old }
-    ensures { AreNotes (A.Reaches automaton.now No) (A.matches automaton.now) bytes.now notes.new }
+    requires known { AreNotes A.Reaches A.matches automaton.now bytes.now notes.old }
+    ensures { AreNotes A.Reaches A.matches automaton.now bytes.now notes.new }
 {
     if lane.slot < lane.slots {
         put(notes, lane.slot, lane.note());
@@ -372,9 +367,8 @@ pub fn note_ahead<A: LookUp>(
     requires may { MayNote A.LookUp automaton.now start last }
     requires reached { IsReached (A.Reaches automaton.now No) sid }
     requires within { at ≤ length bytes.now }
-    requires known { AreNotes (A.Reaches automaton.now No) (A.matches automaton.now) bytes.now
-        notes.old }
-    ensures { AreNotes (A.Reaches automaton.now No) (A.matches automaton.now) bytes.now notes.new }
+    requires known { AreNotes A.Reaches A.matches automaton.now bytes.now notes.old }
+    ensures { AreNotes A.Reaches A.matches automaton.now bytes.now notes.new }
 {
     let slots = notes.len();
     let Some(mut lanes) = begin(automaton, start, last, after, sid, bytes, at, len, slots) else {

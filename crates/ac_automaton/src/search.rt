@@ -115,12 +115,10 @@ pub trait Search: Automaton {
         steps: &mut Steps,
     ) -> Searched
         requires walk { MayWalk Self.Automaton self.now start progress.now held.now }
-        requires known { AreNotes (Self.Reaches self.now No) (Self.matches self.now) held.now
-            ahead.old.notes }
+        requires known { AreNotes Self.Reaches Self.matches self.now held.now ahead.old.notes }
         ensures walk { WalksOn Self.Automaton self.now start progress.now held.now result
             steps.old steps.new }
-        ensures known { AreNotes (Self.Reaches self.now No) (Self.matches self.now) held.now
-            ahead.new.notes }
+        ensures known { AreNotes Self.Reaches Self.matches self.now held.now ahead.new.notes }
     {
         stream::search_held(self, start, progress, held, ahead, steps)
     }
@@ -136,12 +134,10 @@ pub trait Search: Automaton {
         steps: &mut Steps,
     ) -> Listed
         requires stands { MayList Self.Automaton self.now place.now held.now }
-        requires known { AreNotes (Self.Reaches self.now No) (Self.matches self.now) held.now
-            ahead.old.notes }
+        requires known { AreNotes Self.Reaches Self.matches self.now held.now ahead.old.notes }
         ensures lists { ListsNext Self.Automaton self.now place.now held.now result
             steps.old steps.new }
-        ensures known { AreNotes (Self.Reaches self.now No) (Self.matches self.now) held.now
-            ahead.new.notes }
+        ensures known { AreNotes Self.Reaches Self.matches self.now held.now ahead.new.notes }
     {
         stream::overlapping::next_listed(self, place, held, ahead, steps)
     }

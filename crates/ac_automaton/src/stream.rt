@@ -18,7 +18,8 @@
 ghost use Rattle.std.specs.Prelude.{◌≡◌, false};
 ghost use Rattle.std.specs.Borrow.{sem};
 ghost use Rattle.ac_automaton.specs.Stream.{FindsHeld, GoesOn};
-ghost use Rattle.ac_automaton.specs.Stream.StreamIter.{AnswersAnyKindIter, AnswersStreamIter, GivesItem, KeepsReader, RestsIfRefused, TurnGives, progress_of, reader_name, reader_of};
+ghost use Rattle.ac_automaton.specs.Stream.StreamIter.{AnswersStreamIter, GivesItem, KeepsReader, RestsIfRefused, TurnGives, progress_of, reader_name, reader_of};
+ghost use Rattle.ac_automaton.specs.declared.stream.StreamKinds.TheVariants.{AnyKind, OnlyStandard};
 
 pub mod overlapping;
 pub(crate) mod replace;
@@ -39,6 +40,15 @@ use std::io::Read;
 
 /// How much room a buffer for the bytes of a stream has at least: 64 KiB.
 pub const LEAST_ROOM: usize = 65536;
+
+/// The kinds that a search of a stream accepts. No public call takes it: a call for any kind has a name of its own. Clauses cite it.
+#[derive(Clone, Copy, PartialEq, Eq)]
+pub enum StreamKinds {
+    /// The standard kind alone, under which a match is decided with its last byte.
+    OnlyStandard,
+    /// Each kind. Under a leftmost one a match may wait to be decided.
+    AnyKind,
+}
 
 /// The remaining matches of a stream. From
 /// [`try_stream_find_iter`](crate::automaton::Automaton::try_stream_find_iter).
@@ -77,11 +87,10 @@ pub fn stream_find_iter<'a, A: Search, R>(
 ) -> Result<StreamFindIter<'a, A, R>, StreamError>
     requires { reader.old.ended ≡ false }
     ensures* rests { sem 𝓛 (RestsIfRefused R.row reader.entry result) }
-    ensures answer { AnswersStreamIter (A.built automaton.now) (A.supports automaton.now)
-        reader.entry result }
+    ensures answer { AnswersStreamIter OnlyStandard (A.built automaton.now)
+        (A.supports automaton.now) reader.entry result }
 {
-    let stream = StreamSearch::new(automaton, alloc)?;
-    Ok(StreamFindIter { stream, reader })
+    find_iter_of_kinds(reader, automaton, StreamKinds::OnlyStandard, alloc)
 }
 
 /// The same under any kind: as
@@ -94,10 +103,25 @@ pub fn stream_find_iter_any_kind<'a, A: Search, R>(
 ) -> Result<StreamFindIter<'a, A, R>, StreamError>
     requires { reader.old.ended ≡ false }
     ensures* rests { sem 𝓛 (RestsIfRefused R.row reader.entry result) }
-    ensures answer { AnswersAnyKindIter (A.built automaton.now) (A.supports automaton.now)
+    ensures answer { AnswersStreamIter AnyKind (A.built automaton.now) (A.supports automaton.now)
         reader.entry result }
 {
-    let stream = StreamSearch::any_kind(automaton, alloc)?;
+    find_iter_of_kinds(reader, automaton, StreamKinds::AnyKind, alloc)
+}
+
+/// The matches of a stream, one after another, under one of these kinds.
+fn find_iter_of_kinds<'a, A: Search, R>(
+    reader: &'a mut Watched<R>,
+    automaton: &'a A,
+    kinds: StreamKinds,
+    alloc: Global,
+) -> Result<StreamFindIter<'a, A, R>, StreamError>
+    requires { reader.old.ended ≡ false }
+    ensures* rests { sem 𝓛 (RestsIfRefused R.row reader.entry result) }
+    ensures answer { AnswersStreamIter kinds (A.built automaton.now) (A.supports automaton.now)
+        reader.entry result }
+{
+    let stream = StreamSearch::new(automaton, kinds, alloc)?;
     Ok(StreamFindIter { stream, reader })
 }
 

@@ -1,6 +1,6 @@
 -- An export that borrows an automaton, and makes a value of it that a handle holds. Its parameters are the pointer, the allocator
 -- and the variable with the handle, and its result is a status.
-use Rattle.ac_c.proofs.Lending.{ℕ, List, [], ◌∷◌, refl, id⊢, raw, ◌⊛◌, later, ◌$◌, ◌∵◌, !, qed, move, use1, split, await, done, of_opd, addr, stop, no_more, and_then, returns, enter, alloc_all, pass_all, free_all, look_at, get, through, sets, lands_as, fact, tables, shr_vals, heard, calls_at, triple_of, framed, Ghosts, Good, lent_to, lends, Says, over, says, named, mut_vals, mut_Tells, u32, uint_Lawful, w32}
+use Rattle.ac_c.proofs.Lending.{ℕ, List, [], ◌∷◌, refl, id⊢, raw, ◌⊛◌, later, ◌$◌, ◌∵◌, !, qed, move, use1, split, await, done, of_opd, addr, stop, no_more, and_then, returns, enter, alloc_all, pass_all, free_all, look_at, get, through, sets, lands_as, fact, tables, shr_vals, heard, calls_from, triple_of, framed, Ghosts, Good, lent_to, lends, Says, over, says, named, mut_vals, mut_Tells, u32, uint_Lawful, w32}
 use seplogic.Ra.Ura.{Ura}
 use mir.Syntax.{Callee, Fn, Lifetime, Mutability, Ty, addr_of, assign, call, copy, deref, local, mut, place, return, rv_opd, seq, ty_int, ty_ptr, ty_ref, value_local}
 use base.Logic.{emp}
@@ -11,8 +11,8 @@ use contract.Running.{MachineTables, Running}
 use denote.Exit.{yes}
 use denote.Memory.{pointee}
 use denote.Param.{layout}
-use denote.RattleType.{RattleType, Valss}
-use denote.Signature.{Slot, mut_ref_to, plain, shr_ref_to, types_at}
+use denote.RattleType.{RattleType}
+use denote.Signature.{Slot, mut_ref_to, plain, shr_ref_to}
 use denote.Struct.Laws.{vals, tells}
 use denote.Triple.Clauses.{Clauses, Ended, closing}
 use denote.Triple.Spec.{Meets}
@@ -72,11 +72,10 @@ module _ (H : RattleType) (φ : R.Denot → H.Denot → H.Denot → ℕ → Type
       pub lends_handle : (k g : Callee) (a b c d : Ty) (i j : Lifetime) (m : Mutability) → Closed 𝓤 𝓛.H 𝓣.C 𝓣.Λ k (handing H g a b c d i j m)
           → Meets 𝓛 (asked H).signature (𝓣.C g) (closing 𝓛 (asked H) answers)
           → Meets 𝓛 lender.signature (𝓣.C k) (closing 𝓛 lender (says 1 [] (handed H) (yes, (yes, tt)) u32 𝓛 answer))
-      lends_handle k g a b c d i j m closed met = lends 1 [] (handed H) (yes, (yes, tt)) u32 𝓛 𝓜 𝓡 answer G w (ty_int w32) k (handing H g a b c d i j m) closed
+      lends_handle k g a b c d i j m closed met = lends 1 [] (handed H) (yes, (yes, tt)) u32 𝓛 𝓜 𝓡 answer G w (ty_int w32) k (handing H g a b c d i j m) g closed met (λ κs qs ok x us l p. refl)
           (λ κs. (vals Heap.the_type heap.the_laws, (mut_vals, tt))) (λ κs. (tells Heap.the_type heap.the_laws, (mut_Tells (named 0) κs.0 H, tt)))
-          (λ κs qs ok x l p. (id⊢ 𝓤 _, λ v. id⊢ 𝓤 _)) (λ r v is. ((uint_Lawful 𝓛 w32).typed r _ is).0) (λ κs qs ok x l p are Post ends.
-          let us : Valss (types_at (handed H) κs) = (vals Heap.the_type heap.the_laws x.0, (mut_vals x.1.0, tt)) in let y = w κs qs tt x us l p in
-          qed 𝓛 (raw (G.pre y) ∷ []) ∵ enter ! 𝓣.C 𝓣.Λ (handing H g a b c d i j m) (G.args y) Post $ alloc_all ! (λ ls. pass_all ! refl ((tt, tt), (((heap.the_row_laws.lawful 𝓛).typed x.0 _ are.0).0, ((tt, tt), tt))) $
+          (λ κs qs ok x l p. (id⊢ 𝓤 _, λ v. id⊢ 𝓤 _)) (λ r v is. ((uint_Lawful 𝓛 w32).typed r _ is).0) (λ κs x p are P Q Post asks ends.
+          qed 𝓛 (raw P ∷ []) ∵ enter ! _ _ _ _ _ $ alloc_all ! (λ ls. pass_all ! refl ((tt, tt), (((heap.the_row_laws.lawful 𝓛).typed x.0 _ are.0).0, ((tt, tt), tt))) $
           sets ! (of_opd ! (get ! refl)) refl (tt, tt) $ sets ! (addr ! (through ! refl (stop !))) refl (tt, tt) $ sets ! (addr ! (through ! refl (stop !))) refl (tt, tt) $
-          calls_at ! (framed 𝓤 𝓛.H 𝓜 𝓣) G met y (and_then ! (get ! refl) (and_then ! (get ! refl) (and_then ! (get ! refl) (no_more !)))) (λ v.
+          calls_from ! (framed 𝓤 𝓛.H 𝓜 𝓣) (raw P) _ Q asks (and_then ! (get ! refl) (and_then ! (get ! refl) (and_then ! (get ! refl) (no_more !)))) (λ v.
           use1 𝓛 (later (raw (Post v) ⊛ raw (fact 𝓤 (Good (ty_int w32) v)))) (ends v) $ await ! tt $ split ! $ move ! (1 ∷ []) $ heard ! (Good (ty_int w32) v) (λ fits. lands_as ! refl refl fits $ returns ! (look_at ! 0 refl) $ free_all ! refl $ done !))))

@@ -5,8 +5,8 @@
 --     lends     it meets them, if its code runs as the callee does
 use seplogic.Ra.Ura.{Ura}
 use lib.Dec.{T as True}
-pub use Rattle.std.proofs.Common.{◌≡◌, ℕ, List, [], ◌∷◌, ◌++◌, refl, sym, subst}
-use Rattle.std.proofs.Common.{Bor}
+pub use Rattle.std.proofs.Common.{ℕ, List, [], ◌∷◌, refl}
+use Rattle.std.proofs.Common.{◌≡◌, ◌++◌, subst, Bor}
 use Rattle.std.proofs.raw_atomic.Walks.{leaves, proved}
 use mir.Syntax.{Callee, Fn, Ty}
 pub use mir.Syntax.{named, w32, w64}
@@ -42,23 +42,28 @@ pub use denote.Slice.{ShrSlice, shr_slice_vals, shr_slice_Tells, shr_slice_Lawfu
 use denote.Steps.{nothing, peeks}
 pub use denote.Steps.{heard}
 use denote.Struct.Lending.{lent_at}
-pub use denote.Triple.Call.{calls_at, calls_from}
+pub use denote.Triple.Call.{calls_from}
 use denote.Triple.Clauses.{AtExit, Clauses, Ended, Lasts, at_exit, closing, lasts}
 use denote.Triple.End.{Kepts}
 use denote.Triple.Entry.{Args, alive}
 use denote.Triple.Spec.{Meets}
 pub use denote.Triple.Spec.{triple_of}
-use denote.Triple.Statement.{Contract}
+use denote.Triple.Statement.{Contract, Triple}
 pub use denote.Triple.Table.{framed}
 use denote.Triple.Walked.{Goes-dropped, Stays, has_of, says as and_says, stay_dropped, walk_of}
 use Rattle.aho_corasick.specs.contracts.ahocorasick.AhoCorasick.{the_row as R}
-use Rattle.ac_c.proofs.ExitLemmas.{all_passed, passed_fit, passed_go, passed_has}
+use Rattle.ac_input.proofs.lemmas.ExitLemmas.{all_passed, passed_fit, passed_go, passed_has}
 use Rattle.ac_c.specs.Lent.{Lent, is_lent, lasting}
 
 -- ---- the callee
 -- a machine value that a variable of the type can hold
 abbrev pub Good : Ty → Val → Type 0
 Good τ v = True (has_ty τ v) × WT v
+
+-- the code e calls g with the values that it is passed, and returns what g returns, of the type τ
+abbrev pub Hands : {M : Type 1} {𝓤 : Ura M} (𝓛 : Logic 𝓤) (𝓜 : Model 𝓤 𝓛.H) → Running 𝓤 𝓛.H 𝓜 → Fn → Callee → Ty → List Val → Type 2
+Hands {𝓤 = 𝓤} 𝓛 𝓜 𝓡 e g τ vs = (P : SProp 𝓤) (Q Post : Val → SProp 𝓤) → ent 𝓤 P ((tables 𝓤 𝓛.H 𝓜 𝓡 𝓡.env).C g vs Q)
+    → ((v : Val) → ent 𝓤 (Q v) (𝓛.H.⇛ (sep 𝓤 (Post v) (fact 𝓤 (Good τ v))))) → ent 𝓤 P (WpFn 𝓤 𝓛.H (tables 𝓤 𝓛.H 𝓜 𝓡 𝓡.env).C (tables 𝓤 𝓛.H 𝓜 𝓡 𝓡.env).Λ e vs Post)
 
 -- the reference to an automaton that lies at a place
 abbrev pub lent_to : Lent → ℕ × ℕ → Bor R.Denot
@@ -124,15 +129,16 @@ module _ (n : ℕ) (os : List (Outlives n)) (ss : List (Slot n)) (ks : Kepts ss)
         Turns sp = (κs : Lfts n) (qs : Shares n) (ok : AllOutlive n os κs) (a : Args over.signature κs) (l : Lent) (p : ℕ × ℕ) → let us = valss (types_at ss κs) (sp κs) a.1 in
             ent 𝓤 (Before κs qs a.1 us l p) (G.pre (w κs qs ok a.1 us l p)) × ((v : Val) → ent 𝓤 (G.post (w κs qs ok a.1 us l p) v) (After κs qs a l v))
 
-        pub lends : (k : Callee) (e : Fn) → Closed 𝓤 𝓛.H 𝓣.C 𝓣.Λ k e
+        pub lends : (k : Callee) (e : Fn) (g : Callee) → Closed 𝓤 𝓛.H 𝓣.C 𝓣.Λ k e → Triple 𝓤 (𝓣.C g) G
+            → ((κs : Lfts n) (qs : Shares n) (ok : AllOutlive n os κs) (a : Denots (types_at ss κs)) (us : Valss (types_at ss κs)) (l : Lent) (p : ℕ × ℕ)
+            → G.args (w κs qs ok a us l p) ≡ vptr p.0 p.1 ∷ flat (types_at ss κs) us)
             → (sp : (κs : Lfts n) → Spells (types_at ss κs)) → ((κs : Lfts n) → Tellss (types_at ss κs) (Ises (types_at ss κs)) (sp κs))
             → Turns sp
             → ((r : Out.Denot) (v : Val) → Is Out r (v ∷ []) → Good τ v)
-            → ((κs : Lfts n) (qs : Shares n) (ok : AllOutlive n os κs) (a : Denots (types_at ss κs)) (l : Lent) (p : ℕ × ℕ) → let us = valss (types_at ss κs) (sp κs) a in
-            Are (types_at ss κs) (Ises (types_at ss κs)) a us → (Post : Val → SProp 𝓤) → ((v : Val) → ent 𝓤 (G.post (w κs qs ok a us l p) v) (𝓛.H.⇛ (sep 𝓤 (Post v) (fact 𝓤 (Good τ v)))))
-            → ent 𝓤 (G.pre (w κs qs ok a us l p)) (WpFn 𝓤 𝓛.H 𝓣.C 𝓣.Λ e (shr_vals (lent_to l p) ++ flat (types_at ss κs) us) Post))
+            → ((κs : Lfts n) (a : Denots (types_at ss κs)) (p : ℕ × ℕ) → let us = valss (types_at ss κs) (sp κs) a in
+            Are (types_at ss κs) (Ises (types_at ss κs)) a us → Hands 𝓛 𝓜 𝓡 e g τ (vptr p.0 p.1 ∷ flat (types_at ss κs) us))
             → Meets 𝓛 over.signature (𝓣.C k) (closing 𝓛 over (says φ))
-        lends k e closed sp tells turns good runs =
+        lends k e g closed met args sp tells turns good hands =
             proved 𝓛 over hs (says φ) 𝓜 𝓡 (Goes-dropped 𝓛 n (plain (λ _. RawPtr)) yes (λ κs x f. refl), passed_go 𝓛 ss ks) k e closed (λ κs. (rawptr_vals, sp κs)) (λ κs. (rawptr_Tells, tells κs)) (λ κs qs ok a l are.
             let us = valss (types_at ss κs) (sp κs) a.1 in
             let y : Ptr → (walk_of 𝓛 over hs (says φ)).Ghost = λ p. ((κs, qs, ok, (p, a.1), (rawptr_vals p, us)), l) in
@@ -144,5 +150,7 @@ module _ (n : ℕ) (os : List (Outlives n)) (ss : List (Slot n)) (ks : Kepts ss)
             fsplit ! $ drop ! $ hide ! $ feq_i ! (List Val) (vptr b o ∷ []) (vptr b o ∷ []) refl $ fjoin ! $
             -- [the reference; the automaton's lifetime; the tokens; what the parameters own]
             move ! (3 ∷ []) $ fsplit ! $ drop ! $ move ! (1 ∷ 0 ∷ []) $ fjoin ! $ move ! (1 ∷ 2 ∷ []) $ join ! $ join ! $ nothing ! $ move ! (1 ∷ 0 ∷ []) $
-            by ! (via 𝓤 (G.pre (w κs qs ok a.1 us l p)) (turns κs qs ok (block_ptr b o, a.1) l p).0 (runs κs qs ok a.1 l p are.1 ((walk_of 𝓛 over hs (says φ)).post z)
+            let x = w κs qs ok a.1 us l p in
+            by ! (via 𝓤 (G.pre x) (turns κs qs ok (block_ptr b o, a.1) l p).0 (hands κs a.1 p are.1 (G.pre x) (G.post x) ((walk_of 𝓛 over hs (says φ)).post z)
+            (subst (λ (vs : List Val). ent 𝓤 (G.pre x) (𝓣.C g vs (G.post x))) (args κs qs ok a.1 us l p) (met x))
             (λ v. via 𝓤 (After κs qs (block_ptr b o, a.1) l v) ((turns κs qs ok (block_ptr b o, a.1) l p).1 v) (ends good z v))))))

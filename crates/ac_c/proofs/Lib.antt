@@ -1,3 +1,2 @@
-mod ExitLemmas
 mod Handing
 mod Lending

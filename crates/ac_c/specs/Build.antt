@@ -6,14 +6,15 @@ use Rattle.ac_input.specs.declared.search.StartKind.{StartKind}
 use Rattle.ac_input.specs.declared.search.StartKind.TheVariants.{Unanchored, Anchored, Both}
 use Rattle.ac_input.specs.Pairing.{named, partner, IsDistinct, IsFirstTwice, IsFolded}
 use Rattle.ac_input.specs.Same.{other}
+use Rattle.ac_noncontiguous.specs.Builder.{default_row_memory}
 use Rattle.ac_noncontiguous.specs.declared.error.BuildErrorKind.{BuildErrorKind}
 use Rattle.ac_noncontiguous.specs.declared.error.BuildErrorKind.TheVariants.{StateIDOverflow, PatternIDOverflow, PatternTooLong, Memory}
-use Rattle.aho_corasick.specs.AhoCorasick.{patterns_of, kind_of, pairing_of, start_kind_of, MeansSame}
-use Rattle.aho_corasick.specs.Builder.{FrontSettings, front_default_row_memory}
+use Rattle.aho_corasick.specs.AhoCorasick.{IsConfigured, MeansSame}
 use Rattle.aho_corasick.specs.Served.{IsFrontBuilt, IsFrontBuildRefused}
 use Rattle.aho_corasick.specs.declared.ahocorasick.AhoCorasick.{AhoCorasick}
 use Rattle.aho_corasick.specs.declared.ahocorasick.AhoCorasickKind.{AhoCorasickKind}
 use Rattle.aho_corasick.specs.declared.ahocorasick.AhoCorasickKind.TheVariants.{NoncontiguousNFA, ContiguousNFA, DFA}
+use Rattle.aho_corasick.specs.declared.ahocorasick.builder.AhoCorasickBuilder.{AhoCorasickBuilder}
 use Rattle.ac_c.specs.declared.build.Fault.{Fault}
 use Rattle.ac_c.specs.declared.build.Pair.{Pair}
 use Rattle.ac_c.specs.declared.build.Refusal.{Refusal}
@@ -75,16 +76,16 @@ abbrev pub PairsBy : ℕ → List Pair → Result (List ℕ) Refusal → Type 0
 PairsBy fold pairs (Ok pairing) = IsPairingOf (is_set fold) pairs pairing
 PairsBy fold pairs (Err refusal) = IsPairingRefused (is_set fold) pairs refusal
 
--- the library's settings that C's settings and pairs stand for
-pub record IsBuilderBy (settings : Settings) (pairs : List Pair) (s : FrontSettings) : Type 0 where
-  pub kind : kind_by settings.kind ≡ Some s.match_kind
-  pub start_kind : start_kind_by settings.start_kind ≡ Some s.start_kind
-  pub engine : engine_by settings.engine ≡ Some s.kind
-  pub pairing : IsPairingOf (is_set settings.fold) pairs s.pairing
-  pub prefilter : s.prefilter ≡ is_set settings.prefilter
-  pub dense_depth : s.dense_depth ≡ depth_by settings.dense_depth
-  pub byte_classes : s.byte_classes ≡ is_set settings.byte_classes
-  pub row_memory : s.row_memory ≡ settings.row_memory
+-- the library's builder that C's settings and pairs stand for
+pub record IsBuilderBy (settings : Settings) (pairs : List Pair) (b : AhoCorasickBuilder) : Type 0 where
+  pub kind : kind_by settings.kind ≡ Some b.settings.match_kind
+  pub start_kind : start_kind_by settings.start_kind ≡ Some b.settings.start_kind
+  pub engine : engine_by settings.engine ≡ Some b.kind
+  pub pairing : IsPairingOf (is_set settings.fold) pairs b.settings.pairing
+  pub prefilter : b.settings.prefilter ≡ is_set settings.prefilter
+  pub dense_depth : b.settings.dense_depth ≡ depth_by settings.dense_depth
+  pub byte_classes : b.settings.byte_classes ≡ is_set settings.byte_classes
+  pub row_memory : b.settings.row_memory ≡ settings.row_memory
 
 -- the status for the first of the settings whose number names nothing
 abbrev pub bad_number : Settings → Option ℕ
@@ -95,8 +96,8 @@ bad_number s =
 abbrev pub AreRefused : Settings → List Pair → Refusal → Type 0
 AreRefused s pairs refusal = ((status : ℕ) × (bad_number s ≡ Some status) × (refusal ≡ plain status)) ⊎ ((bad_number s ≡ None) × IsPairingRefused (is_set s.fold) pairs refusal)
 
-abbrev pub AnswersBuilder : Settings → List Pair → Result FrontSettings Refusal → Type 0
-AnswersBuilder settings pairs (Ok s) = IsBuilderBy settings pairs s
+abbrev pub AnswersBuilder : Settings → List Pair → Result AhoCorasickBuilder Refusal → Type 0
+AnswersBuilder settings pairs (Ok b) = IsBuilderBy settings pairs b
 AnswersBuilder settings pairs (Err refusal) = AreRefused settings pairs refusal
 
 -- the settings of a new builder
@@ -108,23 +109,15 @@ pub record AreDefaults (s : Settings) : Type 0 where
   pub prefilter : is_set s.prefilter ≡ true
   pub byte_classes : is_set s.byte_classes ≡ true
   pub dense_depth : depth_by s.dense_depth ≡ None
-  pub row_memory : s.row_memory ≡ front_default_row_memory
+  pub row_memory : s.row_memory ≡ default_row_memory
 
 -- ---- what is built
 
--- an automaton is built of the patterns by the library's settings
-pub record IsBuiltAs (s : FrontSettings) (ps : List (List ℕ)) (ac : AhoCorasick) : Type 0 where
-  pub patterns : patterns_of ac ≡ ps
-  pub kind : kind_of ac ≡ s.match_kind
-  pub pairing : pairing_of ac ≡ s.pairing
-  pub starts : start_kind_of ac ≡ s.start_kind
-  pub served : IsFrontBuilt s ps ac
-
 -- the automaton that C's settings ask for; or why there is none: the settings are refused, or the library's build is
 abbrev pub IsBuiltFrom : List (List ℕ) → Settings → List Pair → Result AhoCorasick Refusal → Type 0
-IsBuiltFrom patterns settings pairs (Ok ac) = (s : FrontSettings) × IsBuilderBy settings pairs s × IsBuiltAs s patterns ac
+IsBuiltFrom patterns settings pairs (Ok ac) = (b : AhoCorasickBuilder) × IsBuilderBy settings pairs b × IsConfigured b.settings patterns ac × IsFrontBuilt b patterns ac
 IsBuiltFrom patterns settings pairs (Err refusal) = AreRefused settings pairs refusal
-    ⊎ ((s : FrontSettings) × IsBuilderBy settings pairs s × (error : BuildErrorKind) × IsFrontBuildRefused s patterns error × (refusal ≡ build_refusal error))
+    ⊎ ((b : AhoCorasickBuilder) × IsBuilderBy settings pairs b × (error : BuildErrorKind) × IsFrontBuildRefused b patterns error × (refusal ≡ build_refusal error))
 
 -- the handle holds the automaton; or status and fault report why there is none, and the handle is unchanged
 abbrev pub AnswersBuild : List (List ℕ) → Settings → List Pair → HeldAutomaton → HeldAutomaton → Fault → ℕ → Type 0

@@ -5,7 +5,8 @@ use Rattle.std.specs.Prelude.{◌≡◌, ◌⊎◌, ℕ, List}
 use Rattle.std.specs.declared.option.Option.{Option}
 use Rattle.std.specs.declared.option.Option.TheVariants.{None, Some}
 use Rattle.std.specs.Coded.{coded_option}
-use Rattle.ac_automaton.specs.Stream.{CanStreamAnyKind}
+use Rattle.ac_automaton.specs.Stream.{CanStream}
+use Rattle.ac_automaton.specs.declared.stream.StreamKinds.TheVariants.{AnyKind}
 use Rattle.aho_corasick.specs.AhoCorasick.{as_built, supported_by}
 use Rattle.aho_corasick.specs.declared.ahocorasick.AhoCorasick.{AhoCorasick}
 use Rattle.ac_c.specs.contracts.replacing.Replacing.{the_row}
@@ -25,7 +26,7 @@ replacer_coded = coded_option the_row.coded
 
 -- the handle holds a replacement that was passed nothing yet; or why there is none, and the handle is unchanged
 abbrev pub AnswersReplacing : AhoCorasick → HeldReplacer → HeldReplacer → ℕ → Type 0
-AnswersReplacing ac old new status = (CanStreamAnyKind (as_built ac) (supported_by ac) × (new ≡ Some (replacing_by ac)) × (status ≡ ok)) ⊎ (IsRefusedSearch ac status × (new ≡ old))
+AnswersReplacing ac old new status = (CanStream AnyKind (as_built ac) (supported_by ac) × (new ≡ Some (replacing_by ac)) × (status ≡ ok)) ⊎ (IsRefusedSearch ac status × (new ≡ old))
 
 -- the first bytes of a piece were taken, or why none were; or the handle holds no replacement
 abbrev pub AnswersPushOn : List ℕ → HeldReplacer → HeldReplacer → Count → Type 0

@@ -1,9 +1,10 @@
 -- A replacement of a text that is passed piece by piece: what it begins as, and what each call does.
 use Rattle.std.specs.Prelude.{◌≡◌, ◌≢◌, ◌⊎◌, ℕ, true, false, List, length, map, Option, None, Some, Result, Ok, Err}
 use denote.Ref.{Bor}
-use Rattle.ac_automaton.specs.Stream.{CanStreamAnyKind, closed_by}
+use Rattle.ac_automaton.specs.Stream.{CanStream, closed_by}
 use Rattle.ac_automaton.specs.Stream.StreamReplacer.{GivesText, PushesText, ReplacerProgress, fresh_replacer}
 use Rattle.ac_automaton.specs.declared.error.StreamError.{StreamError}
+use Rattle.ac_automaton.specs.declared.stream.StreamKinds.TheVariants.{AnyKind}
 use Rattle.aho_corasick.specs.AhoCorasick.{as_built, supported_by}
 use Rattle.aho_corasick.specs.declared.ahocorasick.AhoCorasick.{AhoCorasick}
 use Rattle.ac_c.specs.declared.replace.Length.{Length}
@@ -20,7 +21,7 @@ replacing_by ac = record { replacer = fresh_replacer (as_built ac) }
 
 -- the library's replacement, or why there is none
 abbrev pub IsReplacementOfPieces : AhoCorasick → Result ReplacerProgress ℕ → Type 0
-IsReplacementOfPieces ac (Ok r) = CanStreamAnyKind (as_built ac) (supported_by ac) × (r ≡ fresh_replacer (as_built ac))
+IsReplacementOfPieces ac (Ok r) = CanStream AnyKind (as_built ac) (supported_by ac) × (r ≡ fresh_replacer (as_built ac))
 IsReplacementOfPieces ac (Err status) = IsRefusedSearch ac status
 
 -- ---- what a push takes

@@ -2,10 +2,11 @@
 use Rattle.std.specs.Prelude.{◌≡◌, ◌≢◌, ◌⊎◌, ℕ, ◌<◌, ◌≤◌, ◌||◌, Bool, true, false, List, [], ◌++◌, length, map, take, Result, Ok, Err, drop}
 use Rattle.std.specs.List.{All}
 use Rattle.ac_input.specs.Occurrence.{Occurrence}
-use Rattle.ac_automaton.specs.Stream.{AreAllGiven, CanBeCounted, CanStreamAnyKind, IsAnyKindConfigRefusal, IsHeldMatch, IsSearched, ReadsNothing, StreamProgress, closed_by, cut_of, fresh_progress, read_by}
+use Rattle.ac_automaton.specs.Stream.{AreAllGiven, CanBeCounted, CanStream, IsConfigRefusal, IsHeldMatch, IsSearched, ReadsNothing, StreamProgress, closed_by, cut_of, fresh_progress, read_by}
 use Rattle.ac_automaton.specs.Stream.StreamPush.{Pushes}
 use Rattle.ac_automaton.specs.declared.error.MatchErrorKind.{MatchErrorKind}
 use Rattle.ac_automaton.specs.declared.error.StreamError.{StreamError}
+use Rattle.ac_automaton.specs.declared.stream.StreamKinds.TheVariants.{AnyKind}
 use Rattle.aho_corasick.specs.AhoCorasick.{as_built, supported_by}
 use Rattle.aho_corasick.specs.declared.ahocorasick.AhoCorasick.{AhoCorasick}
 use Rattle.ac_c.specs.declared.found.Found.{Found}
@@ -24,12 +25,12 @@ begun_by ac = record { search = fresh_progress (as_built ac); finished = false }
 
 -- Why there is no search: the automaton has no start for it, or else a pattern is empty; or memory ran out.
 abbrev pub IsRefusedSearch : AhoCorasick → ℕ → Type 0
-IsRefusedSearch ac status = ((error : MatchErrorKind) × IsAnyKindConfigRefusal (as_built ac) (supported_by ac) error × (status ≡ refusal_status error))
-    ⊎ (CanStreamAnyKind (as_built ac) (supported_by ac) × (status ≡ no_memory))
+IsRefusedSearch ac status = ((error : MatchErrorKind) × IsConfigRefusal AnyKind (as_built ac) (supported_by ac) error × (status ≡ refusal_status error))
+    ⊎ (CanStream AnyKind (as_built ac) (supported_by ac) × (status ≡ no_memory))
 
 -- the library's search, or why there is none
 abbrev pub IsSearchOfPieces : AhoCorasick → Result StreamProgress ℕ → Type 0
-IsSearchOfPieces ac (Ok s) = CanStreamAnyKind (as_built ac) (supported_by ac) × (s ≡ fresh_progress (as_built ac))
+IsSearchOfPieces ac (Ok s) = CanStream AnyKind (as_built ac) (supported_by ac) × (s ≡ fresh_progress (as_built ac))
 IsSearchOfPieces ac (Err status) = IsRefusedSearch ac status
 
 -- ---- what a push takes

@@ -4,7 +4,8 @@ use Rattle.std.specs.Prelude.{◌≡◌, ◌⊎◌, ℕ, List}
 use Rattle.std.specs.declared.option.Option.{Option}
 use Rattle.std.specs.declared.option.Option.TheVariants.{None, Some}
 use Rattle.std.specs.Coded.{coded_option}
-use Rattle.ac_automaton.specs.Stream.{CanStreamAnyKind}
+use Rattle.ac_automaton.specs.Stream.{CanStream}
+use Rattle.ac_automaton.specs.declared.stream.StreamKinds.TheVariants.{AnyKind}
 use Rattle.aho_corasick.specs.AhoCorasick.{as_built, supported_by}
 use Rattle.aho_corasick.specs.declared.ahocorasick.AhoCorasick.{AhoCorasick}
 use Rattle.ac_c.specs.contracts.searching.Searching.{the_row}
@@ -24,7 +25,7 @@ stream_coded = coded_option the_row.coded
 
 -- the handle holds a search that was passed nothing yet; or why there is none, and the handle is unchanged
 abbrev pub AnswersStream : AhoCorasick → HeldStream → HeldStream → ℕ → Type 0
-AnswersStream ac old new status = (CanStreamAnyKind (as_built ac) (supported_by ac) × (new ≡ Some (begun_by ac)) × (status ≡ ok)) ⊎ (IsRefusedSearch ac status × (new ≡ old))
+AnswersStream ac old new status = (CanStream AnyKind (as_built ac) (supported_by ac) × (new ≡ Some (begun_by ac)) × (status ≡ ok)) ⊎ (IsRefusedSearch ac status × (new ≡ old))
 
 -- what a call returns where the handle holds no search
 abbrev pub counts_none : Count

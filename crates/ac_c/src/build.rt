@@ -8,7 +8,7 @@ use crate::status::{
     BAD_ENGINE, BAD_KIND, BAD_PAIRS, BAD_START_KIND, NO_MEMORY, OK, PATTERN_TOO_LONG,
     TOO_MANY_PATTERNS, TOO_MANY_STATES,
 };
-use ac_tables::contiguous::builder::ROW_MEMORY;
+use ac_noncontiguous::settings::ROW_MEMORY;
 use aho_corasick::{
     AhoCorasick, AhoCorasickBuilder, AhoCorasickKind, BuildError, BuildErrorKind, MatchKind,
     Pairing, PairingError, StartKind,

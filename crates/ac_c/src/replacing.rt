@@ -3,7 +3,8 @@
 //! The library's replacement hands out the replaced text, as far as it is decided, in slices: of the bytes that it holds, and of the
 //! replacements. A call gives C the place and the length of one slice, so no byte is copied again.
 ghost use Rattle.std.specs.Prelude.{◌≡◌, IfErr, IfOk, OnOk};
-ghost use Rattle.ac_automaton.specs.Stream.{CanStreamAnyKind};
+ghost use Rattle.ac_automaton.specs.Stream.{CanStream};
+ghost use Rattle.ac_automaton.specs.declared.stream.StreamKinds.TheVariants.{AnyKind};
 ghost use Rattle.aho_corasick.specs.AhoCorasick.{as_built, supported_by};
 ghost use Rattle.ac_c.specs.Replacing.{IsGivenText, IsPushedOn, IsReplacementOfPieces, ended_by, replacing_by};
 ghost use Rattle.ac_c.specs.Searching.{IsRefusedSearch};
@@ -38,7 +39,7 @@ impl Replacing {
     /// A replacement that was passed nothing yet, in a box.
     pub fn begin(ac: &AhoCorasick, alloc: Global) -> Result<Box<Replacing, Global>, u32>
         ensures begun { IfOk result (λ r. replacing_by ac.now ≡ r.value) }
-        ensures can { OnOk result (CanStreamAnyKind (as_built ac.now) (supported_by ac.now)) }
+        ensures can { OnOk result (CanStream AnyKind (as_built ac.now) (supported_by ac.now)) }
         ensures refused { IfErr result (IsRefusedSearch ac.now) }
     {
         let replacer = replacer_by(ac, alloc)?;

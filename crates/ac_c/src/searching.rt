@@ -3,7 +3,8 @@
 //! The library's search takes a piece only once all matches of what came before were returned. It holds a match back until no byte
 //! that follows can change it, and the bytes that are still undecided. A caller passes on what lies before the cut.
 ghost use Rattle.std.specs.Prelude.{◌≡◌, IfErr, IfOk, Ok, OnOk, drop};
-ghost use Rattle.ac_automaton.specs.Stream.{CanStreamAnyKind, IsAnyKindConfigRefusal, IsOnCourse, read_by};
+ghost use Rattle.ac_automaton.specs.Stream.{CanStream, IsConfigRefusal, IsOnCourse, read_by};
+ghost use Rattle.ac_automaton.specs.declared.stream.StreamKinds.TheVariants.{AnyKind};
 ghost use Rattle.aho_corasick.specs.AhoCorasick.{MeansSame, as_built, supported_by};
 ghost use Rattle.ac_c.specs.Searching.{AreNext, IsGiven, IsPushed, IsRefusedSearch, IsSearchOfPieces, begun_by, finished_by, is_finished, view_of};
 
@@ -42,8 +43,8 @@ pub struct View {
 
 /// Returns an error if the automaton can't search pieces.
 fn configured(ac: &AhoCorasick) -> Result<(), MatchError>
-    ensures can { OnOk result (CanStreamAnyKind (as_built ac.now) (supported_by ac.now)) }
-    ensures error { IfErr result (IsAnyKindConfigRefusal (as_built ac.now) (supported_by ac.now)) }
+    ensures can { OnOk result (CanStream AnyKind (as_built ac.now) (supported_by ac.now)) }
+    ensures error { IfErr result (IsConfigRefusal AnyKind (as_built ac.now) (supported_by ac.now)) }
 {
     Automaton::start_state(ac, Anchored::No)?;
     if ac.min_pattern_len() == 0 {
@@ -55,7 +56,7 @@ fn configured(ac: &AhoCorasick) -> Result<(), MatchError>
 /// Another owner of an automaton that can search pieces.
 pub(crate) fn shared(ac: &AhoCorasick, alloc: Global) -> Result<AhoCorasick, u32>
     ensures same { IfOk result (MeansSame ac.now) }
-    ensures can { OnOk result (CanStreamAnyKind (as_built ac.now) (supported_by ac.now)) }
+    ensures can { OnOk result (CanStream AnyKind (as_built ac.now) (supported_by ac.now)) }
     ensures refused { IfErr result (IsRefusedSearch ac.now) }
 {
     if let Err(error) = configured(ac) {
@@ -96,7 +97,7 @@ impl Searching {
     /// A search that was passed nothing yet, in a box.
     pub fn begin(ac: &AhoCorasick, alloc: Global) -> Result<Box<Searching, Global>, u32>
         ensures begun { IfOk result (λ s. begun_by ac.now ≡ s.value) }
-        ensures can { OnOk result (CanStreamAnyKind (as_built ac.now) (supported_by ac.now)) }
+        ensures can { OnOk result (CanStream AnyKind (as_built ac.now) (supported_by ac.now)) }
         ensures refused { IfErr result (IsRefusedSearch ac.now) }
     {
         let search = search_by(ac, alloc)?;

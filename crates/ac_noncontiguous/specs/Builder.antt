@@ -1,43 +1,47 @@
 -- The settings of a builder of automata, and what is built.
 use Rattle.std.specs.Prelude.{◌≡◌, ◌≢◌, ℕ, Bool, true, false, List, Option, None, Some}
 use Rattle.std.specs.Borrow.{Bor}
+use Rattle.std.specs.Option.{unwrap_or}
 use Rattle.ac_input.specs.Candidate.{Filter}
 use Rattle.ac_input.specs.Alphabet.Classes.{AreByteClasses}
 use Rattle.ac_input.specs.Dictionary.{Dictionary, dictionary_of}
 use Rattle.ac_input.specs.Limits.{IsWithinLimits}
 use Rattle.ac_input.specs.Pairing.{IsPairing}
 use Rattle.ac_input.specs.Same.{IsUnpaired}
-use Rattle.ac_input.specs.declared.search.MatchKind.{MatchKind}
 use Rattle.ac_input.specs.declared.search.MatchKind.TheVariants.{Standard}
+use Rattle.ac_input.specs.declared.search.StartKind.TheVariants.{Unanchored}
 use Rattle.ac_automaton.specs.Automaton.{Built}
 use Rattle.ac_literal.specs.Packed.{bytes_of}
 use Rattle.ac_literal.specs.Prefilter.{IsDemanded, IsAdmissible, IsWayOf}
 use Rattle.ac_noncontiguous.specs.Nfa.{AreTables}
-use Rattle.ac_noncontiguous.specs.Standing.{IsBuildRefused}
-use Rattle.ac_noncontiguous.specs.declared.error.BuildErrorKind.{BuildErrorKind}
 use Rattle.ac_noncontiguous.specs.declared.nfa.tables.Tables.{Tables}
+use Rattle.ac_noncontiguous.specs.declared.settings.Settings.{Settings}
 
--- the match kind, which bytes are paired, below which depth states have a row, and whether a prefilter is wanted
-pub record Settings : Type 0 where
-  pub kind : MatchKind
-  pub pairing : List ℕ
-  pub dense_depth : ℕ
-  pub prefilter : Bool
+-- below which depth a noncontiguous automaton's states have a row: by default the starts and the states of one or two bytes do
+abbrev pub noncontiguous_dense_depth : Settings → ℕ
+noncontiguous_dense_depth s = unwrap_or s.dense_depth 3
 
--- the default dense depth: the starts and the states of one or two bytes have a row
-abbrev pub default_dense_depth : ℕ
-default_dense_depth = 3
+-- how many bytes the rows of a contiguous automaton may take by default: 16 MiB
+abbrev pub default_row_memory : ℕ
+default_row_memory = 16777216
 
 -- the default settings
-pub record AreNfaDefaults (s : Settings) : Type 0 where
-  pub kind : s.kind ≡ Standard
+pub record AreDefaultSettings (s : Settings) : Type 0 where
+  pub match_kind : s.match_kind ≡ Standard
+  pub start_kind : s.start_kind ≡ Unanchored
   pub pairing : IsUnpaired s.pairing
-  pub dense_depth : s.dense_depth ≡ default_dense_depth
   pub prefilter : s.prefilter ≡ true
+  pub dense_depth : s.dense_depth ≡ None
+  pub byte_classes : s.byte_classes ≡ true
+  pub row_memory : s.row_memory ≡ default_row_memory
+
+-- this holds of the default settings
+abbrev pub ByDefault : (Settings → Type 0) → Type 0
+ByDefault holds = (s : Settings) × AreDefaultSettings s × holds s
 
 -- the dictionary of these patterns under the settings
 abbrev pub dictionary_by : Settings → List (Bor (List ℕ)) → Dictionary
-dictionary_by s patterns = dictionary_of (bytes_of patterns) s.pairing s.kind
+dictionary_by s patterns = dictionary_of (bytes_of patterns) s.pairing s.match_kind
 
 -- The stored prefilter: none if none is wanted, otherwise one wherever the dictionary demands it, and only an admissible one.
 pub record IsHeld (wanted : Bool) (m : Dictionary) (held : Option Filter) : Type 0 where
@@ -45,24 +49,16 @@ pub record IsHeld (wanted : Bool) (m : Dictionary) (held : Option Filter) : Type
   pub demanded : wanted ≡ true → IsDemanded m → held ≢ None
   pub made : (f : Filter) → held ≡ Some f → IsAdmissible m × IsWayOf f.dictionary f.needles × (f.dictionary ≡ m)
 
--- An automaton was built by the settings for a dictionary, which is within the limits of a build.
-pub record IsBuiltBy (s : Settings) (m : Dictionary) (built : Built) : Type 0 where
+-- An automaton was built for a dictionary, which is within the limits of a build, with a prefilter if one is wanted.
+pub record IsBuiltBy (wanted : Bool) (m : Dictionary) (built : Built) : Type 0 where
   pub dictionary : built.dictionary ≡ m
   pub looks : built.deterministic ≡ false
-  pub prefilter : IsHeld s.prefilter m built.prefilter
+  pub prefilter : IsHeld wanted m built.prefilter
   pub within : IsWithinLimits m
 
 -- an automaton was built from these patterns under the settings
 abbrev pub IsBuiltOf : Settings → List (Bor (List ℕ)) → Built → Type 0
-IsBuiltOf s patterns built = IsBuiltBy s (dictionary_by s patterns) built
-
--- an automaton was built from these patterns under the default settings
-abbrev pub IsBuiltByDefault : List (Bor (List ℕ)) → Built → Type 0
-IsBuiltByDefault patterns built = (s : Settings) × AreNfaDefaults s × IsBuiltOf s patterns built
-
--- why a build from these patterns fails under the default settings
-abbrev pub IsRefusedByDefault : List (Bor (List ℕ)) → BuildErrorKind → Type 0
-IsRefusedByDefault patterns error = (s : Settings) × AreNfaDefaults s × IsBuildRefused (dictionary_by s patterns) error
+IsBuiltOf s patterns built = IsBuiltBy s.prefilter (dictionary_by s patterns) built
 
 -- The tables and their byte classes are those of the dictionary, whose pairing is a valid one.
 abbrev pub AreCompiled : Dictionary → Tables → Type 0

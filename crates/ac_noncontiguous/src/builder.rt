@@ -10,11 +10,11 @@
 //! four bytes for each class of bytes. Under the standard kind a state in which a pattern ends repeats the list of its failure:
 //! the n patterns `a`, `aa`, `aaa` and so on have n (n + 1) / 2 entries, of four bytes each. Under a leftmost kind such a state
 //! has no failure, and each pattern is stored once.
-ghost use Rattle.std.specs.Prelude.{◌≡◌, IfOk, IfErr, OnOk};
+ghost use Rattle.std.specs.Prelude.{◌≡◌, Some, IfOk, IfErr, OnOk};
 ghost use Rattle.ac_input.specs.Dictionary.{Dictionary};
 ghost use Rattle.ac_input.specs.Pairing.{IsFolded};
 ghost use Rattle.ac_input.specs.Limits.{IsWithinLimits};
-ghost use Rattle.ac_noncontiguous.specs.Builder.{AreNfaDefaults, AreCompiled, IsBuiltOf, IsBuiltByDefault, IsRefusedByDefault, IsHeld, dictionary_by};
+ghost use Rattle.ac_noncontiguous.specs.Builder.{AreDefaultSettings, AreCompiled, ByDefault, IsBuiltOf, IsHeld, dictionary_by, noncontiguous_dense_depth};
 ghost use Rattle.ac_noncontiguous.specs.Trie.Kept.{IsTrieOf};
 ghost use Rattle.ac_noncontiguous.specs.Nfa.Reads.{built_as};
 ghost use Rattle.ac_noncontiguous.specs.Standing.{IsBuildRefused};
@@ -24,6 +24,7 @@ use crate::links::Links;
 use crate::nfa::NFA;
 use crate::nfa::pattern_lens::PatternLens;
 use crate::nfa::tables::Tables;
+use crate::settings::{Settings, case_pairing};
 use crate::trie::Trie;
 use ac_input::pairing::Pairing;
 use ac_input::search::MatchKind;
@@ -44,61 +45,54 @@ const DENSE_DEPTH: usize = 3;
 /// ```
 #[derive(Clone, Drop)]
 pub struct Builder {
-    kind: MatchKind,
-    pairing: Pairing,
-    dense_depth: usize,
-    prefilter: bool,
+    settings: Settings,
 }
 
 impl Model for Builder {
-    ghost use Rattle.ac_noncontiguous.specs.Builder.{Settings};
+    ghost use Rattle.ac_noncontiguous.specs.declared.settings.Settings.{Settings};
 
     ghost Value = { Settings };
 
-    ghost view = { λ b. record {
-      kind = b.kind;
-      pairing = b.pairing;
-      dense_depth = b.dense_depth;
-      prefilter = b.prefilter;
-    } };
+    ghost view = { λ b. b.settings };
 
-    ghost inverse = { λ s. record {
-      kind = s.kind;
-      pairing = s.pairing;
-      dense_depth = s.dense_depth;
-      prefilter = s.prefilter;
-    } };
+    ghost inverse = { λ s. record { settings = s } };
 }
 
 impl Default for Builder {
-    ghost use Rattle.ac_noncontiguous.specs.Builder.{AreNfaDefaults};
+    ghost use Rattle.ac_noncontiguous.specs.Builder.{AreDefaultSettings};
 
-    ghost is_default = { AreNfaDefaults };
+    ghost is_default = { AreDefaultSettings };
 
     fn default() -> Builder {
         Builder::new()
     }
 }
 
+impl From<Settings> for Builder {
+    ghost from_gives = { λ settings made. made ≡ settings };
+
+    /// A builder with these settings, of which the start kind, the classes and the memory for rows change nothing here.
+    fn from(settings: Settings) -> Builder {
+        Builder { settings }
+    }
+}
+
 impl Builder {
     /// Standard matches, no byte paired, a prefilter wanted, and rows for states of up to two bytes. It takes no memory.
     pub fn new() -> Builder
-        ensures { AreNfaDefaults result }
+        ensures { AreDefaultSettings result }
     {
         Builder {
-            kind: MatchKind::Standard,
-            pairing: Pairing::none(),
-            dense_depth: DENSE_DEPTH,
-            prefilter: true,
+            settings: Settings::new(),
         }
     }
 
     /// Sets which of several overlapping occurrences is the match.
     pub fn match_kind(&mut self, kind: MatchKind) -> &mut Builder
         ensures same { result.ghost_name ≡ self.entry.ghost_name }
-        ensures value { result.now ≡ record self.old { kind = kind } }
+        ensures value { result.now ≡ record self.old { match_kind = kind } }
     {
-        self.kind = kind;
+        self.settings.match_kind = kind;
         self
     }
 
@@ -109,12 +103,7 @@ impl Builder {
         ensures rest { result.now ≡ record self.old { pairing = result.now.pairing } }
         ensures pairing { IsFolded yes result.now.pairing }
     {
-        let pairing = if yes {
-            Pairing::ascii()
-        } else {
-            Pairing::none()
-        };
-        self.pairing(pairing)
+        self.pairing(case_pairing(yes))
     }
 
     /// Sets which bytes stand for one another. At first none does.
@@ -122,7 +111,7 @@ impl Builder {
         ensures same { result.ghost_name ≡ self.entry.ghost_name }
         ensures value { result.now ≡ record self.old { pairing = pairing } }
     {
-        self.pairing = pairing;
+        self.settings.pairing = pairing;
         self
     }
 
@@ -134,9 +123,9 @@ impl Builder {
     /// made.
     pub fn dense_depth(&mut self, depth: usize) -> &mut Builder
         ensures same { result.ghost_name ≡ self.entry.ghost_name }
-        ensures value { result.now ≡ record self.old { dense_depth = depth } }
+        ensures value { result.now ≡ record self.old { dense_depth = Some depth } }
     {
-        self.dense_depth = depth;
+        self.settings.dense_depth = Some(depth);
         self
     }
 
@@ -149,7 +138,7 @@ impl Builder {
         ensures same { result.ghost_name ≡ self.entry.ghost_name }
         ensures value { result.now ≡ record self.old { prefilter = yes } }
     {
-        self.prefilter = yes;
+        self.settings.prefilter = yes;
         self
     }
 
@@ -157,8 +146,8 @@ impl Builder {
     fn collect(&self, alloc: Global, patterns: &[&[u8]]) -> Result<PrefilterBuilder, AllocError>
         ensures { IfOk result (λ builder. builder ≡ dictionary_by self.now patterns.now) }
     {
-        let mut builder = PrefilterBuilder::new(alloc, self.kind);
-        builder.pairing(self.pairing);
+        let mut builder = PrefilterBuilder::new(alloc, self.settings.match_kind);
+        builder.pairing(self.settings.pairing);
         for pattern in patterns {
             builder.try_add(*pattern)?;
         }
@@ -174,7 +163,7 @@ impl Builder {
         ensures { IfOk result
             (IsHeld self.now.prefilter (dictionary_by self.now patterns.now)) }
     {
-        if !self.prefilter {
+        if !self.settings.prefilter {
             return Ok(None);
         }
         self.collect(alloc, patterns)?.build()
@@ -205,8 +194,16 @@ impl Builder {
         let tables = self.build_tables(alloc, patterns)?;
         let lens = PatternLens::of(alloc, patterns)?;
         let prefilter = self.build_prefilter(alloc, patterns)?;
-        let openings = Openings::new(patterns, &self.pairing);
-        Ok(NFA::from_parts(tables, lens, prefilter, openings, self.pairing, self.kind))
+        let settings = &self.settings;
+        let openings = Openings::new(patterns, &settings.pairing);
+        Ok(NFA::from_parts(
+            tables,
+            lens,
+            prefilter,
+            openings,
+            settings.pairing,
+            settings.match_kind,
+        ))
     }
 
     /// The tables of the patterns, which pass no limit.
@@ -215,8 +212,16 @@ impl Builder {
         ensures within { OnOk result (IsWithinLimits (dictionary_by self.now patterns.now)) }
         ensures refused { IfErr result (IsBuildRefused (dictionary_by self.now patterns.now)) }
     {
-        let trie = Trie::from_patterns(alloc, patterns, self.pairing, self.kind)?;
-        Ok(tables_of(alloc, &trie, self.dense_depth)?)
+        let settings = &self.settings;
+        let trie = Trie::from_patterns(alloc, patterns, settings.pairing, settings.match_kind)?;
+        Ok(tables_of(alloc, &trie, self.row_depth())?)
+    }
+
+    /// Below which depth states have a row.
+    fn row_depth(&self) -> usize
+        ensures { result ≡ noncontiguous_dense_depth self.now }
+    {
+        self.settings.dense_depth.unwrap_or(DENSE_DEPTH)
     }
 }
 
@@ -225,15 +230,16 @@ impl NFA {
     ///
     /// Its errors and its cost are those of [`Builder::build`].
     pub fn new(alloc: Global, patterns: &[&[u8]]) -> Result<NFA, BuildError>
-        ensures built { IfOk result (λ nfa. IsBuiltByDefault patterns.now (built_as nfa)) }
-        ensures refused { IfErr result (IsRefusedByDefault patterns.now) }
+        ensures built { IfOk result (λ nfa. ByDefault (λ s. IsBuiltOf s patterns.now (built_as nfa))) }
+        ensures refused { IfErr result
+            (λ error. ByDefault (λ s. IsBuildRefused (dictionary_by s patterns.now) error)) }
     {
         Builder::new().build(alloc, patterns)
     }
 
     /// A builder with the default settings. It takes no memory.
     pub fn builder() -> Builder
-        ensures { AreNfaDefaults result }
+        ensures { AreDefaultSettings result }
     {
         Builder::new()
     }

@@ -6,6 +6,7 @@ mod compiler;
 pub mod error;
 mod links;
 pub mod nfa;
+pub mod settings;
 mod trie;
 
 pub use ac_automaton::automaton::{Advance, Automaton};

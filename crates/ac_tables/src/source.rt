@@ -1,11 +1,32 @@
 //! What both tables take from the noncontiguous automaton that they are made from.
-ghost use Rattle.std.specs.Prelude.{IfOk};
-ghost use Rattle.ac_noncontiguous.specs.Nfa.Reads.{dictionary};
+ghost use Rattle.std.specs.Prelude.{IfErr, IfOk};
+ghost use Rattle.ac_noncontiguous.specs.Builder.{IsBuiltOf, dictionary_by};
+ghost use Rattle.ac_noncontiguous.specs.Nfa.Reads.{built_as, dictionary};
+ghost use Rattle.ac_noncontiguous.specs.Standing.{IsBuildRefused};
 ghost use Rattle.ac_tables.specs.TableClasses.{AreClassesFor, AreServing};
 
 use ac_input::alphabet::{ByteClasses, ByteSet};
+use ac_noncontiguous::builder::Builder;
+use ac_noncontiguous::error::BuildError;
 use ac_noncontiguous::nfa::NFA;
-use std::alloc::AllocError;
+use ac_noncontiguous::settings::Settings;
+use std::alloc::{AllocError, Global};
+
+/// The automaton that a table is made from. It has no rows, since the table needs none.
+pub(crate) fn source_of(
+    alloc: Global,
+    settings: Settings,
+    patterns: &[&[u8]],
+) -> Result<NFA, BuildError>
+    ensures built { IfOk result (λ nfa. IsBuiltOf settings patterns.now (built_as nfa)) }
+    ensures refused { IfErr result (IsBuildRefused (dictionary_by settings patterns.now)) }
+{
+    let without_rows = Settings {
+        dense_depth: Some(0),
+        ..settings
+    };
+    Builder::from(without_rows).build(alloc, patterns)
+}
 
 /// The classes that a table is laid out over: those of the automaton, or each byte alone.
 pub(crate) fn classes_of(nfa: &NFA, byte_classes: bool) -> Result<ByteClasses, AllocError>

@@ -19,7 +19,7 @@ use Rattle.acsub.specs.declared.prepared.Finder.TheVariants as finders
 use Rattle.acsub.specs.declared.settings.Engine.TheVariants as engines
 use Rattle.acsub.specs.declared.settings.Settings.{Settings}
 use Rattle.acsub.specs.Plan.{Plan}
-use Rattle.acsub.specs.Served.{IsNotBuilt, builder_settings}
+use Rattle.acsub.specs.Served.{IsNotBuilt, builder_by}
 use Rattle.acsub.specs.Rules.Sides.{rule_patterns}
 
 -- the search of a whole input
@@ -41,7 +41,7 @@ IsPackedFor kind patterns searcher = (search_kind searcher.kind ≡ kind) × (se
 -- An automaton serves settings and rules: it is built of the rules' patterns by the settings, and has a start for searches that may
 -- match anywhere.
 pub record IsServing (settings : Settings) (rules : List Rule) (ac : AhoCorasick) : Type 0 where
-  pub built : IsFrontBuilt (builder_settings settings) (rule_patterns rules) ac
+  pub built : IsFrontBuilt (builder_by settings) (rule_patterns rules) ac
   pub start : supported_by ac No
 
 -- What finds the matches of settings and rules: an automaton that serves them; or a packed search for the patterns and the kind,

@@ -6,12 +6,13 @@ use Rattle.ac_input.specs.Rules.{Rule}
 use Rattle.ac_input.specs.Work.{lookups_per_byte}
 use Rattle.ac_input.specs.declared.search.StartKind.TheVariants as starts
 use Rattle.ac_input.specs.declared.steps.Steps.{Steps}
+use Rattle.ac_noncontiguous.specs.Builder.{default_row_memory}
 use Rattle.ac_noncontiguous.specs.declared.error.BuildErrorKind.{BuildErrorKind}
 use Rattle.ac_noncontiguous.specs.declared.error.BuildErrorKind.TheVariants as limits
-use Rattle.aho_corasick.specs.Builder.{FrontSettings, front_default_row_memory}
 use Rattle.aho_corasick.specs.Served.{IsDictionaryRefused, IsServed, TakesDfa}
 use Rattle.aho_corasick.specs.declared.ahocorasick.AhoCorasickKind.{AhoCorasickKind}
 use Rattle.aho_corasick.specs.declared.ahocorasick.AhoCorasickKind.TheVariants as kinds
+use Rattle.aho_corasick.specs.declared.ahocorasick.builder.AhoCorasickBuilder.{AhoCorasickBuilder}
 use Rattle.acsub.specs.Plan.{Plan}
 use Rattle.acsub.specs.Rules.Sides.{rule_patterns}
 use Rattle.acsub.specs.declared.settings.Engine.{Engine}
@@ -26,17 +27,19 @@ automaton_named engines.Contiguous = Some kinds.ContiguousNFA
 automaton_named engines.Dfa = Some kinds.DFA
 automaton_named engines.Packed = None
 
--- the settings of the builder of the automaton, whose searches are unanchored
-abbrev pub builder_settings : Settings → FrontSettings
-builder_settings s = record {
-  match_kind = s.kind;
-  start_kind = starts.Unanchored;
-  pairing = s.pairing;
+-- the builder of the automaton, whose searches are unanchored
+abbrev pub builder_by : Settings → AhoCorasickBuilder
+builder_by s = record {
+  settings = record {
+    match_kind = s.kind;
+    start_kind = starts.Unanchored;
+    pairing = s.pairing;
+    prefilter = s.prefilter;
+    dense_depth = s.dense_depth;
+    byte_classes = s.byte_classes;
+    row_memory = default_row_memory;
+  };
   kind = automaton_named s.engine;
-  prefilter = s.prefilter;
-  dense_depth = s.dense_depth;
-  byte_classes = s.byte_classes;
-  row_memory = front_default_row_memory;
 }
 
 -- what an automaton is built from
@@ -45,14 +48,14 @@ dictionary_for settings rules = record { patterns = rule_patterns rules; pairing
 
 -- the automaton for settings and rules is of this kind
 abbrev pub IsAutomatonFor : Settings → List Rule → AhoCorasickKind → Type 0
-IsAutomatonFor settings rules kind = IsServed (automaton_named settings.engine) (builder_settings settings) (dictionary_for settings rules) kind
+IsAutomatonFor settings rules kind = IsServed (automaton_named settings.engine) (builder_by settings).settings (dictionary_for settings rules) kind
 
 -- ---- the limits
 
 -- The settings ask for an automaton, and the rules' patterns exceed this limit: one of every build, or one of the automaton that is
 -- named. Out of memory is no limit.
 abbrev pub IsNotBuilt : Settings → List Rule → BuildErrorKind → Type 0
-IsNotBuilt settings rules error = (settings.engine ≢ engines.Packed) × (error ≢ limits.Memory) × IsDictionaryRefused (builder_settings settings) (dictionary_for settings rules) error
+IsNotBuilt settings rules error = (settings.engine ≢ engines.Packed) × (error ≢ limits.Memory) × IsDictionaryRefused (builder_by settings) (dictionary_for settings rules) error
 
 -- if the settings ask for an automaton, the rules' patterns are within all limits, and some automaton serves them
 abbrev pub IsBuildable : Settings → List Rule → Type 0
@@ -62,7 +65,7 @@ IsBuildable settings rules = settings.engine ≢ engines.Packed → IsWithinLimi
 
 -- a DFA serves: the engine's word names it, or leaves the choice to the front, which takes one
 abbrev pub IsServedByDfa : Settings → List Rule → Type 0
-IsServedByDfa settings rules = (settings.engine ≡ engines.Dfa) ⊎ ((settings.engine ≡ engines.Auto) × TakesDfa (builder_settings settings) (dictionary_for settings rules))
+IsServedByDfa settings rules = (settings.engine ≡ engines.Dfa) ⊎ ((settings.engine ≡ engines.Auto) × TakesDfa (builder_by settings).settings (dictionary_for settings rules))
 
 -- n bytes take at most two look-ups each, and at most one each where a DFA serves.
 pub record AreLooksFor (plan : Plan) (n : ℕ) (before after : Steps) : Type 0 where

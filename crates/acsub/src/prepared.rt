@@ -10,7 +10,7 @@ ghost use Rattle.acsub.specs.Finder.{FailsToBuild, IsFinderOf, IsPackedFor, IsSe
 ghost use Rattle.acsub.specs.Matches.{IsUncounted, left_in};
 ghost use Rattle.acsub.specs.Plan.{plan_of};
 ghost use Rattle.acsub.specs.Run.{Prepares};
-ghost use Rattle.acsub.specs.Served.{automaton_named, builder_settings};
+ghost use Rattle.acsub.specs.Served.{automaton_named, builder_by};
 ghost use Rattle.acsub.specs.Settings.{IsAccepted};
 ghost use Rattle.acsub.specs.Rules.Sides.{rule_patterns};
 ghost use Rattle.acsub.specs.Run.Transformed.{IsStreamed};
@@ -168,7 +168,7 @@ fn automaton_for(alloc: Global, settings: &Settings, rules: &Rules) -> Result<Ah
 
 /// The builder of the automaton, by the settings. Its searches are unanchored, as they are at first.
 fn builder_for(settings: &Settings) -> AhoCorasickBuilder
-    ensures { result ≡ builder_settings settings.now }
+    ensures { result ≡ builder_by settings.now }
 {
     let mut builder = AhoCorasick::builder();
     builder

@@ -1,12 +1,14 @@
 //! The text of an input, written while the input is read.
 //!
 //! Under the standard kind a match that was found is never changed by what is read later. Under a leftmost kind it is held back until
-//! it is decided. All that is decided is written before the next read, so a run over a pipe writes as soon as it can. It holds no more than one buffer of the input and one of the text,
-//! and takes both before the first read. All that overlap in what was read can't be changed by what is read later, either.
+//! it is decided. All that is decided is written before the next read, so a run over a pipe writes as soon as it can. It holds no
+//! more than one buffer of the input and one of the text, and takes both before the first read. All that overlap in what was read
+//! can't be changed by what is read later, either.
 ghost use Rattle.std.specs.Prelude.{◌≡◌, Err, IfErr, false};
 ghost use Rattle.ac_automaton.specs.Devices.Moved.{NoneTouched};
-ghost use Rattle.ac_automaton.specs.Stream.{CanStreamAnyKind};
+ghost use Rattle.ac_automaton.specs.Stream.{CanStream};
 ghost use Rattle.ac_automaton.specs.Stream.StreamReplace.{ReplacesStream};
+ghost use Rattle.ac_automaton.specs.declared.stream.StreamKinds.TheVariants.{AnyKind};
 ghost use Rattle.aho_corasick.specs.AhoCorasick.{as_built, supported_by};
 ghost use Rattle.acsub.specs.Finder.{IsServing};
 ghost use Rattle.acsub.specs.Settings.{IsAccepted};
@@ -94,7 +96,7 @@ fn stream_replaced<R: Read, W: Write>(
 ) -> Result<(), StreamError>
     requires open { reader.old.ended ≡ false }
     requires serves { IsServing prepared.now.settings prepared.now.rules engine.now }
-    requires can { CanStreamAnyKind (as_built engine.now) (supported_by engine.now) }
+    requires can { CanStream AnyKind (as_built engine.now) (supported_by engine.now) }
     ensures replaces { ReplacesStream R.remaining W.contents (as_built engine.now)
         (replacements_of prepared.now.rules) reader.old reader.new writer.old writer.new result }
     ensures costs { CostsSearch (as_built engine.now) reader.old reader.new

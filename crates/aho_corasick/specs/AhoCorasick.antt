@@ -11,9 +11,10 @@ use Rattle.ac_automaton.specs.Iter.{Walk, fresh_walk, left_of}
 use Rattle.ac_automaton.specs.Overlapping as overlapping
 use Rattle.ac_automaton.specs.declared.overlapping.OverlappingState.{OverlappingState}
 use Rattle.ac_automaton.specs.Overlapping.OverlappingIter.{Run, fresh_run, rest_of}
+use Rattle.ac_noncontiguous.specs.declared.settings.Settings.{Settings}
 use Rattle.aho_corasick.specs.declared.ahocorasick.AhoCorasick.{AhoCorasick}
+use Rattle.aho_corasick.specs.declared.ahocorasick.builder.AhoCorasickBuilder.{AhoCorasickBuilder}
 use Rattle.aho_corasick.specs.declared.engine.Engine.{Engine}
-use Rattle.aho_corasick.specs.Builder.{FrontSettings}
 use Rattle.aho_corasick.specs.Engine.{IsEngineRead, engine_matches_at}
 
 -- the automaton that serves
@@ -24,7 +25,7 @@ serving_engine ac = ac.shared.value.engine
 abbrev pub as_built : AhoCorasick → Built
 as_built ac = ac.shared.value.built.value
 
-abbrev pub settings_of : AhoCorasick → FrontSettings
+abbrev pub settings_of : AhoCorasick → AhoCorasickBuilder
 settings_of ac = ac.shared.value.settings.value
 
 -- the automaton's patterns, by number, and how many there are
@@ -48,6 +49,13 @@ start_kind_of ac = ac.start_kind
 
 abbrev pub supported_by : AhoCorasick → Anchored → Type 0
 supported_by ac anchored = Serves (start_kind_of ac) anchored
+
+-- an automaton searches for these patterns, with the match kind, the pairing and the start kind that were set
+pub record IsConfigured (s : Settings) (ps : List (List ℕ)) (ac : AhoCorasick) : Type 0 where
+  pub patterns : patterns_of ac ≡ ps
+  pub kind : kind_of ac ≡ s.match_kind
+  pub pairing : pairing_of ac ≡ s.pairing
+  pub starts : start_kind_of ac ≡ s.start_kind
 
 -- an overlapping state is fresh, or came from earlier calls with this automaton and input alone
 abbrev pub CameFromCalls : AhoCorasick → Asked → OverlappingState → Type 0

@@ -24,7 +24,7 @@ mod shared;
 pub use ac_automaton::error::{MatchError, MatchErrorKind, ReplaceError, StreamError};
 pub use ac_automaton::iter::WalkPlace;
 pub use ac_automaton::overlapping::OverlappingState;
-pub use ac_automaton::stream::{StreamReplacer, StreamSearch};
+pub use ac_automaton::stream::{StreamKinds, StreamReplacer, StreamSearch};
 pub use ac_automaton::watched::{Watched, write_whole};
 pub use ac_input::alphabet::{
     ByteClassElementRanges, ByteClassElements, ByteClassIter, ByteClassSet, ByteClasses, ByteSet,

@@ -6,9 +6,9 @@
 ghost use Rattle.std.specs.Prelude.{◌≡◌};
 ghost use Rattle.std.specs.Borrow.{ftrue};
 ghost use Rattle.ac_automaton.specs.Automaton.{Built};
-ghost use Rattle.aho_corasick.specs.Builder.{FrontSettings};
 ghost use Rattle.aho_corasick.specs.Engine.{engine_built_as};
 ghost use Rattle.aho_corasick.specs.Made.{IsMadeAs};
+ghost use Rattle.aho_corasick.specs.declared.ahocorasick.builder.AhoCorasickBuilder.{AhoCorasickBuilder};
 
 use crate::ahocorasick::AhoCorasickBuilder;
 use crate::engine::Engine;
@@ -44,7 +44,7 @@ impl AsBuilt {
 #[derive(Drop)]
 pub(crate) struct MadeBy {
     settings: PhantomData<()>,
-    pub ghost value: { FrontSettings },
+    pub ghost value: { AhoCorasickBuilder },
 }
 
 impl Model for MadeBy {
@@ -73,5 +73,5 @@ pub(crate) struct Shared {
     pub(crate) built: AsBuilt,
     pub(crate) settings: MadeBy,
     ghost same: { built.value ≡ engine_built_as engine },
-    ghost made: { ∥ IsMadeAs settings.value built.value.dictionary engine ∥₁ },
+    ghost made: { ∥ IsMadeAs settings.value.settings built.value.dictionary engine ∥₁ },
 }

@@ -8,7 +8,7 @@ use Rattle.ac_input.specs.declared.search.Anchored.{Anchored}
 use Rattle.ac_input.specs.declared.search.Anchored.TheVariants.{No}
 use Rattle.ac_input.specs.declared.steps.Steps.{Steps}
 use Rattle.ac_input.specs.Steps.{Done}
-use Rattle.ac_automaton.specs.Ahead.{AreNotes, IsBlank, IsNote, IsUpcoming}
+use Rattle.ac_automaton.specs.Ahead.{IsBlank, IsNote, IsUpcoming}
 use Rattle.ac_automaton.specs.Automaton.{Built, Leads, is_matching}
 use Rattle.ac_automaton.specs.Passing.{ReadsPart}
 use Rattle.ac_automaton.specs.declared.ahead.Note.{Note}
@@ -28,7 +28,7 @@ blank-note Reaches matches bytes note is =
       plain = λ at some less. absurd (omega (arith, none, some, less));
     }
 
-pub blank-notes : (Reaches : List ℕ → StateID → Type 0) (matches : StateID → List ℕ) (bytes : List ℕ) (notes : List Note) → All IsBlank notes → AreNotes Reaches matches bytes notes
+pub blank-notes : (Reaches : List ℕ → StateID → Type 0) (matches : StateID → List ℕ) (bytes : List ℕ) (notes : List Note) → All IsBlank notes → All (IsNote Reaches matches bytes) notes
 blank-notes Reaches matches bytes notes blank = All-weaker IsBlank (IsNote Reaches matches bytes) (blank-note Reaches matches bytes) notes blank
 
 -- an automaton's test for a match agrees with the state's list of matches
@@ -42,7 +42,7 @@ matched-is matches sid false is = by (is_matching matches sid) refl
 
 -- A note that begins at this place, in this state, reads a part of the bytes. Its cost is one look for each of its bytes.
 pub note-part : (b : Built) (Reaches : Anchored → List ℕ → StateID → Type 0) (matches : StateID → List ℕ) (bytes : List ℕ) (notes : List Note) (note : Note) (sid : StateID) (at : ℕ) (s t : Steps)
-    → AreNotes (Reaches No) matches bytes notes → IsUpcoming notes at note → note.from ≡ at → note.sid ≡ sid → Done note.len 0 0 s t
+    → All (IsNote (Reaches No) matches bytes) notes → IsUpcoming notes at note → note.from ≡ at → note.sid ≡ sid → Done note.len 0 0 s t
     → ReadsPart b Reaches No (is_matching matches) sid (drop at bytes) (record { sid = note.next; taken = note.len }) s t
 note-part b Reaches matches bytes notes note sid at s t known upcoming here same done =
     let is : IsNote (Reaches No) matches bytes note = All-contains (IsNote (Reaches No) matches bytes) notes note known upcoming.0 in

@@ -3,10 +3,11 @@ use Rattle.std.proofs.Common.{◌≡◌, ⊎_elim, ℕ, suc, ◌+◌, ◌-◌, �
 use Rattle.std.specs.Prelude.{slice_get, slice_set, Some, ◌⊎◌}
 use Rattle.std.proofs.lemmas.Bool.{cases_lt, false≢true, le-leb, leb-true}
 use Rattle.std.proofs.lemmas.List.{append_assoc, get_or-drop}
+use Rattle.std.specs.List.{All}
 use Rattle.std.proofs.lemmas.List.Elements.{All-set}
 use Rattle.std.proofs.lemmas.Option.{slice_get-get_or}
 use Rattle.ac_input.specs.Number.{StateID}
-use Rattle.ac_automaton.specs.Ahead.{AreNotes, HasGone, HasWalked, IsNote, WalkedTo, is_up_to}
+use Rattle.ac_automaton.specs.Ahead.{HasGone, HasWalked, IsNote, WalkedTo, is_up_to}
 use Rattle.ac_automaton.specs.Automaton.{IsReached, Leads, PassesPlain, has_some, is_matching}
 use Rattle.ac_automaton.specs.declared.ahead.Note.{Note}
 use Rattle.ac_automaton.specs.declared.lanes.Lane.{Lane}
@@ -149,8 +150,8 @@ walked-note Reaches matches bytes lane last note quiet to from len first next =
 
 -- storing one true note keeps all notes true
 pub notes-put : (Reaches : List ℕ → StateID → Type 0) (matches : StateID → List ℕ) (bytes : List ℕ) (old new : List Note) (slot : ℕ) (note : Note)
-    → AreNotes Reaches matches bytes old → IsNote Reaches matches bytes note → (new ≡ old) ⊎ (new ≡ slice_set old slot note) → AreNotes Reaches matches bytes new
+    → All (IsNote Reaches matches bytes) old → IsNote Reaches matches bytes note → (new ≡ old) ⊎ (new ≡ slice_set old slot note) → All (IsNote Reaches matches bytes) new
 notes-put Reaches matches bytes old new slot note known is put = ⊎_elim
-    (λ (same : new ≡ old). subst (AreNotes Reaches matches bytes) (sym same) known)
-    (λ (more : new ≡ slice_set old slot note). subst (AreNotes Reaches matches bytes) (sym more) (All-set (IsNote Reaches matches bytes) old slot note is known))
+    (λ (same : new ≡ old). subst (All (IsNote Reaches matches bytes)) (sym same) known)
+    (λ (more : new ≡ slice_set old slot note). subst (All (IsNote Reaches matches bytes)) (sym more) (All-set (IsNote Reaches matches bytes) old slot note is known))
     put

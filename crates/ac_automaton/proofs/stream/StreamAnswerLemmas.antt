@@ -12,42 +12,43 @@ use Rattle.ac_input.specs.declared.search.MatchKind.TheVariants.{Standard, Leftm
 use Rattle.ac_input.specs.Work.{longest, lookups_per_byte}
 use Rattle.ac_automaton.specs.Replace.{matches_in}
 use Rattle.ac_automaton.specs.Automaton.{Built}
-use Rattle.ac_automaton.specs.Stream.{CanStream, CanStreamAnyKind, IsAnyKindRefusal, IsStreamRefusal, StreamProgress, again_for, fresh_progress, read_again, read_by, read_in_all}
-use Rattle.ac_automaton.specs.Stream.StreamReplace.{AcceptsReplacing, AcceptsReplacingAnyKind, CostsStream, HasSearched, IsStreamCost, IsBegun, ReplacesStream}
+use Rattle.ac_automaton.specs.Stream.{CanStream, IsStreamRefusal, StreamProgress, again_for, fresh_progress, read_again, read_by, read_in_all}
+use Rattle.ac_automaton.specs.Stream.StreamReplace.{AcceptsReplacing, CostsStream, HasSearched, IsStreamCost, IsBegun, ReplacesStream}
 use Rattle.ac_automaton.specs.declared.error.StreamError.{StreamError}
 use Rattle.ac_automaton.specs.declared.error.StreamError.TheVariants.{Config, Read, Write, WriteZero, Memory, Position}
+use Rattle.ac_automaton.specs.declared.stream.StreamKinds.{StreamKinds}
 use Rattle.ac_automaton.specs.declared.watched.Watched.{Watched}
 use Rattle.ac_automaton.proofs.stream.StreamReplaceLemmas.{given-none, taken-none}
 
 -- nothing was moved
-pub nothing-moved : {R W : Type 0} (remaining : R → Option (List ℕ)) (contents : W → Option (List ℕ)) (b : Built) (supports : Anchored → Type 0) (replacements : List (List ℕ)) (reader : Watched R) (writer : Watched W) (error : StreamError)
-    → IsStreamRefusal b supports error → ReplacesStream remaining contents b replacements reader reader writer writer (Err error)
-nothing-moved remaining contents b supports replacements reader writer (Config error) refused =
+pub nothing-moved : {R W : Type 0} (remaining : R → Option (List ℕ)) (contents : W → Option (List ℕ)) (kinds : StreamKinds) (b : Built) (supports : Anchored → Type 0) (replacements : List (List ℕ)) (reader : Watched R) (writer : Watched W) (error : StreamError)
+    → IsStreamRefusal kinds b supports error → ReplacesStream remaining contents b replacements reader reader writer writer (Err error)
+nothing-moved remaining contents kinds b supports replacements reader writer (Config error) refused =
     (record { pieces = []; failed_reads = 0; taken = []; failed_writes = 0; stalled_writes = 0 }, record { reader = given-none remaining reader; writer = taken-none contents writer }, λ k d lt. absurd (omega arith), record { pieces = refl; taken = refl; failed = (refl, refl, refl) })
-nothing-moved remaining contents b supports replacements reader writer (Read error) refused = absurd refused
-nothing-moved remaining contents b supports replacements reader writer (Write error) refused = absurd refused
-nothing-moved remaining contents b supports replacements reader writer WriteZero refused = absurd refused
-nothing-moved remaining contents b supports replacements reader writer Memory refused =
+nothing-moved remaining contents kinds b supports replacements reader writer (Read error) refused = absurd refused
+nothing-moved remaining contents kinds b supports replacements reader writer (Write error) refused = absurd refused
+nothing-moved remaining contents kinds b supports replacements reader writer WriteZero refused = absurd refused
+nothing-moved remaining contents kinds b supports replacements reader writer Memory refused =
     (record { pieces = []; failed_reads = 0; taken = []; failed_writes = 0; stalled_writes = 0 }, record { reader = given-none remaining reader; writer = taken-none contents writer }, λ k d lt. absurd (omega arith), record { pieces = refl; taken = refl; failed = (refl, refl, refl) })
-nothing-moved remaining contents b supports replacements reader writer Position refused = absurd refused
+nothing-moved remaining contents kinds b supports replacements reader writer Position refused = absurd refused
 
 -- why it did not begin
-pub not-begun : {R W : Type 0} (b : Built) (supports : Anchored → Type 0) (reader : Watched R) (writer : Watched W) (error : StreamError) → IsStreamRefusal b supports error → AcceptsReplacing b supports reader reader writer writer (Err error)
-not-begun b supports reader writer (Config error) refused = (refused, (refl, refl))
-not-begun b supports reader writer (Read error) refused = absurd refused
-not-begun b supports reader writer (Write error) refused = absurd refused
-not-begun b supports reader writer WriteZero refused = absurd refused
-not-begun b supports reader writer Memory refused = (refused, (refl, refl))
-not-begun b supports reader writer Position refused = absurd refused
+pub not-begun : {R W : Type 0} (kinds : StreamKinds) (b : Built) (supports : Anchored → Type 0) (reader : Watched R) (writer : Watched W) (error : StreamError) → IsStreamRefusal kinds b supports error → AcceptsReplacing kinds b supports reader reader writer writer (Err error)
+not-begun kinds b supports reader writer (Config error) refused = (refused, (refl, refl))
+not-begun kinds b supports reader writer (Read error) refused = absurd refused
+not-begun kinds b supports reader writer (Write error) refused = absurd refused
+not-begun kinds b supports reader writer WriteZero refused = absurd refused
+not-begun kinds b supports reader writer Memory refused = (refused, (refl, refl))
+not-begun kinds b supports reader writer Position refused = absurd refused
 
 -- an error that came later
-pub begun-later : {R W : Type 0} (b : Built) (supports : Anchored → Type 0) (r0 r1 : Watched R) (w0 w1 : Watched W) (error : StreamError) → CanStream b supports → IsBegun error → AcceptsReplacing b supports r0 r1 w0 w1 (Err error)
-begun-later b supports r0 r1 w0 w1 (Config error) can begun = absurd begun
-begun-later b supports r0 r1 w0 w1 (Read error) can begun = can
-begun-later b supports r0 r1 w0 w1 (Write error) can begun = can
-begun-later b supports r0 r1 w0 w1 WriteZero can begun = can
-begun-later b supports r0 r1 w0 w1 Memory can begun = absurd begun
-begun-later b supports r0 r1 w0 w1 Position can begun = can
+pub begun-later : {R W : Type 0} (kinds : StreamKinds) (b : Built) (supports : Anchored → Type 0) (r0 r1 : Watched R) (w0 w1 : Watched W) (error : StreamError) → CanStream kinds b supports → IsBegun error → AcceptsReplacing kinds b supports r0 r1 w0 w1 (Err error)
+begun-later kinds b supports r0 r1 w0 w1 (Config error) can begun = absurd begun
+begun-later kinds b supports r0 r1 w0 w1 (Read error) can begun = can
+begun-later kinds b supports r0 r1 w0 w1 (Write error) can begun = can
+begun-later kinds b supports r0 r1 w0 w1 WriteZero can begun = can
+begun-later kinds b supports r0 r1 w0 w1 Memory can begun = absurd begun
+begun-later kinds b supports r0 r1 w0 w1 Position can begun = can
 
 -- a replacement that did not begin cost nothing
 pub cost-none : {R : Type 0} (b : Built) (reader : Watched R) (steps : Steps) (error : StreamError) → CostsStream b reader reader steps steps (Err error)
@@ -101,43 +102,6 @@ cost-read b s t r0 r1 before after result fresh begun h =
     (cost.0, cost.1, cost.2, cost.3, came-later result before after begun)
 
 -- the same for a result
-pub accepted-later : {R W : Type 0} (b : Built) (supports : Anchored → Type 0) (r0 r1 : Watched R) (w0 w1 : Watched W) (result : Result (Unit {0}) StreamError) → CanStream b supports → IfErr result IsBegun → AcceptsReplacing b supports r0 r1 w0 w1 result
-accepted-later b supports r0 r1 w0 w1 (Ok done) can begun = can
-accepted-later b supports r0 r1 w0 w1 (Err error) can begun = begun-later b supports r0 r1 w0 w1 error can begun
-
--- ---- under any kind
-
--- an error that came later
-begun-later-any_kind : {R W : Type 0} (b : Built) (supports : Anchored → Type 0) (r0 r1 : Watched R) (w0 w1 : Watched W) (error : StreamError) → CanStreamAnyKind b supports → IsBegun error → AcceptsReplacingAnyKind b supports r0 r1 w0 w1 (Err error)
-begun-later-any_kind b supports r0 r1 w0 w1 (Config error) can begun = absurd begun
-begun-later-any_kind b supports r0 r1 w0 w1 (Read error) can begun = can
-begun-later-any_kind b supports r0 r1 w0 w1 (Write error) can begun = can
-begun-later-any_kind b supports r0 r1 w0 w1 WriteZero can begun = can
-begun-later-any_kind b supports r0 r1 w0 w1 Memory can begun = absurd begun
-begun-later-any_kind b supports r0 r1 w0 w1 Position can begun = can
-
--- the same for a result
-pub accepted-any_kind : {R W : Type 0} (b : Built) (supports : Anchored → Type 0) (r0 r1 : Watched R) (w0 w1 : Watched W) (result : Result (Unit {0}) StreamError) → CanStreamAnyKind b supports → IfErr result IsBegun → AcceptsReplacingAnyKind b supports r0 r1 w0 w1 result
-accepted-any_kind b supports r0 r1 w0 w1 (Ok done) can begun = can
-accepted-any_kind b supports r0 r1 w0 w1 (Err error) can begun = begun-later-any_kind b supports r0 r1 w0 w1 error can begun
-
--- why it did not begin
-pub not-begun-any_kind : {R W : Type 0} (b : Built) (supports : Anchored → Type 0) (reader : Watched R) (writer : Watched W) (error : StreamError) → IsAnyKindRefusal b supports error → AcceptsReplacingAnyKind b supports reader reader writer writer (Err error)
-not-begun-any_kind b supports reader writer (Config error) refused = (refused, (refl, refl))
-not-begun-any_kind b supports reader writer (Read error) refused = absurd refused
-not-begun-any_kind b supports reader writer (Write error) refused = absurd refused
-not-begun-any_kind b supports reader writer WriteZero refused = absurd refused
-not-begun-any_kind b supports reader writer Memory refused = (refused, (refl, refl))
-not-begun-any_kind b supports reader writer Position refused = absurd refused
-
--- nothing was moved
-pub nothing-moved-any_kind : {R W : Type 0} (remaining : R → Option (List ℕ)) (contents : W → Option (List ℕ)) (b : Built) (supports : Anchored → Type 0) (replacements : List (List ℕ)) (reader : Watched R) (writer : Watched W) (error : StreamError)
-    → IsAnyKindRefusal b supports error → ReplacesStream remaining contents b replacements reader reader writer writer (Err error)
-nothing-moved-any_kind remaining contents b supports replacements reader writer (Config error) refused =
-    (record { pieces = []; failed_reads = 0; taken = []; failed_writes = 0; stalled_writes = 0 }, record { reader = given-none remaining reader; writer = taken-none contents writer }, λ k d lt. absurd (omega arith), record { pieces = refl; taken = refl; failed = (refl, refl, refl) })
-nothing-moved-any_kind remaining contents b supports replacements reader writer (Read error) refused = absurd refused
-nothing-moved-any_kind remaining contents b supports replacements reader writer (Write error) refused = absurd refused
-nothing-moved-any_kind remaining contents b supports replacements reader writer WriteZero refused = absurd refused
-nothing-moved-any_kind remaining contents b supports replacements reader writer Memory refused =
-    (record { pieces = []; failed_reads = 0; taken = []; failed_writes = 0; stalled_writes = 0 }, record { reader = given-none remaining reader; writer = taken-none contents writer }, λ k d lt. absurd (omega arith), record { pieces = refl; taken = refl; failed = (refl, refl, refl) })
-nothing-moved-any_kind remaining contents b supports replacements reader writer Position refused = absurd refused
+pub accepted-later : {R W : Type 0} (kinds : StreamKinds) (b : Built) (supports : Anchored → Type 0) (r0 r1 : Watched R) (w0 w1 : Watched W) (result : Result (Unit {0}) StreamError) → CanStream kinds b supports → IfErr result IsBegun → AcceptsReplacing kinds b supports r0 r1 w0 w1 result
+accepted-later kinds b supports r0 r1 w0 w1 (Ok done) can begun = can
+accepted-later kinds b supports r0 r1 w0 w1 (Err error) can begun = begun-later kinds b supports r0 r1 w0 w1 error can begun

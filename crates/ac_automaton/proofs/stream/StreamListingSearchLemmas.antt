@@ -25,6 +25,7 @@ use Rattle.ac_automaton.specs.Stream.StreamSearch.{some_of}
 use Rattle.ac_automaton.specs.declared.stream.overlapping.search.ListPlace.{ListPlace}
 use Rattle.ac_automaton.specs.declared.stream.overlapping.search.Listed.{Listed}
 use Rattle.ac_automaton.specs.declared.watched.Watched.{Watched}
+use Rattle.ac_automaton.specs.declared.stream.StreamKinds.TheVariants.{OnlyStandard}
 use Rattle.ac_automaton.proofs.stream.StreamListingLemmas.{listing-first, stands-listing}
 use Rattle.ac_automaton.proofs.stream.StreamSearchLemmas.{added-done}
 
@@ -117,7 +118,7 @@ nothing-live (Some from) = omega arith
 
 -- what a search that has read nothing keeps is right
 pub fresh-listing-right : (b : Built) (supports : Anchored → Type 0) (Reaches : List ℕ → StateID → Type 0) (matches : StateID → List ℕ) (start : StateID) (len count room : ℕ)
-    → CanStream b supports → Reaches [] start → Tells b.dictionary No [] (matches start) → ((live : Option ℕ) × IsLive b.dictionary false [] live)
+    → CanStream OnlyStandard b supports → Reaches [] start → Tells b.dictionary No [] (matches start) → ((live : Option ℕ) × IsLive b.dictionary false [] live)
     → len ≡ length (matches start) → len ≤ 18446744073709551615 → count ≡ 0 → room ≡ 65536
     → IsListingSearch Reaches matches (fresh_listing b) (first_place start len) count room [] 0 false
 fresh-listing-right b supports Reaches matches start len count room can begins tells live numbered few none long = record {

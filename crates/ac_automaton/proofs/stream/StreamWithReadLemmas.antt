@@ -9,12 +9,13 @@ use Rattle.ac_input.proofs.lemmas.BeginningLemmas.{slice_range-append}
 use Rattle.ac_automaton.specs.Automaton.{Built}
 use Rattle.ac_automaton.specs.Devices.Moved.{AllFit, AreFilled, AreWhole, HasGiven, HasTaken, but_last}
 use Rattle.ac_automaton.specs.Replace.{IsForMatches, matches_in, Replacer}
-use Rattle.ac_automaton.specs.Stream.{CanBeCounted, CanStream, CanStreamAnyKind, HasRead, IsNear, IsOnCourse, ReadsMore, StreamProgress, closed_by, cut_of, fresh_progress, read_by, room_of}
+use Rattle.ac_automaton.specs.Stream.{CanBeCounted, CanStream, HasRead, IsNear, IsOnCourse, ReadsMore, StreamProgress, closed_by, cut_of, fresh_progress, read_by, room_of}
 use Rattle.ac_automaton.specs.Stream.StreamReplace.{IsAtCut, IsPlaced}
-use Rattle.ac_automaton.specs.Stream.StreamReplaceWith.{ContinuesChain, HasCome, IsStreamFault, IsWriterChain, ReadsAndReplaces, RefusedByClosure, ReplacesAnyKindWith, ReplacesStreamWith, StopsChain}
+use Rattle.ac_automaton.specs.Stream.StreamReplaceWith.{ContinuesChain, HasCome, IsStreamFault, IsWriterChain, ReadsAndReplaces, RefusedByClosure, ReplacesStreamWith, StopsChain}
 use Rattle.ac_automaton.specs.Devices.Watched.{IsOfWrite, NoneRead, TookFront, WritesWhole}
 use Rattle.ac_automaton.specs.declared.error.StreamError.{StreamError}
 use Rattle.ac_automaton.specs.declared.error.StreamError.TheVariants.{Config, Read, Write, WriteZero, Memory, Position}
+use Rattle.ac_automaton.specs.declared.stream.StreamKinds.{StreamKinds}
 use Rattle.ac_automaton.specs.declared.watched.Watched.{Watched}
 use Rattle.ac_automaton.proofs.stream.StreamReplaceLemmas.{AreFilled-push, before-last, given-more, given-none, pieces-fit, near-cut, place-within, placed-after, read-more, replaced-fresh, same-cut, same-lies, taken-none}
 use Rattle.ac_automaton.proofs.stream.StreamSendLemmas.{cut-within, near-later}
@@ -220,13 +221,7 @@ module _ {F W : Type 0} (contents : W → Option (List ℕ)) (g : Replacer F (Wa
   read-stopped-with s t at r0 r r1 first f w0 w Position h course read = read-too_long s t at r0 r r1 first f w0 w read.0 0 h read.1 course refl read.2
 
   -- where a search is supported, the result of its reads and writes is that of the replacement
-  pub accepted-with : (supports : Anchored → Type 0) (f : F) (r0 r1 : Watched R) (w0 w1 : Watched W) (result : Result (Unit {0}) StreamError) → CanStream b supports → ReadsAndReplaces contents g remaining b f r0 r1 w0 w1 result
-      → ReplacesStreamWith contents g remaining b supports f r0 r1 w0 w1 result
-  accepted-with supports f r0 r1 w0 w1 (Ok done) can replaced = (can, replaced)
-  accepted-with supports f r0 r1 w0 w1 (Err error) can replaced = inr (can, replaced)
-
-  -- where a search under any kind is supported, the result of its reads and writes is that of the replacement
-  pub accepted-any_kind-with : (supports : Anchored → Type 0) (f : F) (r0 r1 : Watched R) (w0 w1 : Watched W) (result : Result (Unit {0}) StreamError) → CanStreamAnyKind b supports → ReadsAndReplaces contents g remaining b f r0 r1 w0 w1 result
-      → ReplacesAnyKindWith contents g remaining b supports f r0 r1 w0 w1 result
-  accepted-any_kind-with supports f r0 r1 w0 w1 (Ok done) can replaced = (can, replaced)
-  accepted-any_kind-with supports f r0 r1 w0 w1 (Err error) can replaced = inr (can, replaced)
+  pub accepted-with : (kinds : StreamKinds) (supports : Anchored → Type 0) (f : F) (r0 r1 : Watched R) (w0 w1 : Watched W) (result : Result (Unit {0}) StreamError) → CanStream kinds b supports → ReadsAndReplaces contents g remaining b f r0 r1 w0 w1 result
+      → ReplacesStreamWith contents g remaining kinds b supports f r0 r1 w0 w1 result
+  accepted-with kinds supports f r0 r1 w0 w1 (Ok done) can replaced = (can, replaced)
+  accepted-with kinds supports f r0 r1 w0 w1 (Err error) can replaced = inr (can, replaced)

@@ -9,11 +9,12 @@ use Rattle.ac_input.specs.Dictionary.{IsLive}
 use Rattle.ac_input.specs.Occurrence.{Occurrence}
 use Rattle.ac_automaton.specs.Automaton.{Built}
 use Rattle.ac_automaton.specs.Devices.Moved.{AllFit, AreFilled, AreWhole, HasGiven}
-use Rattle.ac_automaton.specs.Stream.{AreAllGiven, EachIsDecided, CanBeCounted, CanStream, CanStreamAnyKind, FindsHeld, HasRead, IsAnyKindRefusal, IsStreamRefusal, ReadsNothing, StreamProgress, closed_by, end_of, fresh_progress, read_by, room_of}
+use Rattle.ac_automaton.specs.Stream.{AreAllGiven, EachIsDecided, CanBeCounted, CanStream, FindsHeld, HasRead, IsStreamRefusal, ReadsNothing, StreamProgress, closed_by, end_of, fresh_progress, read_by, room_of}
 use Rattle.ac_automaton.specs.contracts.watched.Watched.{the_row}
 use Rattle.ac_automaton.specs.declared.error.StreamError.{StreamError}
 use Rattle.ac_automaton.specs.declared.error.StreamError.TheVariants.{Read, Position}
 use Rattle.ac_automaton.specs.declared.stream.StreamFindIter.{StreamFindIter}
+use Rattle.ac_automaton.specs.declared.stream.StreamKinds.{StreamKinds}
 use Rattle.ac_automaton.specs.declared.stream.Turn.{Turn}
 use Rattle.ac_automaton.specs.declared.stream.Turn.TheVariants.{Found, More, Ended, Over, Failed}
 use Rattle.ac_automaton.specs.declared.watched.Watched.{Watched}
@@ -129,14 +130,9 @@ module _ {A R : Type 0} where
 
   -- The iterator has read nothing yet, and holds the reader that it borrowed, by the same reference; or the error says why none was
   -- made.
-  abbrev pub AnswersStreamIter : Built → (Anchored → Type 0) → MutBor (Watched R) → Result (StreamFindIter A R) StreamError → Type 0
-  AnswersStreamIter b supports lent (Ok i) = CanStream b supports × (progress_of i ≡ fresh_progress b) × (reader_of i ≡ lent.now) × (reader_name i ≡ lent.ghost_name)
-  AnswersStreamIter b supports lent (Err error) = IsStreamRefusal b supports error
-
-  -- An iterator under any kind has read nothing yet, and holds the reader that it borrowed; or the error says why none was made.
-  abbrev pub AnswersAnyKindIter : Built → (Anchored → Type 0) → MutBor (Watched R) → Result (StreamFindIter A R) StreamError → Type 0
-  AnswersAnyKindIter b supports lent (Ok i) = CanStreamAnyKind b supports × (progress_of i ≡ fresh_progress b) × (reader_of i ≡ lent.now) × (reader_name i ≡ lent.ghost_name)
-  AnswersAnyKindIter b supports lent (Err error) = IsAnyKindRefusal b supports error
+  abbrev pub AnswersStreamIter : StreamKinds → Built → (Anchored → Type 0) → MutBor (Watched R) → Result (StreamFindIter A R) StreamError → Type 0
+  AnswersStreamIter kinds b supports lent (Ok i) = CanStream kinds b supports × (progress_of i ≡ fresh_progress b) × (reader_of i ≡ lent.now) × (reader_name i ≡ lent.ghost_name)
+  AnswersStreamIter kinds b supports lent (Err error) = IsStreamRefusal kinds b supports error
 
 -- If no iterator was made, the reader is unchanged. Otherwise the iterator holds the reference to it, and the reader's final value
 -- is the last one under that name.

@@ -22,6 +22,7 @@ use Rattle.ac_automaton.specs.declared.error.MatchErrorKind.TheVariants.{Unsuppo
 use Rattle.ac_automaton.specs.declared.error.StreamError.{StreamError}
 use Rattle.ac_automaton.specs.declared.error.StreamError.TheVariants.{Config, Read, Memory, Position}
 use Rattle.ac_automaton.specs.declared.watched.Watched.{Watched}
+use Rattle.ac_automaton.specs.declared.stream.StreamKinds.TheVariants.{OnlyStandard}
 
 -- How far a search of a stream for every occurrence has come: its automaton; the pieces that its reads returned; the occurrences that
 -- it returned; up to which place the automaton has read; and how many states it looked at, how many places it scanned and how many
@@ -62,7 +63,7 @@ IsListingConfigRefusal b supports error =
 -- the error says what failed: the search, or the memory for the buffer
 abbrev pub IsListingRefusal : Built → (Anchored → Type 0) → StreamError → Type 0
 IsListingRefusal b supports (Config error) = IsListingConfigRefusal b supports error
-IsListingRefusal b supports Memory = CanStream b supports
+IsListingRefusal b supports Memory = CanStream OnlyStandard b supports
 IsListingRefusal b supports other = ⊥
 
 -- ---- what holds wherever a search stands
@@ -88,7 +89,7 @@ pub record IsOnListing (s : ListingProgress) : Type 0 where
 
 -- A search was made, which has read nothing yet; or the error says why not.
 abbrev pub AnswersNewListing : Built → (Anchored → Type 0) → Result ListingProgress StreamError → Type 0
-AnswersNewListing b supports (Ok s) = CanStream b supports × (s ≡ fresh_listing b) × IsOnListing s
+AnswersNewListing b supports (Ok s) = CanStream OnlyStandard b supports × (s ≡ fresh_listing b) × IsOnListing s
 AnswersNewListing b supports (Err error) = IsListingRefusal b supports error
 
 -- ---- what a call does

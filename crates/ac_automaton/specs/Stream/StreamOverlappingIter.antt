@@ -15,6 +15,7 @@ use Rattle.ac_automaton.specs.declared.error.StreamError.{StreamError}
 use Rattle.ac_automaton.specs.declared.error.StreamError.TheVariants.{Read, Position}
 use Rattle.ac_automaton.specs.declared.stream.overlapping.StreamFindOverlappingIter.{StreamFindOverlappingIter}
 use Rattle.ac_automaton.specs.declared.watched.Watched.{Watched}
+use Rattle.ac_automaton.specs.declared.stream.StreamKinds.TheVariants.{OnlyStandard}
 
 -- ---- what was read
 
@@ -104,7 +105,7 @@ module _ {A R : Type 0} where
   -- The iterator has read nothing yet, and holds the reader that it borrowed, by the same reference; or the error says why none was
   -- made.
   abbrev pub AnswersStreamListing : Built → (Anchored → Type 0) → MutBor (Watched R) → Result (StreamFindOverlappingIter A R) StreamError → Type 0
-  AnswersStreamListing b supports lent (Ok i) = CanStream b supports × (listing_of_stream i ≡ fresh_listing b) × (reader_listed i ≡ lent.now) × (reader_listed_name i ≡ lent.ghost_name)
+  AnswersStreamListing b supports lent (Ok i) = CanStream OnlyStandard b supports × (listing_of_stream i ≡ fresh_listing b) × (reader_listed i ≡ lent.now) × (reader_listed_name i ≡ lent.ghost_name)
   AnswersStreamListing b supports lent (Err error) = IsListingRefusal b supports error
 
 -- If no iterator was made, the reader is unchanged. Otherwise the iterator holds the reference to it, and the reader's final value

@@ -10,11 +10,12 @@ use Rattle.ac_automaton.specs.Automaton.{Built}
 use Rattle.ac_automaton.specs.Devices.Moved.{AllFit, HasMoved, Moved, NoneTouched}
 use Rattle.ac_automaton.specs.Devices.Output.{Sent, Stopped}
 use Rattle.ac_automaton.specs.Replace.{LieInOrder, matches_in}
-use Rattle.ac_automaton.specs.Stream.{AreAllGiven, CanBeCounted, CanStream, CanStreamAnyKind, IsAnyKindConfigRefusal, IsConfigRefusal, IsFront, IsOnCourse, IsSearched, ReadsNothing, StreamCounts, StreamProgress, cut_of, read_again, read_by, room_of}
+use Rattle.ac_automaton.specs.Stream.{AreAllGiven, CanBeCounted, CanStream, IsConfigRefusal, IsFront, IsOnCourse, IsSearched, ReadsNothing, StreamCounts, StreamProgress, cut_of, read_again, read_by, room_of}
 use Rattle.ac_automaton.specs.Stream.StreamAnswer.{AnswersWriting}
 use Rattle.ac_automaton.specs.Devices.Watched.{IsOfWrite}
 use Rattle.ac_automaton.specs.declared.error.StreamError.{StreamError}
 use Rattle.ac_automaton.specs.declared.error.StreamError.TheVariants.{Config, Memory}
+use Rattle.ac_automaton.specs.declared.stream.StreamKinds.{StreamKinds}
 use Rattle.ac_automaton.specs.declared.watched.Watched.{Watched}
 
 -- the text with each match replaced by its pattern's replacement
@@ -30,17 +31,10 @@ ReplacesStream remaining contents b replacements reader_before reader_after writ
 
 -- An error of the search or of memory means that the replacement did not begin, and leaves both devices unchanged. Any result but
 -- an error of the search means that the stream can be searched.
-abbrev pub AcceptsReplacing : {R W : Type 0} → Built → (Anchored → Type 0) → Watched R → Watched R → Watched W → Watched W → Result (Unit {0}) StreamError → Type 0
-AcceptsReplacing b supports reader_before reader_after writer_before writer_after (Err (Config error)) = IsConfigRefusal b supports error × NoneTouched reader_before reader_after writer_before writer_after
-AcceptsReplacing b supports reader_before reader_after writer_before writer_after (Err Memory) = CanStream b supports × NoneTouched reader_before reader_after writer_before writer_after
-AcceptsReplacing b supports reader_before reader_after writer_before writer_after result = CanStream b supports
-
--- For a replacement under any kind: an error of the search or of memory means that it did not begin, and leaves both devices
--- unchanged. Any result but an error of the search means that the stream can be searched under any kind.
-abbrev pub AcceptsReplacingAnyKind : {R W : Type 0} → Built → (Anchored → Type 0) → Watched R → Watched R → Watched W → Watched W → Result (Unit {0}) StreamError → Type 0
-AcceptsReplacingAnyKind b supports reader_before reader_after writer_before writer_after (Err (Config error)) = IsAnyKindConfigRefusal b supports error × NoneTouched reader_before reader_after writer_before writer_after
-AcceptsReplacingAnyKind b supports reader_before reader_after writer_before writer_after (Err Memory) = CanStreamAnyKind b supports × NoneTouched reader_before reader_after writer_before writer_after
-AcceptsReplacingAnyKind b supports reader_before reader_after writer_before writer_after result = CanStreamAnyKind b supports
+abbrev pub AcceptsReplacing : {R W : Type 0} → StreamKinds → Built → (Anchored → Type 0) → Watched R → Watched R → Watched W → Watched W → Result (Unit {0}) StreamError → Type 0
+AcceptsReplacing kinds b supports reader_before reader_after writer_before writer_after (Err (Config error)) = IsConfigRefusal kinds b supports error × NoneTouched reader_before reader_after writer_before writer_after
+AcceptsReplacing kinds b supports reader_before reader_after writer_before writer_after (Err Memory) = CanStream kinds b supports × NoneTouched reader_before reader_after writer_before writer_after
+AcceptsReplacing kinds b supports reader_before reader_after writer_before writer_after result = CanStream kinds b supports
 
 -- ---- what a replacement costs
 

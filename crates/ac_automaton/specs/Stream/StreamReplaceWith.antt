@@ -7,10 +7,11 @@ use Rattle.ac_input.specs.Occurrence.{Occurrence}
 use Rattle.ac_automaton.specs.Automaton.{Built}
 use Rattle.ac_automaton.specs.Devices.Moved.{AllFit, AreWhole, HasGiven, HasTaken, NoneTouched, but_last}
 use Rattle.ac_automaton.specs.Replace.{IsForMatches, Replacer, RepliesAt, matches_in}
-use Rattle.ac_automaton.specs.Stream.{AreAllGiven, CanBeCounted, CanStream, CanStreamAnyKind, IsAnyKindRefusal, IsNear, IsStreamRefusal, ReadsNothing, StreamProgress, read_by, room_of}
+use Rattle.ac_automaton.specs.Stream.{AreAllGiven, CanBeCounted, CanStream, IsNear, IsStreamRefusal, ReadsNothing, StreamProgress, read_by, room_of}
 use Rattle.ac_automaton.specs.Stream.StreamReplace.{IsPlaced}
 use Rattle.ac_automaton.specs.declared.error.StreamError.{StreamError}
 use Rattle.ac_automaton.specs.declared.error.StreamError.TheVariants.{Read, Write, WriteZero, Position}
+use Rattle.ac_automaton.specs.declared.stream.StreamKinds.{StreamKinds}
 use Rattle.ac_automaton.specs.declared.watched.Watched.{Watched}
 
 module _ {F W : Type 0} (contents : W → Option (List ℕ)) (g : Replacer F (Watched W) (Result (Unit {0}) StreamError)) where
@@ -91,19 +92,13 @@ module _ {F W : Type 0} (contents : W → Option (List ℕ)) (g : Replacer F (Wa
         (pieces : List (List ℕ)) × (failed : ℕ) × HasGiven remaining reader_before reader_after pieces failed × AllFit (room_of b) pieces × AnswersReplaceWith b pieces failed f writer_before writer_after result
 
     -- The result of a replacement: an error before anything was read or written; or the chain came as far as the result says.
-    abbrev pub ReplacesStreamWith : Built → (Anchored → Type 0) → F → Watched R → Watched R → Watched W → Watched W → Result (Unit {0}) StreamError → Type 0
-    ReplacesStreamWith b supports f reader_before reader_after writer_before writer_after (Ok done) = CanStream b supports × ReadsAndReplaces b f reader_before reader_after writer_before writer_after (Ok done)
-    ReplacesStreamWith b supports f reader_before reader_after writer_before writer_after (Err error) =
-        (IsStreamRefusal b supports error × NoneTouched reader_before reader_after writer_before writer_after)
-        ⊎ (CanStream b supports × ReadsAndReplaces b f reader_before reader_after writer_before writer_after (Err error))
+    abbrev pub ReplacesStreamWith : StreamKinds → Built → (Anchored → Type 0) → F → Watched R → Watched R → Watched W → Watched W → Result (Unit {0}) StreamError → Type 0
+    ReplacesStreamWith kinds b supports f reader_before reader_after writer_before writer_after (Ok done) = CanStream kinds b supports × ReadsAndReplaces b f reader_before reader_after writer_before writer_after (Ok done)
+    ReplacesStreamWith kinds b supports f reader_before reader_after writer_before writer_after (Err error) =
+        (IsStreamRefusal kinds b supports error × NoneTouched reader_before reader_after writer_before writer_after)
+        ⊎ (CanStream kinds b supports × ReadsAndReplaces b f reader_before reader_after writer_before writer_after (Err error))
 
-    -- the result of a replacement under any kind
-    abbrev pub ReplacesAnyKindWith : Built → (Anchored → Type 0) → F → Watched R → Watched R → Watched W → Watched W → Result (Unit {0}) StreamError → Type 0
-    ReplacesAnyKindWith b supports f reader_before reader_after writer_before writer_after (Ok done) = CanStreamAnyKind b supports × ReadsAndReplaces b f reader_before reader_after writer_before writer_after (Ok done)
-    ReplacesAnyKindWith b supports f reader_before reader_after writer_before writer_after (Err error) =
-        (IsAnyKindRefusal b supports error × NoneTouched reader_before reader_after writer_before writer_after)
-        ⊎ (CanStreamAnyKind b supports × ReadsAndReplaces b f reader_before reader_after writer_before writer_after (Err error))
-    -- ---- what holds at each point of a replacement
+  -- ---- what holds at each point of a replacement
 
   -- In between nothing was read, and the chain went on from one place to another.
   pub record ContinuesChain (s t : StreamProgress) (from to : ℕ) (f after : F) (old new : Watched W) : Type 0 where

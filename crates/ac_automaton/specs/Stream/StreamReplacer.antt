@@ -5,12 +5,13 @@ use Rattle.ac_input.specs.Occurrence.{Occurrence}
 use Rattle.ac_input.specs.Text.{replaced_from}
 use Rattle.ac_automaton.specs.Automaton.{Built}
 use Rattle.ac_automaton.specs.Replace.{LieInOrder}
-use Rattle.ac_automaton.specs.Stream.{AreAllGiven, CanBeCounted, CanStreamAnyKind, IsAnyKindRefusal, IsOnCourse, IsSearched, ReadsNothing, StreamProgress, cut_of, fresh_progress, may_wait, read_by, IsFront}
+use Rattle.ac_automaton.specs.Stream.{AreAllGiven, CanBeCounted, CanStream, IsStreamRefusal, IsOnCourse, IsSearched, ReadsNothing, StreamProgress, cut_of, fresh_progress, may_wait, read_by, IsFront}
 use Rattle.ac_automaton.specs.Stream.StreamPush.{Pushes}
 use Rattle.ac_automaton.specs.Stream.StreamReplace.{IsPlaced, replaced_in}
 use Rattle.ac_automaton.specs.declared.error.StreamError.{StreamError}
 use Rattle.ac_automaton.specs.declared.stream.replacer.Part.{Part}
 use Rattle.ac_automaton.specs.declared.stream.replacer.Part.TheVariants.{Text, Replacement}
+use Rattle.ac_automaton.specs.declared.stream.StreamKinds.TheVariants.{AnyKind}
 
 -- How far a replacement has come: its search; up to which place of the stream its text was handed out; the match that was found and
 -- isn't replaced yet; whether it was told that no more comes; and whether the whole text was handed out after that.
@@ -86,8 +87,8 @@ pub record IsReplacing (r : ReplacerProgress) : Type 0 where
 
 -- a replacement was made, which has read nothing yet; or the error says why not
 abbrev pub AnswersReplacer : Built → (Anchored → Type 0) → Result ReplacerProgress StreamError → Type 0
-AnswersReplacer b supports (Ok r) = CanStreamAnyKind b supports × (r ≡ fresh_replacer b)
-AnswersReplacer b supports (Err error) = IsAnyKindRefusal b supports error
+AnswersReplacer b supports (Ok r) = CanStream AnyKind b supports × (r ≡ fresh_replacer b)
+AnswersReplacer b supports (Err error) = IsStreamRefusal AnyKind b supports error
 
 -- nothing was handed out in between, and the text goes on at the same place
 pub record KeepsText (r t : ReplacerProgress) : Type 0 where

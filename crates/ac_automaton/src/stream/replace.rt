@@ -9,12 +9,13 @@
 //! Nothing is tried again, and nothing is flushed. Both buffers are allocated before the first read, and no memory after that.
 ghost use Rattle.std.specs.Prelude.{◌≡◌, ◌+◌, ◌-◌, ◌≤◌, [], drop, false, length, map, slice_range, IfErr};
 ghost use Rattle.ac_automaton.specs.Stream.{GoesOn, IsOnCourse, fresh_progress};
-ghost use Rattle.ac_automaton.specs.Stream.StreamReplace.{AcceptsReplacing, AcceptsReplacingAnyKind, AnswersDecided, AnswersMatch, CostsStream, HasSearched, IsBegun, IsPlaced, ReplacesStream};
+ghost use Rattle.ac_automaton.specs.Stream.StreamReplace.{AcceptsReplacing, AnswersDecided, AnswersMatch, CostsStream, HasSearched, IsBegun, IsPlaced, ReplacesStream};
 
 use super::search::StreamSearch;
 use crate::error::StreamError;
 use crate::output::Output;
 use crate::search::Search;
+use crate::stream::StreamKinds;
 use crate::watched::Watched;
 use ac_input::steps::Steps;
 use std::alloc::Global;
@@ -121,9 +122,10 @@ fn replace_read<A: Search, R: Read, W: Write>(
     output.send_all(writer, rest(stream.held(), from, end))
 }
 
-/// Writes the input with each match replaced by the replacement of its pattern, and counts what it does.
+/// Writes the input with each match replaced by the replacement of its pattern, and counts what it does. It accepts these kinds.
 pub fn replace_all_counted<A: Search, R: Read, W: Write>(
     automaton: &A,
+    kinds: StreamKinds,
     alloc: Global,
     reader: &mut Watched<R>,
     writer: &mut Watched<W>,
@@ -135,43 +137,12 @@ pub fn replace_all_counted<A: Search, R: Read, W: Write>(
         ≡ length (A.built automaton.now).dictionary.patterns }
     ensures replaced { ReplacesStream R.remaining W.contents (A.built automaton.now)
         (map (λ r. r.now) replacements.now) reader.old reader.new writer.old writer.new result }
-    ensures accepted { AcceptsReplacing (A.built automaton.now) (A.supports automaton.now)
+    ensures accepted { AcceptsReplacing kinds (A.built automaton.now) (A.supports automaton.now)
         reader.old reader.new writer.old writer.new result }
     ensures cost { CostsStream (A.built automaton.now) reader.old reader.new
         steps.old steps.new result }
 {
-    let mut stream = StreamSearch::new(automaton, alloc)?;
-    let mut output = Output::new(alloc)?;
-    replace_read(
-        &mut stream,
-        &mut output,
-        reader,
-        writer,
-        replacements,
-        steps,
-    )
-}
-
-/// The same under any kind.
-pub fn replace_all_any_kind_counted<A: Search, R: Read, W: Write>(
-    automaton: &A,
-    alloc: Global,
-    reader: &mut Watched<R>,
-    writer: &mut Watched<W>,
-    replacements: &[&[u8]],
-    steps: &mut Steps,
-) -> Result<(), StreamError>
-    requires open { reader.old.ended ≡ false }
-    requires one_each { length replacements.now
-        ≡ length (A.built automaton.now).dictionary.patterns }
-    ensures replaced { ReplacesStream R.remaining W.contents (A.built automaton.now)
-        (map (λ r. r.now) replacements.now) reader.old reader.new writer.old writer.new result }
-    ensures accepted { AcceptsReplacingAnyKind (A.built automaton.now) (A.supports automaton.now)
-        reader.old reader.new writer.old writer.new result }
-    ensures cost { CostsStream (A.built automaton.now) reader.old reader.new
-        steps.old steps.new result }
-{
-    let mut stream = StreamSearch::any_kind(automaton, alloc)?;
+    let mut stream = StreamSearch::new(automaton, kinds, alloc)?;
     let mut output = Output::new(alloc)?;
     replace_read(
         &mut stream,

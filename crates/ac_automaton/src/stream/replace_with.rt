@@ -10,12 +10,13 @@ ghost use Rattle.std.specs.Prelude.{◌≡◌, ◌+◌, false, length, IfErr, If
 ghost use Rattle.ac_automaton.specs.Replace.{IsForMatches, RepliesAt, TakesMatches};
 ghost use Rattle.ac_automaton.specs.Stream.{IsOnCourse, fresh_progress};
 ghost use Rattle.ac_automaton.specs.Stream.StreamReplace.{IsAtCut, IsPlaced};
-ghost use Rattle.ac_automaton.specs.Stream.StreamReplaceWith.{ReplacesAnyKindWith, ContinuesChain, PassesMatch, ReadsAndReplaces, ReplacesStreamWith, StopsChain};
+ghost use Rattle.ac_automaton.specs.Stream.StreamReplaceWith.{ContinuesChain, PassesMatch, ReadsAndReplaces, ReplacesStreamWith, StopsChain};
 
 use super::replace::{part, rest};
 use super::search::StreamSearch;
 use crate::error::StreamError;
 use crate::search::Search;
+use crate::stream::StreamKinds;
 use crate::watched::{Watched, write_whole};
 use ac_input::search::Match;
 use ac_input::steps::Steps;
@@ -128,9 +129,10 @@ where
     write_whole(writer, rest(stream.held(), from, end))
 }
 
-/// Writes the input, and in place of each match what the closure writes.
+/// Writes the input, and in place of each match what the closure writes. It accepts these kinds.
 pub fn replace_all_with<A: Search, R: Read, W: Write, F>(
     automaton: &A,
+    kinds: StreamKinds,
     alloc: Global,
     reader: &mut Watched<R>,
     writer: &mut Watched<W>,
@@ -141,31 +143,10 @@ where
     requires open { reader.old.ended ≡ false }
     requires ready { IsForMatches F.FnMut (length (A.built automaton.now).dictionary.patterns)
         replace_with }
-    ensures { ReplacesStreamWith W.contents F.FnMut R.remaining (A.built automaton.now)
+    ensures { ReplacesStreamWith W.contents F.FnMut R.remaining kinds (A.built automaton.now)
         (A.supports automaton.now) replace_with reader.old reader.new writer.old writer.new
         result }
 {
-    let mut stream = StreamSearch::new(automaton, alloc)?;
-    replace_read(&mut stream, reader, writer, &mut replace_with)
-}
-
-/// The same under any kind.
-pub fn replace_all_any_kind_with<A: Search, R: Read, W: Write, F>(
-    automaton: &A,
-    alloc: Global,
-    reader: &mut Watched<R>,
-    writer: &mut Watched<W>,
-    mut replace_with: F,
-) -> Result<(), StreamError>
-where
-    F: FnMut(&Match, &[u8], &mut Watched<W>) -> Result<(), StreamError>,
-    requires open { reader.old.ended ≡ false }
-    requires ready { IsForMatches F.FnMut (length (A.built automaton.now).dictionary.patterns)
-        replace_with }
-    ensures { ReplacesAnyKindWith W.contents F.FnMut R.remaining (A.built automaton.now)
-        (A.supports automaton.now) replace_with reader.old reader.new writer.old writer.new
-        result }
-{
-    let mut stream = StreamSearch::any_kind(automaton, alloc)?;
+    let mut stream = StreamSearch::new(automaton, kinds, alloc)?;
     replace_read(&mut stream, reader, writer, &mut replace_with)
 }

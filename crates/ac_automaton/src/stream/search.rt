@@ -21,7 +21,8 @@ ghost use Rattle.ac_automaton.specs.Stream.StreamPush.{Pushes};
 ghost use Rattle.ac_automaton.specs.Stream.StreamSearch.{searched_anew, some_of};
 ghost use Rattle.ac_automaton.specs.Stream.StreamWalk.{MayWalk, WalksOn};
 ghost use Rattle.ac_input.specs.Work.{shortest};
-ghost use Rattle.ac_automaton.specs.Stream.{AnswersNew, AnswersNewAnyKind, CanBeCounted, CanStreamAnyKind, IsAnyKindConfigRefusal, IsOutOfMemory, closed_by, fresh_progress, may_wait, CanStream, CountsNothing, FindsHeld, GoesOn, IsConfigRefusal, IsOnCourse, IsRolled, IsSearched, ReadsMore, StreamCounts, StreamProgress, cut_of, read_by, room_of};
+ghost use Rattle.ac_automaton.specs.Stream.{AnswersNew, CanBeCounted, IsOutOfMemory, closed_by, fresh_progress, may_wait, CanStream, CountsNothing, FindsHeld, GoesOn, IsConfigRefusal, IsOnCourse, IsRolled, IsSearched, ReadsMore, StreamCounts, StreamProgress, cut_of, read_by, room_of};
+ghost use Rattle.ac_automaton.specs.declared.stream.StreamKinds.TheVariants.{AnyKind};
 
 mod decide;
 
@@ -31,6 +32,7 @@ use crate::buffer::Buffer;
 use crate::error::{MatchError, StreamError};
 use crate::find::first_match;
 use crate::search::Search;
+use crate::stream::StreamKinds;
 use crate::watched::Watched;
 use ac_input::history::{Count, Pieces};
 use ac_input::primitives::StateID;
@@ -111,36 +113,21 @@ impl<A: Search> Model for StreamSearch<A> {
         (progress_at (A.built i.automaton) i.pieces.items i.given.value
         i.progress i.buffer i.sums)
         i.start i.progress.sid i.progress.best i.given.value i.buffer i.over
-        × AreNotes (A.Reaches i.automaton No) (A.matches i.automaton) i.buffer.bytes
-        i.ahead.notes };
+        × AreNotes A.Reaches A.matches i.automaton i.buffer.bytes i.ahead.notes };
 }
 
-/// The start state of a search of a stream, where the automaton can make one.
-fn configured<A: Automaton>(automaton: &A) -> Result<StateID, MatchError>
+/// The start state of a search of a stream that accepts these kinds, where the automaton can make one.
+fn configured<A: Automaton>(automaton: &A, kinds: StreamKinds) -> Result<StateID, MatchError>
     ensures start { IfOk result (λ sid. A.Reaches automaton.now Anchored.No [] sid) }
-    ensures can { OnOk result (CanStream (A.built automaton.now) (A.supports automaton.now)) }
-    ensures error { IfErr result (IsConfigRefusal (A.built automaton.now)
+    ensures can { OnOk result (CanStream kinds (A.built automaton.now) (A.supports automaton.now)) }
+    ensures error { IfErr result (IsConfigRefusal kinds (A.built automaton.now)
         (A.supports automaton.now)) }
 {
     let start = automaton.start_state(Anchored::No)?;
     let kind = automaton.match_kind();
-    if kind != MatchKind::Standard {
+    if kinds == StreamKinds::OnlyStandard && kind != MatchKind::Standard {
         return Err(MatchError::unsupported_stream(kind));
     }
-    if automaton.min_pattern_len() == 0 {
-        return Err(MatchError::unsupported_empty());
-    }
-    Ok(start)
-}
-
-/// The same under any kind.
-fn configured_any_kind<A: Automaton>(automaton: &A) -> Result<StateID, MatchError>
-    ensures start { IfOk result (λ sid. A.Reaches automaton.now Anchored.No [] sid) }
-    ensures can { OnOk result (CanStreamAnyKind (A.built automaton.now) (A.supports automaton.now)) }
-    ensures error { IfErr result (IsAnyKindConfigRefusal (A.built automaton.now)
-        (A.supports automaton.now)) }
-{
-    let start = automaton.start_state(Anchored::No)?;
     if automaton.min_pattern_len() == 0 {
         return Err(MatchError::unsupported_empty());
     }
@@ -186,12 +173,10 @@ pub(crate) fn search<A: Automaton>(
     steps: &mut Steps,
 ) -> Searched
     requires walk { MayWalk A.Automaton automaton.now start progress.now held.now }
-    requires known { AreNotes (A.Reaches automaton.now No) (A.matches automaton.now) held.now
-        ahead.old.notes }
+    requires known { AreNotes A.Reaches A.matches automaton.now held.now ahead.old.notes }
     ensures walk { WalksOn A.Automaton automaton.now start progress.now held.now result
         steps.old steps.new }
-    ensures known { AreNotes (A.Reaches automaton.now No) (A.matches automaton.now) held.now
-        ahead.new.notes }
+    ensures known { AreNotes A.Reaches A.matches automaton.now held.now ahead.new.notes }
 {
     match progress.best {
         Some(best) => decide(automaton, start, progress, best, held, steps),
@@ -210,12 +195,10 @@ fn search_first<A: Automaton>(
 ) -> Searched
     requires none { progress.now.best ≡ None }
     requires walk { MayWalk A.Automaton automaton.now start progress.now held.now }
-    requires known { AreNotes (A.Reaches automaton.now No) (A.matches automaton.now) held.now
-        ahead.old.notes }
+    requires known { AreNotes A.Reaches A.matches automaton.now held.now ahead.old.notes }
     ensures walk { WalksOn A.Automaton automaton.now start progress.now held.now result
         steps.old steps.new }
-    ensures known { AreNotes (A.Reaches automaton.now No) (A.matches automaton.now) held.now
-        ahead.new.notes }
+    ensures known { AreNotes A.Reaches A.matches automaton.now held.now ahead.new.notes }
 {
     let from = progress.at - progress.from;
     let stop = advance_to_match(automaton, progress.sid, held, from, ahead, steps);
@@ -306,21 +289,25 @@ impl<A: Search + Drop> StreamSearch<A> {
         })
     }
 
-    /// A search of a stream under the standard kind. Returns an error if the automaton can't make one, and otherwise if there is no
+    /// A search of a stream that accepts these kinds. Returns an error if the automaton can't make one, and otherwise if there is no
     /// memory for the buffer.
-    pub(crate) fn new(automaton: A, alloc: Global) -> Result<StreamSearch<A>, StreamError>
-        ensures { AnswersNew (A.built automaton) (A.supports automaton) result }
+    pub(crate) fn new(
+        automaton: A,
+        kinds: StreamKinds,
+        alloc: Global,
+    ) -> Result<StreamSearch<A>, StreamError>
+        ensures { AnswersNew kinds (A.built automaton) (A.supports automaton) result }
     {
-        let start = configured(&automaton)?;
+        let start = configured(&automaton, kinds)?;
         StreamSearch::beginning(automaton, start, alloc)
     }
 
-    /// The same under any kind. It takes one buffer of `max(65536, 8 * max(1, longest))` bytes.
+    /// A search of a stream under any kind. It takes one buffer of `max(65536, 8 * max(1, longest))` bytes. Returns an error if the
+    /// automaton can't make one, and otherwise if there is no memory for the buffer.
     pub fn any_kind(automaton: A, alloc: Global) -> Result<StreamSearch<A>, StreamError>
-        ensures { AnswersNewAnyKind (A.built automaton) (A.supports automaton) result }
+        ensures { AnswersNew AnyKind (A.built automaton) (A.supports automaton) result }
     {
-        let start = configured_any_kind(&automaton)?;
-        StreamSearch::beginning(automaton, start, alloc)
+        StreamSearch::new(automaton, StreamKinds::AnyKind, alloc)
     }
 }
 

@@ -9,7 +9,7 @@ use Rattle.ac_input.specs.Limits.{IsWithinLimits}
 use Rattle.ac_literal.specs.declared.openings.Openings.{Openings}
 use Rattle.ac_literal.specs.Openings.{AreOpenings, OpenAll}
 use Rattle.ac_literal.specs.Prefilter.{IsDemanded, IsAdmissible, IsPrefilterOf, IsWayOf}
-use Rattle.ac_noncontiguous.specs.Builder.{Settings, AreCompiled, IsBuiltBy, IsHeld}
+use Rattle.ac_noncontiguous.specs.Builder.{AreCompiled, IsBuiltBy, IsHeld}
 use Rattle.ac_noncontiguous.specs.Nfa.{AreParts}
 use Rattle.ac_noncontiguous.specs.Nfa.ReadCalls.{IsMadeOf}
 use Rattle.ac_noncontiguous.specs.Nfa.Reads.{built_as}
@@ -56,12 +56,12 @@ parts-of m from wanted tables held same compiled within is =
     (record { within = ∣ within ∣₁; stands = ∣ compiled.0 ∣₁; classed = ∣ compiled.1 ∣₁; held = λ f holds. (is.made f holds).2; paired = compiled.2 })
 
 -- the automaton is built by the settings
-pub built-by : (s : Settings) (m from : Dictionary) (tables : Tables) (held : Option Filter) (nfa : NFA) → from ≡ m → IsMadeOf from tables held nfa → IsHeld s.prefilter m held → IsWithinLimits m → IsBuiltBy s m (built_as nfa)
-built-by s m from tables held nfa same made is within =
+pub built-by : (wanted : Bool) (m from : Dictionary) (tables : Tables) (held : Option Filter) (nfa : NFA) → from ≡ m → IsMadeOf from tables held nfa → IsHeld wanted m held → IsWithinLimits m → IsBuiltBy wanted m (built_as nfa)
+built-by wanted m from tables held nfa same made is within =
     record {
       dictionary = made.dictionary ∙ same;
       looks = refl;
-      prefilter = subst (λ (o : Option Filter). IsHeld s.prefilter m o) (sym made.prefilter) is;
+      prefilter = subst (λ (o : Option Filter). IsHeld wanted m o) (sym made.prefilter) is;
       within = within;
     }
 

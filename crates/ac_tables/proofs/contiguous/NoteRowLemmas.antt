@@ -77,7 +77,7 @@ placed-note by bytes note placed h is =
     }
 
 -- a blank note, or each note in a list of notes of rows, gives a note of places
-pub placed-each : (by : ByRows) (bytes : List ℕ) (found : List Note) (slot : ℕ) (other placed : Note) → AreNotes (IsRowRead by No) (row_matches_at by) bytes found → slot < length found → IsBlank placed ⊎ IsNotePlaced by.rows.now (get_or found slot other) placed → IsNote (IsContiguousRead by.nfa.now No) (contiguous_matches_at by.nfa.now) bytes placed
+pub placed-each : (by : ByRows) (bytes : List ℕ) (found : List Note) (slot : ℕ) (other placed : Note) → AreNotes IsRowRead row_matches_at by bytes found → slot < length found → IsBlank placed ⊎ IsNotePlaced by.rows.now (get_or found slot other) placed → IsNote (IsContiguousRead by.nfa.now No) (contiguous_matches_at by.nfa.now) bytes placed
 placed-each by bytes found slot other placed known within told =
     ⊎_elim
     (λ (blank : IsBlank placed). blank-note (IsContiguousRead by.nfa.now No) (contiguous_matches_at by.nfa.now) bytes placed blank)

@@ -20,7 +20,8 @@ use Rattle.ac_tables.specs.declared.contiguous.table.Table.{Table}
 use Rattle.ac_automaton.specs.Named.{Naming, nowhere}
 use Rattle.ac_tables.specs.Contiguous.Words.{StateParts, words_of, AreWordsAt}
 use Rattle.ac_tables.specs.Contiguous.ContiguousTable.{AreStates, AreSomeStates, ArePlacesTooGreat}
-use Rattle.ac_tables.specs.Contiguous.ContiguousBuilder.{ContiguousSettings, IsRefusedFrom}
+use Rattle.ac_noncontiguous.specs.declared.settings.Settings.{Settings}
+use Rattle.ac_tables.specs.Contiguous.ContiguousBuilder.{IsRefusedFrom, contiguous_dense_depth}
 use Rattle.ac_tables.specs.TableClasses.{AreClassesFor, AreServing}
 use Rattle.ac_tables.specs.Contiguous.ContiguousBuild.{ArePlacesIn, IsCopiedTable, IsRefusedFor, AreRowsFrom, IsKnown}
 use Rattle.ac_tables.specs.Contiguous.ContiguousRows.{AreRowsIfAny, AreSameIfAny}
@@ -97,7 +98,7 @@ same-dictionary m patterns pairing kind p q k =
 -- ---- why no words can be made
 
 -- a place that is too great with the classes is too great by the settings
-pub refused-laid : (s : ContiguousSettings) (from : NFA) (classes : List ℕ) (error : BuildErrorKind) → AreClassesFor from s.byte_classes classes → IsRefusedFor from s.dense_depth classes error → IsRefusedFrom s from error
+pub refused-laid : (s : Settings) (from : NFA) (classes : List ℕ) (error : BuildErrorKind) → AreClassesFor from s.byte_classes classes → IsRefusedFor from (contiguous_dense_depth s) classes error → IsRefusedFrom s from error
 refused-laid s from classes (StateIDOverflow max requested) chosen h = (h.0, h.1, (classes, chosen, h.2))
 refused-laid s from classes (PatternIDOverflow max requested) chosen h = h
 refused-laid s from classes (PatternTooLong pattern len) chosen h = h

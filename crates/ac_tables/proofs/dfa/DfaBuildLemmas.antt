@@ -24,7 +24,8 @@ use Rattle.ac_noncontiguous.specs.Standing.{IsBuildRefused}
 use Rattle.ac_noncontiguous.specs.Nfa.ReadCalls.{state_len, special_in, classes_in, IsReadable}
 use Rattle.ac_tables.specs.declared.dfa.table.Table.{Table}
 use Rattle.ac_tables.specs.declared.dfa.DFA.{DFA}
-use Rattle.ac_tables.specs.Dfa.DfaBuild.{DfaSettings, IsDfaOf, IsTooLargeOr}
+use Rattle.ac_noncontiguous.specs.declared.settings.Settings.{Settings}
+use Rattle.ac_tables.specs.Dfa.DfaBuild.{IsDfaOf, IsTooLargeOr}
 use Rattle.ac_tables.specs.Dfa.DfaLists.{AreListsOf}
 use Rattle.ac_tables.specs.Dfa.DfaReads.{IsDfaMadeOf}
 use Rattle.ac_tables.specs.Dfa.DfaMade.{IsDfaTableOf, IsTableFor, IsTableRefused}
@@ -155,7 +156,7 @@ number-kept p anchored start sid fit is within = subst (λ (n : ℕ). dfa_number
 -- ---- the automaton
 
 -- a DFA with a table for the settings is made by the settings
-pub dfa-of : (s : DfaSettings) (nfa : NFA) (table : Table) (dfa : DFA) → IsTableFor nfa s.start_kind s.byte_classes table → IsDfaMadeOf (dictionary nfa) table (built_as nfa).prefilter dfa → IsDfaOf s nfa dfa
+pub dfa-of : (s : Settings) (nfa : NFA) (table : Table) (dfa : DFA) → IsTableFor nfa s.start_kind s.byte_classes table → IsDfaMadeOf (dictionary nfa) table (built_as nfa).prefilter dfa → IsDfaOf s nfa dfa
 dfa-of s nfa table dfa h made =
     let back = sym made.table in
     record {
@@ -168,21 +169,21 @@ dfa-of s nfa table dfa h made =
     }
 
 -- a refused table is a refused DFA
-pub refused-of : (s : DfaSettings) (nfa : NFA) (error : BuildErrorKind) → IsTableRefused nfa s.start_kind s.byte_classes error → IsTooLargeOr s (dictionary nfa) (λ _. ⊥) error
+pub refused-of : (s : Settings) (nfa : NFA) (error : BuildErrorKind) → IsTableRefused nfa s.start_kind s.byte_classes error → IsTooLargeOr s (dictionary nfa) (λ _. ⊥) error
 refused-of s nfa (StateIDOverflow max requested) h = inl h
 refused-of s nfa (PatternIDOverflow max requested) h = h
 refused-of s nfa (PatternTooLong pattern len) h = h
 refused-of s nfa Memory h = h
 
 -- a DFA that is refused for an automaton is refused for its patterns
-pub refused-from : (s : DfaSettings) (m : Dictionary) (nfa : NFA) (error : BuildErrorKind) (other : BuildErrorKind → Type 0) → dictionary nfa ≡ m → IsTooLargeOr s (dictionary nfa) (λ _. ⊥) error → IsTooLargeOr s m other error
+pub refused-from : (s : Settings) (m : Dictionary) (nfa : NFA) (error : BuildErrorKind) (other : BuildErrorKind → Type 0) → dictionary nfa ≡ m → IsTooLargeOr s (dictionary nfa) (λ _. ⊥) error → IsTooLargeOr s m other error
 refused-from s m nfa (StateIDOverflow max requested) other is h = ⊎_elim (λ (large : (max ≡ greatest_number) × (max < requested) × ∥ IsDfaTooLarge (dictionary nfa) s.start_kind s.byte_classes ∥₁). inl (large.0, large.1, subst (λ (d : Dictionary). ∥ IsDfaTooLarge d s.start_kind s.byte_classes ∥₁) is large.2)) (λ (never : ⊥). absurd never) h
 refused-from s m nfa (PatternIDOverflow max requested) other is h = absurd h
 refused-from s m nfa (PatternTooLong pattern len) other is h = absurd h
 refused-from s m nfa Memory other is h = h
 
 -- if the automaton can't be built from the patterns, no DFA can
-pub refused-parts : (s : DfaSettings) (m : Dictionary) (error : BuildErrorKind) → IsBuildRefused m error → IsTooLargeOr s m (IsBuildRefused m) error
+pub refused-parts : (s : Settings) (m : Dictionary) (error : BuildErrorKind) → IsBuildRefused m error → IsTooLargeOr s m (IsBuildRefused m) error
 refused-parts s m (StateIDOverflow max requested) h = inr h
 refused-parts s m (PatternIDOverflow max requested) h = h
 refused-parts s m (PatternTooLong pattern len) h = h

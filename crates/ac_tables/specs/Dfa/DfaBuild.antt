@@ -1,19 +1,15 @@
--- The settings of a builder of DFAs, and what is built.
-use Rattle.std.specs.Prelude.{◌≡◌, ◌⊎◌, ℕ, ◌/◌, ◌<◌, Bool, true, List, length}
+-- What is built by the settings of a builder of DFAs.
+use Rattle.std.specs.Prelude.{◌≡◌, ◌⊎◌, ℕ, ◌/◌, ◌<◌, true, List, length}
 use Rattle.std.specs.Borrow.{Bor}
 use Rattle.ac_input.specs.Number.{greatest_number}
-use Rattle.ac_input.specs.declared.search.MatchKind.{MatchKind}
-use Rattle.ac_input.specs.declared.search.MatchKind.TheVariants.{Standard}
-use Rattle.ac_input.specs.declared.search.StartKind.{StartKind}
-use Rattle.ac_input.specs.declared.search.StartKind.TheVariants as starts
 use Rattle.ac_input.specs.Dfa.{IsDfaTooLarge, dfa_states}
 use Rattle.ac_input.specs.Dictionary.{Dictionary}
-use Rattle.ac_input.specs.Same.{IsUnpaired}
 use Rattle.ac_automaton.specs.Automaton.{Built}
 use Rattle.ac_noncontiguous.specs.declared.error.BuildErrorKind.{BuildErrorKind}
 use Rattle.ac_noncontiguous.specs.declared.error.BuildErrorKind.TheVariants.{StateIDOverflow, PatternIDOverflow, PatternTooLong, Memory}
 use Rattle.ac_noncontiguous.specs.declared.nfa.NFA.{NFA}
-use Rattle.ac_noncontiguous.specs.Builder.{Settings, IsBuiltOf, dictionary_by}
+use Rattle.ac_noncontiguous.specs.declared.settings.Settings.{Settings}
+use Rattle.ac_noncontiguous.specs.Builder.{IsBuiltOf, dictionary_by}
 use Rattle.ac_noncontiguous.specs.Nfa.Reads.{built_as, dictionary}
 use Rattle.ac_noncontiguous.specs.Nfa.ReadCalls.{state_len}
 use Rattle.ac_noncontiguous.specs.Standing.{IsBuildRefused}
@@ -21,23 +17,6 @@ use Rattle.ac_tables.specs.declared.dfa.DFA.{DFA}
 use Rattle.ac_tables.specs.TableClasses.{AreClassesFor}
 use Rattle.ac_tables.specs.Dfa.DfaReads.{dfa_built_as}
 use Rattle.ac_tables.specs.Dfa.DfaTable.{AreTransitionsOf, stride_of}
-
--- the match kind, the paired bytes, whether a prefilter is wanted, which searches have a start, and whether bytes are put into
--- classes
-pub record DfaSettings : Type 0 where
-  pub kind : MatchKind
-  pub pairing : List ℕ
-  pub prefilter : Bool
-  pub start_kind : StartKind
-  pub byte_classes : Bool
-
--- the default settings
-pub record AreDfaDefaults (s : DfaSettings) : Type 0 where
-  pub kind : s.kind ≡ Standard
-  pub pairing : IsUnpaired s.pairing
-  pub prefilter : s.prefilter ≡ true
-  pub start_kind : s.start_kind ≡ starts.Unanchored
-  pub byte_classes : s.byte_classes ≡ true
 
 -- ---- what a DFA is
 
@@ -53,7 +32,7 @@ determined built = record built { deterministic = true }
 
 -- A DFA is made from an automaton by the settings, which give its starts and its classes. It is built as the automaton is, its
 -- table has the automaton's states, and it isn't too large.
-pub record IsDfaOf (s : DfaSettings) (nfa : NFA) (dfa : DFA) : Type 0 where
+pub record IsDfaOf (s : Settings) (nfa : NFA) (dfa : DFA) : Type 0 where
   pub built : dfa_built_as dfa ≡ determined (built_as nfa)
   pub starts : dfa.table.kind ≡ s.start_kind
   pub classes : AreClassesFor nfa s.byte_classes dfa.table.classes
@@ -62,7 +41,7 @@ pub record IsDfaOf (s : DfaSettings) (nfa : NFA) (dfa : DFA) : Type 0 where
   pub within : ¬ IsDfaTooLarge (dictionary nfa) s.start_kind s.byte_classes
 
 -- Why a build fails: the dictionary's table would be too large, out of memory, or the error is one of the others.
-abbrev pub IsTooLargeOr : DfaSettings → Dictionary → (BuildErrorKind → Type 0) → BuildErrorKind → Type 0
+abbrev pub IsTooLargeOr : Settings → Dictionary → (BuildErrorKind → Type 0) → BuildErrorKind → Type 0
 IsTooLargeOr s m other (StateIDOverflow max requested) = ((max ≡ greatest_number) × (max < requested) × ∥ IsDfaTooLarge m s.start_kind s.byte_classes ∥₁) ⊎ other (StateIDOverflow max requested)
 IsTooLargeOr s m other (PatternIDOverflow max requested) = other (PatternIDOverflow max requested)
 IsTooLargeOr s m other (PatternTooLong pattern len) = other (PatternTooLong pattern len)
@@ -70,24 +49,13 @@ IsTooLargeOr s m other Memory = Unit {0}
 
 -- ---- built from patterns
 
--- the settings of the automaton from which a DFA is made
-abbrev pub parts_by : DfaSettings → Settings
-parts_by s = record { kind = s.kind; pairing = s.pairing; dense_depth = 0; prefilter = s.prefilter }
-
 -- a DFA is made from an automaton that was built from these patterns
-abbrev pub IsDfaBuilt : DfaSettings → List (Bor (List ℕ)) → DFA → Type 0
-IsDfaBuilt s patterns dfa = (nfa : NFA) × IsBuiltOf (parts_by s) patterns (built_as nfa) × IsDfaOf s nfa dfa
+abbrev pub IsDfaBuilt : Settings → List (Bor (List ℕ)) → DFA → Type 0
+IsDfaBuilt s patterns dfa = (nfa : NFA) × IsBuiltOf s patterns (built_as nfa) × IsDfaOf s nfa dfa
 
 -- why no DFA can be built from these patterns
-abbrev pub IsDfaBuildRefused : DfaSettings → List (Bor (List ℕ)) → BuildErrorKind → Type 0
-IsDfaBuildRefused s patterns error = IsTooLargeOr s (dictionary_by (parts_by s) patterns) (IsBuildRefused (dictionary_by (parts_by s) patterns)) error
-
--- what a build by the default settings results in: a DFA, or an error
-abbrev pub IsDfaBuiltByDefault : List (Bor (List ℕ)) → DFA → Type 0
-IsDfaBuiltByDefault patterns dfa = (s : DfaSettings) × AreDfaDefaults s × IsDfaBuilt s patterns dfa
-
-abbrev pub IsDfaRefusedByDefault : List (Bor (List ℕ)) → BuildErrorKind → Type 0
-IsDfaRefusedByDefault patterns error = (s : DfaSettings) × AreDfaDefaults s × IsDfaBuildRefused s patterns error
+abbrev pub IsDfaBuildRefused : Settings → List (Bor (List ℕ)) → BuildErrorKind → Type 0
+IsDfaBuildRefused s patterns error = IsTooLargeOr s (dictionary_by s patterns) (IsBuildRefused (dictionary_by s patterns)) error
 
 -- ---- copies
 

@@ -3,11 +3,12 @@
 //! It is made from a noncontiguous automaton, state by state: first all places are found, then the words are written with their
 //! final numbers. It takes time and memory in proportion to the transitions and lists of that automaton, and `alphabet_len` words
 //! more for each dense state. Rows beside them take what the rows of a DFA do, and are made only where that is little.
-ghost use Rattle.std.specs.Prelude.{◌≡◌, IfOk, IfErr, Bool};
+ghost use Rattle.std.specs.Prelude.{◌≡◌, Some, IfOk, IfErr, Bool};
 ghost use Rattle.ac_input.specs.Pairing.{IsFolded};
+ghost use Rattle.ac_noncontiguous.specs.Builder.{AreDefaultSettings, ByDefault};
 ghost use Rattle.ac_noncontiguous.specs.Nfa.Reads.{dictionary};
 ghost use Rattle.ac_tables.specs.Contiguous.ContiguousBuild.{IsRefusedFor};
-ghost use Rattle.ac_tables.specs.Contiguous.ContiguousBuilder.{AreContiguousDefaults, IsLaidOf, IsMadeFrom, IsRefusedFrom, IsContiguousBuilt, IsContiguousBuildRefused, IsContiguousBuiltByDefault, IsContiguousRefusedByDefault, noncontiguous_of};
+ghost use Rattle.ac_tables.specs.Contiguous.ContiguousBuilder.{IsLaidOf, IsMadeFrom, IsRefusedFrom, IsContiguousBuilt, IsContiguousBuildRefused};
 ghost use Rattle.ac_tables.specs.TableClasses.{AreServing, AreClassesFor};
 
 use crate::contiguous::NFA;
@@ -16,22 +17,21 @@ use crate::contiguous::places::lay_out;
 use crate::contiguous::rows::Rows;
 use crate::contiguous::states::words;
 use crate::contiguous::table::Table;
-use crate::source::classes_of;
+use crate::source::{classes_of, source_of};
 use ac_automaton::automaton::Automaton;
 use ac_automaton::held::clone_held;
 use ac_input::alphabet::ByteClasses;
 use ac_input::pairing::Pairing;
 use ac_input::search::MatchKind;
 use ac_noncontiguous::error::BuildError;
-use ac_noncontiguous::{builder, nfa};
+use ac_noncontiguous::nfa;
+pub use ac_noncontiguous::settings::ROW_MEMORY;
+use ac_noncontiguous::settings::{Settings, case_pairing};
 use std::alloc::Global;
 use std::marker::Model;
 
 /// To which depth states are dense where nothing else is set: the starts, and those of one byte.
 const DENSE_DEPTH: usize = 2;
-
-/// How many bytes rows may take where nothing else is set: 16 MiB.
-pub const ROW_MEMORY: usize = 16777216;
 
 /// The words of an automaton, and its rows, if there are any.
 #[derive(Drop)]
@@ -87,45 +87,35 @@ fn lay(
 /// ```
 #[derive(Clone, Drop)]
 pub struct Builder {
-    kind: MatchKind,
-    pairing: Pairing,
-    prefilter: bool,
-    dense_depth: usize,
-    byte_classes: bool,
-    row_memory: usize,
+    settings: Settings,
 }
 
 impl Model for Builder {
-    ghost use Rattle.ac_tables.specs.Contiguous.ContiguousBuilder.{ContiguousSettings};
+    ghost use Rattle.ac_noncontiguous.specs.declared.settings.Settings.{Settings};
 
-    ghost Value = { ContiguousSettings };
+    ghost Value = { Settings };
 
-    ghost view = { λ b. record {
-      kind = b.kind;
-      pairing = b.pairing;
-      prefilter = b.prefilter;
-      dense_depth = b.dense_depth;
-      byte_classes = b.byte_classes;
-      row_memory = b.row_memory;
-    } };
+    ghost view = { λ b. b.settings };
 
-    ghost inverse = { λ s. record {
-      kind = s.kind;
-      pairing = s.pairing;
-      prefilter = s.prefilter;
-      dense_depth = s.dense_depth;
-      byte_classes = s.byte_classes;
-      row_memory = s.row_memory;
-    } };
+    ghost inverse = { λ s. record { settings = s } };
 }
 
 impl Default for Builder {
-    ghost use Rattle.ac_tables.specs.Contiguous.ContiguousBuilder.{AreContiguousDefaults};
+    ghost use Rattle.ac_noncontiguous.specs.Builder.{AreDefaultSettings};
 
-    ghost is_default = { AreContiguousDefaults };
+    ghost is_default = { AreDefaultSettings };
 
     fn default() -> Builder {
         Builder::new()
+    }
+}
+
+impl From<Settings> for Builder {
+    ghost from_gives = { λ settings made. made ≡ settings };
+
+    /// A builder with these settings, of which the start kind changes nothing here.
+    fn from(settings: Settings) -> Builder {
+        Builder { settings }
     }
 }
 
@@ -133,24 +123,19 @@ impl Builder {
     /// Standard matches, no byte paired, a prefilter wanted, dense states of less than two bytes, and bytes put into classes. It
     /// takes no memory.
     pub fn new() -> Builder
-        ensures { AreContiguousDefaults result }
+        ensures { AreDefaultSettings result }
     {
         Builder {
-            kind: MatchKind::Standard,
-            pairing: Pairing::none(),
-            prefilter: true,
-            dense_depth: DENSE_DEPTH,
-            byte_classes: true,
-            row_memory: ROW_MEMORY,
+            settings: Settings::new(),
         }
     }
 
     /// Sets which of several overlapping occurrences is the match.
     pub fn match_kind(&mut self, kind: MatchKind) -> &mut Builder
         ensures same { result.ghost_name ≡ self.entry.ghost_name }
-        ensures value { result.now ≡ record self.old { kind = kind } }
+        ensures value { result.now ≡ record self.old { match_kind = kind } }
     {
-        self.kind = kind;
+        self.settings.match_kind = kind;
         self
     }
 
@@ -161,12 +146,7 @@ impl Builder {
         ensures rest { result.now ≡ record self.old { pairing = result.now.pairing } }
         ensures pairing { IsFolded yes result.now.pairing }
     {
-        let pairing = if yes {
-            Pairing::ascii()
-        } else {
-            Pairing::none()
-        };
-        self.pairing(pairing)
+        self.pairing(case_pairing(yes))
     }
 
     /// Sets which bytes stand for one another. At first none does.
@@ -174,7 +154,7 @@ impl Builder {
         ensures same { result.ghost_name ≡ self.entry.ghost_name }
         ensures value { result.now ≡ record self.old { pairing = pairing } }
     {
-        self.pairing = pairing;
+        self.settings.pairing = pairing;
         self
     }
 
@@ -183,7 +163,7 @@ impl Builder {
         ensures same { result.ghost_name ≡ self.entry.ghost_name }
         ensures value { result.now ≡ record self.old { prefilter = yes } }
     {
-        self.prefilter = yes;
+        self.settings.prefilter = yes;
         self
     }
 
@@ -194,9 +174,9 @@ impl Builder {
     /// and its build may fail as that of a DFA does.
     pub fn dense_depth(&mut self, depth: usize) -> &mut Builder
         ensures same { result.ghost_name ≡ self.entry.ghost_name }
-        ensures value { result.now ≡ record self.old { dense_depth = depth } }
+        ensures value { result.now ≡ record self.old { dense_depth = Some depth } }
     {
-        self.dense_depth = depth;
+        self.settings.dense_depth = Some(depth);
         self
     }
 
@@ -206,7 +186,7 @@ impl Builder {
         ensures same { result.ghost_name ≡ self.entry.ghost_name }
         ensures value { result.now ≡ record self.old { byte_classes = yes } }
     {
-        self.byte_classes = yes;
+        self.settings.byte_classes = yes;
         self
     }
 
@@ -219,7 +199,7 @@ impl Builder {
         ensures same { result.ghost_name ≡ self.entry.ghost_name }
         ensures value { result.now ≡ record self.old { row_memory = bytes } }
     {
-        self.row_memory = bytes;
+        self.settings.row_memory = bytes;
         self
     }
 
@@ -241,9 +221,11 @@ impl Builder {
         ensures made { IfOk result (IsMadeFrom self.now nfa.now) }
         ensures refused { IfErr result (IsRefusedFrom self.now nfa.now) }
     {
-        let classes = classes_of(nfa, self.byte_classes)?;
+        let settings = &self.settings;
+        let classes = classes_of(nfa, settings.byte_classes)?;
         let pairing = *nfa.pairing();
-        let laid = lay(alloc, nfa, self.dense_depth, self.row_memory, classes)?;
+        let dense_depth = settings.dense_depth.unwrap_or(DENSE_DEPTH);
+        let laid = lay(alloc, nfa, dense_depth, settings.row_memory, classes)?;
         let lens = nfa.pattern_lens().clone(alloc)?;
         let prefilter = clone_held(alloc, nfa.prefilter())?;
         let openings = nfa.openings();
@@ -251,18 +233,6 @@ impl Builder {
         Ok(NFA::from_parts(
             laid.table, laid.rows, lens, prefilter, openings, pairing, kind,
         ))
-    }
-
-    /// The settings of the noncontiguous automaton, which needs no rows.
-    fn noncontiguous(&self) -> builder::Builder
-        ensures { result ≡ noncontiguous_of self.now }
-    {
-        let mut builder = builder::Builder::new();
-        builder.match_kind(self.kind);
-        builder.pairing(self.pairing);
-        builder.dense_depth(0);
-        builder.prefilter(self.prefilter);
-        builder
     }
 
     /// Builds the automaton of the patterns, which are numbered from 0 in this order.
@@ -283,7 +253,7 @@ impl Builder {
         ensures built { IfOk result (IsContiguousBuilt self.now patterns.now) }
         ensures refused { IfErr result (IsContiguousBuildRefused self.now patterns.now) }
     {
-        let nfa = self.noncontiguous().build(alloc, patterns)?;
+        let nfa = source_of(alloc, self.settings, patterns)?;
         self.build_from_noncontiguous(alloc, &nfa)
     }
 }
@@ -293,15 +263,16 @@ impl NFA {
     ///
     /// Its errors and its cost are those of [`Builder::build`].
     pub fn new(alloc: Global, patterns: &[&[u8]]) -> Result<NFA, BuildError>
-        ensures built { IfOk result (IsContiguousBuiltByDefault patterns.now) }
-        ensures refused { IfErr result (IsContiguousRefusedByDefault patterns.now) }
+        ensures built { IfOk result (λ nfa. ByDefault (λ s. IsContiguousBuilt s patterns.now nfa)) }
+        ensures refused { IfErr result
+            (λ error. ByDefault (λ s. IsContiguousBuildRefused s patterns.now error)) }
     {
         Builder::new().build(alloc, patterns)
     }
 
     /// A builder with the settings that it has at first. It takes no memory.
     pub fn builder() -> Builder
-        ensures { AreContiguousDefaults result }
+        ensures { AreDefaultSettings result }
     {
         Builder::new()
     }

@@ -128,10 +128,9 @@ impl NFA {
         requires held { self.now.rows ≡ Some rows.now }
         requires reached { IsReached (IsContiguousRead self.now No) sid }
         requires within { at ≤ length bytes.now }
-        requires known { AreNotes (IsContiguousRead self.now No) (contiguous_matches_at self.now)
+        requires known { AreNotes IsContiguousRead contiguous_matches_at self.now
             bytes.now notes.old }
-        ensures { AreNotes (IsContiguousRead self.now No) (contiguous_matches_at self.now)
-            bytes.now notes.new }
+        ensures { AreNotes IsContiguousRead contiguous_matches_at self.now bytes.now notes.new }
     {
         let Some(row) = rows.row_of(sid) else {
             return 0;

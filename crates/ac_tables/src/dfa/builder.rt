@@ -5,7 +5,8 @@
 //! the table: the number of states times the stride, twice that with both starts.
 ghost use Rattle.std.specs.Prelude.{◌≡◌, IfOk, IfErr};
 ghost use Rattle.ac_input.specs.Pairing.{IsFolded};
-ghost use Rattle.ac_tables.specs.Dfa.DfaBuild.{AreDfaDefaults, IsDfaOf, IsDfaBuilt, IsDfaBuildRefused, IsDfaBuiltByDefault, IsDfaRefusedByDefault, parts_by, IsTooLargeOr};
+ghost use Rattle.ac_tables.specs.Dfa.DfaBuild.{IsDfaOf, IsDfaBuilt, IsDfaBuildRefused, IsTooLargeOr};
+ghost use Rattle.ac_noncontiguous.specs.Builder.{AreDefaultSettings, ByDefault};
 ghost use Rattle.ac_noncontiguous.specs.Nfa.Reads.{dictionary};
 ghost use Rattle.ac_tables.specs.Dfa.DfaMade.{IsTableFor, IsTableRefused};
 
@@ -14,14 +15,14 @@ use crate::dfa::fill::Filler;
 use crate::dfa::lists::Lists;
 use crate::dfa::numbers::{Numbers, check_size, rows};
 use crate::dfa::table::Table;
-use crate::source::classes_of;
+use crate::source::{classes_of, source_of};
 use ac_automaton::automaton::Automaton;
 use ac_automaton::held::clone_held;
 use ac_input::pairing::Pairing;
 use ac_input::search::{Anchored, MatchKind, StartKind};
-use ac_noncontiguous::builder;
 use ac_noncontiguous::error::BuildError;
 use ac_noncontiguous::nfa::NFA;
+use ac_noncontiguous::settings::{Settings, case_pairing};
 use std::alloc::Global;
 use std::marker::Model;
 
@@ -34,42 +35,35 @@ use std::marker::Model;
 /// ```
 #[derive(Clone, Drop)]
 pub struct Builder {
-    kind: MatchKind,
-    pairing: Pairing,
-    prefilter: bool,
-    start_kind: StartKind,
-    byte_classes: bool,
+    settings: Settings,
 }
 
 impl Model for Builder {
-    ghost use Rattle.ac_tables.specs.Dfa.DfaBuild.{DfaSettings};
+    ghost use Rattle.ac_noncontiguous.specs.declared.settings.Settings.{Settings};
 
-    ghost Value = { DfaSettings };
+    ghost Value = { Settings };
 
-    ghost view = { λ b. record {
-      kind = b.kind;
-      pairing = b.pairing;
-      prefilter = b.prefilter;
-      start_kind = b.start_kind;
-      byte_classes = b.byte_classes;
-    } };
+    ghost view = { λ b. b.settings };
 
-    ghost inverse = { λ s. record {
-      kind = s.kind;
-      pairing = s.pairing;
-      prefilter = s.prefilter;
-      start_kind = s.start_kind;
-      byte_classes = s.byte_classes;
-    } };
+    ghost inverse = { λ s. record { settings = s } };
 }
 
 impl Default for Builder {
-    ghost use Rattle.ac_tables.specs.Dfa.DfaBuild.{AreDfaDefaults};
+    ghost use Rattle.ac_noncontiguous.specs.Builder.{AreDefaultSettings};
 
-    ghost is_default = { AreDfaDefaults };
+    ghost is_default = { AreDefaultSettings };
 
     fn default() -> Builder {
         Builder::new()
+    }
+}
+
+impl From<Settings> for Builder {
+    ghost from_gives = { λ settings made. made ≡ settings };
+
+    /// A builder with these settings, of which the depth and the memory for rows change nothing here.
+    fn from(settings: Settings) -> Builder {
+        Builder { settings }
     }
 }
 
@@ -113,23 +107,19 @@ impl Builder {
     /// Standard matches, no byte paired, a prefilter wanted, a start for unanchored searches alone, and bytes in classes. It takes
     /// no memory.
     pub fn new() -> Builder
-        ensures { AreDfaDefaults result }
+        ensures { AreDefaultSettings result }
     {
         Builder {
-            kind: MatchKind::Standard,
-            pairing: Pairing::none(),
-            prefilter: true,
-            start_kind: StartKind::Unanchored,
-            byte_classes: true,
+            settings: Settings::new(),
         }
     }
 
     /// Sets which of several overlapping occurrences is the match.
     pub fn match_kind(&mut self, kind: MatchKind) -> &mut Builder
         ensures same { result.ghost_name ≡ self.entry.ghost_name }
-        ensures value { result.now ≡ record self.old { kind = kind } }
+        ensures value { result.now ≡ record self.old { match_kind = kind } }
     {
-        self.kind = kind;
+        self.settings.match_kind = kind;
         self
     }
 
@@ -140,12 +130,7 @@ impl Builder {
         ensures rest { result.now ≡ record self.old { pairing = result.now.pairing } }
         ensures pairing { IsFolded yes result.now.pairing }
     {
-        let pairing = if yes {
-            Pairing::ascii()
-        } else {
-            Pairing::none()
-        };
-        self.pairing(pairing)
+        self.pairing(case_pairing(yes))
     }
 
     /// Sets which bytes stand for one another. At first none does.
@@ -153,7 +138,7 @@ impl Builder {
         ensures same { result.ghost_name ≡ self.entry.ghost_name }
         ensures value { result.now ≡ record self.old { pairing = pairing } }
     {
-        self.pairing = pairing;
+        self.settings.pairing = pairing;
         self
     }
 
@@ -162,7 +147,7 @@ impl Builder {
         ensures same { result.ghost_name ≡ self.entry.ghost_name }
         ensures value { result.now ≡ record self.old { prefilter = yes } }
     {
-        self.prefilter = yes;
+        self.settings.prefilter = yes;
         self
     }
 
@@ -172,7 +157,7 @@ impl Builder {
         ensures same { result.ghost_name ≡ self.entry.ghost_name }
         ensures value { result.now ≡ record self.old { start_kind = kind } }
     {
-        self.start_kind = kind;
+        self.settings.start_kind = kind;
         self
     }
 
@@ -182,7 +167,7 @@ impl Builder {
         ensures same { result.ghost_name ≡ self.entry.ghost_name }
         ensures value { result.now ≡ record self.old { byte_classes = yes } }
     {
-        self.byte_classes = yes;
+        self.settings.byte_classes = yes;
         self
     }
 
@@ -205,7 +190,8 @@ impl Builder {
         ensures built { IfOk result (IsDfaOf self.now nfa.now) }
         ensures refused { IfErr result (IsTooLargeOr self.now (dictionary nfa.now) (λ _. ⊥)) }
     {
-        let table = Table::of(alloc, nfa, self.start_kind, self.byte_classes)?;
+        let settings = &self.settings;
+        let table = Table::of(alloc, nfa, settings.start_kind, settings.byte_classes)?;
         let lens = nfa.pattern_lens().clone(alloc)?;
         let prefilter = clone_held(alloc, nfa.prefilter())?;
         let openings = nfa.openings();
@@ -217,19 +203,6 @@ impl Builder {
             *nfa.pairing(),
             nfa.match_kind(),
         ))
-    }
-
-    /// The builder of the automaton from which the DFA is made.
-    fn noncontiguous(&self) -> builder::Builder
-        ensures { result ≡ parts_by self.now }
-    {
-        let mut builder = builder::Builder::new();
-        builder
-            .match_kind(self.kind)
-            .pairing(self.pairing)
-            .prefilter(self.prefilter)
-            .dense_depth(0);
-        builder
     }
 
     /// Builds the DFA of the patterns, which are numbered from 0 in this order.
@@ -250,7 +223,7 @@ impl Builder {
         ensures built { IfOk result (IsDfaBuilt self.now patterns.now) }
         ensures refused { IfErr result (IsDfaBuildRefused self.now patterns.now) }
     {
-        let nfa = self.noncontiguous().build(alloc, patterns)?;
+        let nfa = source_of(alloc, self.settings, patterns)?;
         self.build_from_noncontiguous(alloc, &nfa)
     }
 }
@@ -261,15 +234,16 @@ impl DFA {
     ///
     /// Its errors and its cost are those of [`Builder::build`].
     pub fn new(alloc: Global, patterns: &[&[u8]]) -> Result<DFA, BuildError>
-        ensures built { IfOk result (IsDfaBuiltByDefault patterns.now) }
-        ensures refused { IfErr result (IsDfaRefusedByDefault patterns.now) }
+        ensures built { IfOk result (λ dfa. ByDefault (λ s. IsDfaBuilt s patterns.now dfa)) }
+        ensures refused { IfErr result
+            (λ error. ByDefault (λ s. IsDfaBuildRefused s patterns.now error)) }
     {
         Builder::new().build(alloc, patterns)
     }
 
     /// A builder with the settings that it has at first. It takes no memory.
     pub fn builder() -> Builder
-        ensures { AreDfaDefaults result }
+        ensures { AreDefaultSettings result }
     {
         Builder::new()
     }

@@ -8,8 +8,8 @@ use Rattle.ac_input.specs.declared.search.Anchored.TheVariants.{No}
 use Rattle.ac_input.specs.declared.search.StartKind.{StartKind}
 use Rattle.ac_noncontiguous.specs.declared.error.BuildErrorKind.{BuildErrorKind}
 use Rattle.ac_noncontiguous.specs.declared.error.BuildErrorKind.TheVariants as limits
+use Rattle.ac_noncontiguous.specs.declared.settings.Settings.{Settings as BuildSettings}
 use Rattle.aho_corasick.specs.AhoCorasick.{as_built, serving_engine, start_kind_of}
-use Rattle.aho_corasick.specs.Builder.{FrontSettings}
 use Rattle.aho_corasick.specs.Engine.{kind_served}
 use Rattle.aho_corasick.specs.Served.{IsFrontBuilt, IsFrontBuildRefused, IsServed, TakesDfa}
 use Rattle.aho_corasick.specs.declared.ahocorasick.AhoCorasick.{AhoCorasick}
@@ -17,7 +17,7 @@ use Rattle.aho_corasick.specs.declared.ahocorasick.AhoCorasickKind.{AhoCorasickK
 use Rattle.aho_corasick.specs.declared.ahocorasick.AhoCorasickKind.TheVariants as kinds
 use Rattle.aho_corasick.proofs.lemmas.EngineLemmas.{front-deterministic}
 use Rattle.acsub.specs.Finder.{FailsToBuild, IsFinderOf, IsServing, not_built}
-use Rattle.acsub.specs.Served.{IsAutomatonFor, IsBuildable, IsServedByDfa, automaton_named, builder_settings, dictionary_for}
+use Rattle.acsub.specs.Served.{IsAutomatonFor, IsBuildable, IsServedByDfa, automaton_named, builder_by, dictionary_for}
 use Rattle.acsub.specs.Rules.Sides.{rule_patterns}
 use Rattle.acsub.specs.declared.prepared.Finder.{Finder}
 use Rattle.acsub.specs.declared.prepared.Finder.TheVariants as finders
@@ -26,7 +26,7 @@ use Rattle.acsub.specs.declared.settings.Engine.TheVariants as engines
 use Rattle.acsub.specs.declared.settings.Settings.{Settings}
 
 -- if the front takes a DFA, the automaton that it serves is one
-taken-dfa : (s : FrontSettings) (m : Dictionary) (kind : AhoCorasickKind) → TakesDfa s m → IsServed None s m kind → kind ≡ kinds.DFA
+taken-dfa : (s : BuildSettings) (m : Dictionary) (kind : AhoCorasickKind) → TakesDfa s m → IsServed None s m kind → kind ≡ kinds.DFA
 taken-dfa s m kinds.DFA takes taken = refl
 taken-dfa s m kinds.ContiguousNFA takes taken = absurd (taken.0 takes)
 taken-dfa s m kinds.NoncontiguousNFA takes taken = absurd (taken.0 takes)
@@ -34,15 +34,15 @@ taken-dfa s m kinds.NoncontiguousNFA takes taken = absurd (taken.0 takes)
 -- if a DFA serves settings and rules, the automaton for them is one
 served-dfa : (settings : Settings) (rules : List Rule) (kind : AhoCorasickKind) → IsAutomatonFor settings rules kind → IsServedByDfa settings rules → kind ≡ kinds.DFA
 served-dfa settings rules kind served (inl named) =
-    (subst (λ (e : Engine). IsServed (automaton_named e) (builder_settings settings) (dictionary_for settings rules) kind) named served).0
+    (subst (λ (e : Engine). IsServed (automaton_named e) (builder_by settings).settings (dictionary_for settings rules) kind) named served).0
 served-dfa settings rules kind served (inr (auto, takes)) =
-    taken-dfa (builder_settings settings) (dictionary_for settings rules) kind takes
-    (subst (λ (e : Engine). IsServed (automaton_named e) (builder_settings settings) (dictionary_for settings rules) kind) auto served)
+    taken-dfa (builder_by settings).settings (dictionary_for settings rules) kind takes
+    (subst (λ (e : Engine). IsServed (automaton_named e) (builder_by settings).settings (dictionary_for settings rules) kind) auto served)
 
 -- what the builder made of the rules' patterns serves
-pub built-serves : (settings : Settings) (rules : List Rule) (patterns : List (List ℕ)) (ac : AhoCorasick) → patterns ≡ rule_patterns rules → start_kind_of ac ≡ (builder_settings settings).start_kind → IsFrontBuilt (builder_settings settings) patterns ac → IsServing settings rules ac
+pub built-serves : (settings : Settings) (rules : List Rule) (patterns : List (List ℕ)) (ac : AhoCorasick) → patterns ≡ rule_patterns rules → start_kind_of ac ≡ (builder_by settings).settings.start_kind → IsFrontBuilt (builder_by settings) patterns ac → IsServing settings rules ac
 built-serves settings rules patterns ac same starts built = record {
-  built = subst (λ (ps : List (List ℕ)). IsFrontBuilt (builder_settings settings) ps ac) same built;
+  built = subst (λ (ps : List (List ℕ)). IsFrontBuilt (builder_by settings) ps ac) same built;
   start = subst (λ (k : StartKind). Serves k No) (sym starts) refl;
 }
 
@@ -56,7 +56,7 @@ finder-buildable settings rules (finders.Automaton ac) serves = λ named. (serve
 finder-buildable settings rules (finders.Packed searcher) serves = λ named. absurd (named serves.2)
 
 -- a build that failed passed a limit, or ran out of memory
-pub refused-fails : (settings : Settings) (rules : List Rule) (error : BuildErrorKind) → settings.engine ≢ engines.Packed → IsFrontBuildRefused (builder_settings settings) (rule_patterns rules) error → FailsToBuild settings rules (not_built error)
+pub refused-fails : (settings : Settings) (rules : List Rule) (error : BuildErrorKind) → settings.engine ≢ engines.Packed → IsFrontBuildRefused (builder_by settings) (rule_patterns rules) error → FailsToBuild settings rules (not_built error)
 refused-fails settings rules (limits.StateIDOverflow max requested) named refused = (named, λ e. cc, refused)
 refused-fails settings rules (limits.PatternIDOverflow max requested) named refused = (named, λ e. cc, refused)
 refused-fails settings rules (limits.PatternTooLong pattern len) named refused = (named, λ e. cc, refused)

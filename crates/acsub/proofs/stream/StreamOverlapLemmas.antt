@@ -30,6 +30,7 @@ use Rattle.ac_automaton.specs.declared.error.MatchErrorKind.{MatchErrorKind}
 use Rattle.ac_automaton.specs.declared.error.StreamError.{StreamError}
 use Rattle.ac_automaton.specs.declared.error.StreamError.TheVariants as reads
 use Rattle.ac_automaton.specs.declared.watched.Watched.{Watched}
+use Rattle.ac_automaton.specs.declared.stream.StreamKinds.TheVariants.{OnlyStandard}
 use Rattle.ac_automaton.proofs.iter.IterLemmas.{occurs-not_empty}
 use Rattle.ac_automaton.proofs.devices.MovedLemmas.{given-then, turns-filled}
 use Rattle.ac_automaton.proofs.stream.StreamReplaceLemmas.{given-none, taken-none}
@@ -292,13 +293,13 @@ module _ (plan : Plan) (b : Built) (built : b.dictionary ≡ dictionary_for plan
 -- ---- where the search did not begin
 
 -- a supported search isn't refused
-can-list : (b : Built) (supports : Anchored → Type 0) (refusal : MatchErrorKind) → CanStream b supports → IsListingConfigRefusal b supports refusal → ⊥
+can-list : (b : Built) (supports : Anchored → Type 0) (refusal : MatchErrorKind) → CanStream OnlyStandard b supports → IsListingConfigRefusal b supports refusal → ⊥
 can-list b supports refusal can (inl (inl start)) = start.0 can.0
 can-list b supports refusal can (inl (inr other)) = other.1 can.1
 can-list b supports refusal can (inr empty) = let some = can.2 in let none = empty.2 in absurd (omega arith)
 
 -- a supported search that fails to begin is out of memory
-pub refused-every : (b : Built) (supports : Anchored → Type 0) (error : StreamError) → CanStream b supports → IsListingRefusal b supports error → error ≡ reads.Memory
+pub refused-every : (b : Built) (supports : Anchored → Type 0) (error : StreamError) → CanStream OnlyStandard b supports → IsListingRefusal b supports error → error ≡ reads.Memory
 refused-every b supports (reads.Config refusal) can refused = absurd (can-list b supports refusal can refused)
 refused-every b supports (reads.Read error) can refused = absurd refused
 refused-every b supports (reads.Write error) can refused = absurd refused
@@ -307,7 +308,7 @@ refused-every b supports reads.Memory can refused = refl
 refused-every b supports reads.Position can refused = absurd refused
 
 -- if the text is written while the input is read, the search of the stream is supported
-pub every-can : (ac : AhoCorasick) (plan : Plan) → IsServing plan.settings plan.rules ac → IsAccepted plan.settings plan.rules → plan.settings.mode ≡ modes.Overlap → IsStreamed plan → CanStream (as_built ac) (supported_by ac)
+pub every-can : (ac : AhoCorasick) (plan : Plan) → IsServing plan.settings plan.rules ac → IsAccepted plan.settings plan.rules → plan.settings.mode ≡ modes.Overlap → IsStreamed plan → CanStream OnlyStandard (as_built ac) (supported_by ac)
 every-can ac plan serves accepted mode streamed = (
   serves.start,
   ap (λ (m : Dictionary). m.kind) serves.built.dictionary ∙ overlap-standard plan.settings plan.rules accepted mode,

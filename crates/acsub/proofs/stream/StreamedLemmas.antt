@@ -15,15 +15,16 @@ use Rattle.ac_automaton.specs.Automaton.{Built}
 use Rattle.ac_automaton.specs.Devices.Buffer.{room_for}
 use Rattle.std.specs.Prelude.{IfErr, max}
 use Rattle.ac_automaton.specs.Devices.Moved.{AllFit, AreFilled, Moved, NoneTouched, but_last}
-use Rattle.ac_automaton.specs.Stream.{CanStreamAnyKind, IsAnyKindConfigRefusal, IsAnyKindRefusal, IsFront, IsNear, room_of}
+use Rattle.ac_automaton.specs.Stream.{CanStream, IsConfigRefusal, IsStreamRefusal, IsFront, IsNear, room_of}
 use Rattle.ac_automaton.specs.Stream.StreamAnswer.{AnswersWriting, WroteToFailedWrite}
-use Rattle.ac_automaton.specs.Stream.StreamReplace.{AcceptsReplacingAnyKind, ReplacesStream, replaced_in}
+use Rattle.ac_automaton.specs.Stream.StreamReplace.{AcceptsReplacing, ReplacesStream, replaced_in}
 use Rattle.ac_automaton.proofs.stream.StreamAnswerLemmas.{cost-none}
 use Rattle.ac_input.specs.declared.steps.Steps.{Steps}
 use Rattle.ac_automaton.specs.declared.error.MatchErrorKind.{MatchErrorKind}
 use Rattle.ac_automaton.specs.declared.error.StreamError.{StreamError}
 use Rattle.ac_automaton.specs.declared.error.StreamError.TheVariants as stream
 use Rattle.ac_automaton.specs.declared.watched.Watched.{Watched}
+use Rattle.ac_automaton.specs.declared.stream.StreamKinds.TheVariants.{AnyKind}
 use Rattle.acsub.specs.declared.error.RunError.{RunError}
 use Rattle.acsub.specs.declared.settings.Mode.{Mode}
 use Rattle.acsub.specs.declared.settings.Mode.TheVariants as modes
@@ -52,20 +53,20 @@ filled-shortest (rule ∷ rules) filled =
     omega (arith, rest, some)
 
 -- if the text is written while the input is read, the search of the stream is supported
-pub streamed-can : (ac : AhoCorasick) (plan : Plan) → IsServing plan.settings plan.rules ac → IsStreamed plan → CanStreamAnyKind (as_built ac) (supported_by ac)
+pub streamed-can : (ac : AhoCorasick) (plan : Plan) → IsServing plan.settings plan.rules ac → IsStreamed plan → CanStream AnyKind (as_built ac) (supported_by ac)
 streamed-can ac plan serves streamed = (
   serves.start,
   subst (λ (m : Dictionary). 1 ≤ shortest m.patterns) (sym serves.built.dictionary) (filled-shortest plan.rules streamed.2),
 )
 
-module _ (b : Built) (supports : Anchored → Type 0) (can : CanStreamAnyKind b supports) where
+module _ (b : Built) (supports : Anchored → Type 0) (can : CanStream AnyKind b supports) where
   -- a supported search isn't refused
-  can-config : (refusal : MatchErrorKind) → ¬ IsAnyKindConfigRefusal b supports refusal
+  can-config : (refusal : MatchErrorKind) → ¬ IsConfigRefusal AnyKind b supports refusal
   can-config refusal (inl h) = h.0 can.0
   can-config refusal (inr h) = let some = can.1 in let zero = h.1 in absurd (omega arith)
 
   -- a supported search that fails to begin is out of memory
-  pub refused-memory : (error : StreamError) → IsAnyKindRefusal b supports error → error ≡ stream.Memory
+  pub refused-memory : (error : StreamError) → IsStreamRefusal AnyKind b supports error → error ≡ stream.Memory
   refused-memory (stream.Config refusal) refused = absurd (can-config refusal refused)
   refused-memory (stream.Read error) refused = absurd refused
   refused-memory (stream.Write error) refused = absurd refused
@@ -75,14 +76,14 @@ module _ (b : Built) (supports : Anchored → Type 0) (can : CanStreamAnyKind b 
 
   module _ {R W : Type 0} (r r' : Watched R) (w w' : Watched W) where
     -- nor is a replacement over the stream
-    pub replaces-accepted : (result : Result (Unit {0}) StreamError) → AcceptsReplacingAnyKind b supports r r' w w' result → IfErr result IsNoRefusal
+    pub replaces-accepted : (result : Result (Unit {0}) StreamError) → AcceptsReplacing AnyKind b supports r r' w w' result → IfErr result IsNoRefusal
     replaces-accepted (Ok done) accepts = tt
-    replaces-accepted (Err error) accepts = λ refusal e. can-config refusal (subst (λ (other : StreamError). AcceptsReplacingAnyKind b supports r r' w w' (Err other)) e accepts).0
+    replaces-accepted (Err error) accepts = λ refusal e. can-config refusal (subst (λ (other : StreamError). AcceptsReplacing AnyKind b supports r r' w w' (Err other)) e accepts).0
 
     -- a replacement that is out of memory has touched neither device
-    pub replaces-memory : (result : Result (Unit {0}) StreamError) → AcceptsReplacingAnyKind b supports r r' w w' result → IfStreamMemory result (NoneTouched r r' w w')
+    pub replaces-memory : (result : Result (Unit {0}) StreamError) → AcceptsReplacing AnyKind b supports r r' w w' result → IfStreamMemory result (NoneTouched r r' w w')
     replaces-memory (Ok done) accepts = tt
-    replaces-memory (Err error) accepts = λ e. (subst (λ (other : StreamError). AcceptsReplacingAnyKind b supports r r' w w' (Err other)) e accepts).1
+    replaces-memory (Err error) accepts = λ e. (subst (λ (other : StreamError). AcceptsReplacing AnyKind b supports r r' w w' (Err other)) e accepts).1
 
 -- ---- the text
 

@@ -9,9 +9,10 @@
 ghost use Rattle.std.specs.Prelude.{◌≡◌, ◌≤◌, [], false, IfErr, OnOk};
 ghost use Rattle.ac_input.specs.Work.{shortest};
 ghost use Rattle.ac_automaton.specs.Devices.Moved.{NoneTouched};
-ghost use Rattle.ac_automaton.specs.Stream.{AreAllGiven, CanBeCounted, CanStreamAnyKind, GoesOn, IsOnCourse, ReadsNothing, fresh_progress, read_by};
+ghost use Rattle.ac_automaton.specs.Stream.{AreAllGiven, CanBeCounted, CanStream, GoesOn, IsOnCourse, ReadsNothing, fresh_progress, read_by};
 ghost use Rattle.ac_automaton.specs.Stream.StreamIter.{KeepsReader, progress_of, reader_name, reader_of};
 ghost use Rattle.ac_automaton.specs.Stream.StreamReplace.{IsBegun};
+ghost use Rattle.ac_automaton.specs.declared.stream.StreamKinds.TheVariants.{AnyKind};
 ghost use Rattle.aho_corasick.specs.AhoCorasick.{as_built, supported_by};
 ghost use Rattle.acsub.specs.Stream.{CostsSearch, IfStreamMemory, IsNoRefusal};
 ghost use Rattle.acsub.specs.Stream.StreamList.{CostsOn, ListsOn, ListsStream, WritesLines};
@@ -86,7 +87,7 @@ pub(crate) fn list_stream<R: Read, W: Write>(
     steps: &mut Steps,
 ) -> Result<(), StreamError>
     requires open { reader.old.ended ≡ false }
-    requires can { CanStreamAnyKind (as_built engine.now) (supported_by engine.now) }
+    requires can { CanStream AnyKind (as_built engine.now) (supported_by engine.now) }
     // All lines that are decided by what was read, before a read that failed; and no less than those that are decided by all pieces
     // but the last, before a write that failed.
     ensures lists { ListsStream R.remaining W.contents (as_built engine.now)

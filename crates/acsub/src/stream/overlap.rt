@@ -11,6 +11,7 @@ ghost use Rattle.ac_automaton.specs.Stream.{CanBeCounted, CanStream};
 ghost use Rattle.ac_automaton.specs.Stream.StreamListing.{IsAllListed, IsOnListing, ListingStays, ListsOnCourse, all_read, fresh_listing};
 ghost use Rattle.ac_automaton.specs.Stream.StreamOverlappingIter.{KeepsListedReader, listing_of_stream, reader_listed, reader_listed_name};
 ghost use Rattle.ac_automaton.specs.Stream.StreamReplace.{IsBegun};
+ghost use Rattle.ac_automaton.specs.declared.stream.StreamKinds.TheVariants.{OnlyStandard};
 ghost use Rattle.aho_corasick.specs.AhoCorasick.{as_built, supported_by};
 ghost use Rattle.acsub.specs.Stream.{CostsSearch, IfStreamMemory, IsNoRefusal};
 ghost use Rattle.acsub.specs.Stream.StreamList.{WritesLines};
@@ -87,7 +88,7 @@ pub(crate) fn list_every<R: Read, W: Write>(
     steps: &mut Steps,
 ) -> Result<(), StreamError>
     requires open { reader.old.ended ≡ false }
-    requires can { CanStream (as_built engine.now) (supported_by engine.now) }
+    requires can { CanStream OnlyStandard (as_built engine.now) (supported_by engine.now) }
     // All lines of what was read, before a read that failed; and no less than those of all pieces but the last, before a write that
     // failed.
     ensures lists { ListsEvery R.remaining W.contents (as_built engine.now)

@@ -20,8 +20,9 @@ use Rattle.ac_automaton.specs.Replace.{LieInOrder, matches_in, Replacer}
 use Rattle.ac_automaton.specs.Stream.{StreamProgress, fresh_progress, read_by}
 use Rattle.ac_automaton.specs.Stream.StreamIter.{HasGained, NextGives}
 use Rattle.ac_automaton.specs.Stream.StreamReplace.{CostsStream, IsStreamCost, ReplacesStream, replaced_in}
-use Rattle.ac_automaton.specs.Stream.StreamReplaceWith.{IsWriterChain, ReadsAndReplaces, ReplacesAnyKindWith, ReplacesStreamWith}
+use Rattle.ac_automaton.specs.Stream.StreamReplaceWith.{IsWriterChain, ReadsAndReplaces, ReplacesStreamWith}
 use Rattle.ac_automaton.specs.declared.error.StreamError.{StreamError}
+use Rattle.ac_automaton.specs.declared.stream.StreamKinds.{StreamKinds}
 use Rattle.ac_automaton.specs.declared.watched.Watched.{Watched}
 use Rattle.ac_automaton.proofs.lemmas.CursorLemmas.{slice_range-split}
 use Rattle.ac_automaton.proofs.devices.MovedLemmas.{turns-filled}
@@ -159,15 +160,10 @@ whole-writes remaining items g b f text reader_before reader_after old new is wr
     let all : slice_range x 0 (length x) ≡ x = let front : slice_range x 0 (length x) ≡ take (length x) x = grind (arith, common_steps) in front ∙ take-length x in
     written ∙ ap (λ (t : List ℕ). items old.inner ++ t) (all ∙ sym read)
 
-pub stream-writes : {F W R : Type 0} (remaining : R → Option (List ℕ)) (items : W → List ℕ) (g : Replacer F (Watched W) (Result (Unit {0}) StreamError)) (b : Built) (supports : Anchored → Type 0) (f : F) (text : List ℕ) (reader_before reader_after : Watched R) (old new : Watched W) (result : Result (Unit {0}) StreamError) → remaining reader_before.inner ≡ Some text → WritesMatched items g
-    → ReplacesStreamWith (λ w. Some (items w)) g remaining b supports f reader_before reader_after old new result → OnOk result (items new.inner ≡ items old.inner ++ text)
-stream-writes remaining items g b supports f text reader_before reader_after old new (Ok done) is writes replaces = whole-writes remaining items g b f text reader_before reader_after old new is writes replaces.1
-stream-writes remaining items g b supports f text reader_before reader_after old new (Err error) is writes replaces = tt
-
-pub any_kind-writes : {F W R : Type 0} (remaining : R → Option (List ℕ)) (items : W → List ℕ) (g : Replacer F (Watched W) (Result (Unit {0}) StreamError)) (b : Built) (supports : Anchored → Type 0) (f : F) (text : List ℕ) (reader_before reader_after : Watched R) (old new : Watched W) (result : Result (Unit {0}) StreamError) → remaining reader_before.inner ≡ Some text → WritesMatched items g
-    → ReplacesAnyKindWith (λ w. Some (items w)) g remaining b supports f reader_before reader_after old new result → OnOk result (items new.inner ≡ items old.inner ++ text)
-any_kind-writes remaining items g b supports f text reader_before reader_after old new (Ok done) is writes replaces = whole-writes remaining items g b f text reader_before reader_after old new is writes replaces.1
-any_kind-writes remaining items g b supports f text reader_before reader_after old new (Err error) is writes replaces = tt
+pub stream-writes : {F W R : Type 0} (remaining : R → Option (List ℕ)) (items : W → List ℕ) (g : Replacer F (Watched W) (Result (Unit {0}) StreamError)) (kinds : StreamKinds) (b : Built) (supports : Anchored → Type 0) (f : F) (text : List ℕ) (reader_before reader_after : Watched R) (old new : Watched W) (result : Result (Unit {0}) StreamError) → remaining reader_before.inner ≡ Some text → WritesMatched items g
+    → ReplacesStreamWith (λ w. Some (items w)) g remaining kinds b supports f reader_before reader_after old new result → OnOk result (items new.inner ≡ items old.inner ++ text)
+stream-writes remaining items g kinds b supports f text reader_before reader_after old new (Ok done) is writes replaces = whole-writes remaining items g b f text reader_before reader_after old new is writes replaces.1
+stream-writes remaining items g kinds b supports f text reader_before reader_after old new (Err error) is writes replaces = tt
 
 -- ---- replacements
 

@@ -7,12 +7,11 @@
 //! for few patterns and one start kind; else a contiguous NFA; and it goes on to the next only where one would be too large.
 ghost use Rattle.std.specs.Prelude.{◌≡◌, None, Some, map, IfOk, IfErr};
 ghost use Rattle.ac_input.specs.Pairing.{IsFolded};
-ghost use Rattle.ac_input.specs.Same.{IsUnpaired};
 ghost use Rattle.ac_literal.specs.Packed.{bytes_of};
 ghost use Rattle.ac_noncontiguous.specs.declared.error.BuildErrorKind.TheVariants.{Memory};
-ghost use Rattle.aho_corasick.specs.AhoCorasick.{kind_of, pairing_of, patterns_of, start_kind_of};
-ghost use Rattle.aho_corasick.specs.Builder.{AreFrontDefaults, noncontiguous_by};
-ghost use Rattle.aho_corasick.specs.Made.{contiguous_by, dfa_by};
+ghost use Rattle.aho_corasick.specs.AhoCorasick.{as_built, start_kind_of, IsConfigured};
+ghost use Rattle.aho_corasick.specs.Builder.{changed, AreFrontDefaults};
+ghost use Rattle.aho_corasick.specs.Callers.{FindsBytes};
 ghost use Rattle.aho_corasick.specs.Served.{IsFitting, IsTriedDfa, IsTriedContiguous, IsEngineOf, IsNotMade, IsFrontBuilt, IsFrontBuildRefused, IsFrontBuiltByDefault, IsFrontRefusedByDefault};
 
 use super::{AhoCorasick, AhoCorasickKind};
@@ -24,12 +23,11 @@ use ac_input::search::{MatchKind, StartKind};
 use ac_noncontiguous::builder::Builder;
 use ac_noncontiguous::error::{BuildError, BuildErrorKind};
 use ac_noncontiguous::nfa::NFA;
-use ac_tables::contiguous::builder::ROW_MEMORY;
+use ac_noncontiguous::settings::{Settings, case_pairing};
 use ac_tables::dfa::DFA;
 use ac_tables::{contiguous, dfa};
 use std::alloc::{AllocError, Global};
 use std::convert::AsSlice;
-use std::marker::Model;
 use std::sync::Arc;
 
 /// For how many patterns a DFA is taken at most, where no automaton is named.
@@ -69,42 +67,9 @@ fn slices_of<P: AsSlice<u8>>(alloc: Global, patterns: &[P]) -> Result<Vec<&[u8]>
 /// ```
 #[derive(Clone, Drop)]
 pub struct AhoCorasickBuilder {
-    match_kind: MatchKind,
-    start_kind: StartKind,
-    pairing: Pairing,
+    settings: Settings,
+    /// The automaton that was named, if one was.
     kind: Option<AhoCorasickKind>,
-    prefilter: bool,
-    dense_depth: Option<usize>,
-    byte_classes: bool,
-    row_memory: usize,
-}
-
-impl Model for AhoCorasickBuilder {
-    ghost use Rattle.aho_corasick.specs.Builder.{FrontSettings};
-
-    ghost Value = { FrontSettings };
-
-    ghost view = { λ b. record {
-      match_kind = b.match_kind;
-      start_kind = b.start_kind;
-      pairing = b.pairing;
-      kind = b.kind;
-      prefilter = b.prefilter;
-      dense_depth = b.dense_depth;
-      byte_classes = b.byte_classes;
-      row_memory = b.row_memory;
-    } };
-
-    ghost inverse = { λ s. record {
-      match_kind = s.match_kind;
-      start_kind = s.start_kind;
-      pairing = s.pairing;
-      kind = s.kind;
-      prefilter = s.prefilter;
-      dense_depth = s.dense_depth;
-      byte_classes = s.byte_classes;
-      row_memory = s.row_memory;
-    } };
 }
 
 impl Default for AhoCorasickBuilder {
@@ -124,14 +89,8 @@ impl AhoCorasickBuilder {
         ensures { AreFrontDefaults result }
     {
         AhoCorasickBuilder {
-            match_kind: MatchKind::Standard,
-            start_kind: StartKind::Unanchored,
-            pairing: Pairing::none(),
+            settings: Settings::new(),
             kind: None,
-            prefilter: true,
-            dense_depth: None,
-            byte_classes: true,
-            row_memory: ROW_MEMORY,
         }
     }
 
@@ -142,9 +101,9 @@ impl AhoCorasickBuilder {
     /// An example: `uses::examples::build::forgiving`.
     pub fn match_kind(&mut self, kind: MatchKind) -> &mut AhoCorasickBuilder
         ensures same { result.ghost_name ≡ self.entry.ghost_name }
-        ensures value { result.now ≡ record self.old { match_kind = kind } }
+        ensures value { result.now ≡ changed self.old (λ s. record s { match_kind = kind }) }
     {
-        self.match_kind = kind;
+        self.settings.match_kind = kind;
         self
     }
 
@@ -154,9 +113,9 @@ impl AhoCorasickBuilder {
     /// An example: `uses::examples::build::small`.
     pub fn start_kind(&mut self, kind: StartKind) -> &mut AhoCorasickBuilder
         ensures same { result.ghost_name ≡ self.entry.ghost_name }
-        ensures value { result.now ≡ record self.old { start_kind = kind } }
+        ensures value { result.now ≡ changed self.old (λ s. record s { start_kind = kind }) }
     {
-        self.start_kind = kind;
+        self.settings.start_kind = kind;
         self
     }
 
@@ -166,15 +125,10 @@ impl AhoCorasickBuilder {
     /// An example: `uses::examples::build::forgiving`.
     pub fn ascii_case_insensitive(&mut self, yes: bool) -> &mut AhoCorasickBuilder
         ensures same { result.ghost_name ≡ self.entry.ghost_name }
-        ensures rest { result.now ≡ record self.old { pairing = result.now.pairing } }
-        ensures pairing { IsFolded yes result.now.pairing }
+        ensures rest { result.now ≡ changed self.old (λ s. record s { pairing = result.now.settings.pairing }) }
+        ensures pairing { IsFolded yes result.now.settings.pairing }
     {
-        let pairing = if yes {
-            Pairing::ascii()
-        } else {
-            Pairing::none()
-        };
-        self.pairing(pairing)
+        self.pairing(case_pairing(yes))
     }
 
     /// Sets which bytes stand for one another. At first none does.
@@ -182,9 +136,9 @@ impl AhoCorasickBuilder {
     /// An example: `uses::examples::build::small`.
     pub fn pairing(&mut self, pairing: Pairing) -> &mut AhoCorasickBuilder
         ensures same { result.ghost_name ≡ self.entry.ghost_name }
-        ensures value { result.now ≡ record self.old { pairing = pairing } }
+        ensures value { result.now ≡ changed self.old (λ s. record s { pairing = pairing }) }
     {
-        self.pairing = pairing;
+        self.settings.pairing = pairing;
         self
     }
 
@@ -208,9 +162,9 @@ impl AhoCorasickBuilder {
     /// An example: `uses::examples::build::small`.
     pub fn prefilter(&mut self, yes: bool) -> &mut AhoCorasickBuilder
         ensures same { result.ghost_name ≡ self.entry.ghost_name }
-        ensures value { result.now ≡ record self.old { prefilter = yes } }
+        ensures value { result.now ≡ changed self.old (λ s. record s { prefilter = yes }) }
     {
-        self.prefilter = yes;
+        self.settings.prefilter = yes;
         self
     }
 
@@ -221,9 +175,9 @@ impl AhoCorasickBuilder {
     /// An example: `uses::examples::build::small`.
     pub fn dense_depth(&mut self, depth: usize) -> &mut AhoCorasickBuilder
         ensures same { result.ghost_name ≡ self.entry.ghost_name }
-        ensures value { result.now ≡ record self.old { dense_depth = Some depth } }
+        ensures value { result.now ≡ changed self.old (λ s. record s { dense_depth = Some depth }) }
     {
-        self.dense_depth = Some(depth);
+        self.settings.dense_depth = Some(depth);
         self
     }
 
@@ -233,9 +187,9 @@ impl AhoCorasickBuilder {
     /// An example: `uses::examples::build::small`.
     pub fn byte_classes(&mut self, yes: bool) -> &mut AhoCorasickBuilder
         ensures same { result.ghost_name ≡ self.entry.ghost_name }
-        ensures value { result.now ≡ record self.old { byte_classes = yes } }
+        ensures value { result.now ≡ changed self.old (λ s. record s { byte_classes = yes }) }
     {
-        self.byte_classes = yes;
+        self.settings.byte_classes = yes;
         self
     }
 
@@ -245,61 +199,32 @@ impl AhoCorasickBuilder {
     /// are rows if they take no more than this; they take about what a DFA of the same patterns takes, and as long to make.
     pub fn row_memory(&mut self, bytes: usize) -> &mut AhoCorasickBuilder
         ensures same { result.ghost_name ≡ self.entry.ghost_name }
-        ensures value { result.now ≡ record self.old { row_memory = bytes } }
+        ensures value { result.now ≡ changed self.old (λ s. record s { row_memory = bytes }) }
     {
-        self.row_memory = bytes;
+        self.settings.row_memory = bytes;
         self
-    }
-
-    /// The builder of the noncontiguous NFA.
-    fn noncontiguous(&self) -> Builder
-        ensures { result ≡ noncontiguous_by self.now }
-    {
-        let mut builder = Builder::new();
-        builder.match_kind(self.match_kind);
-        builder.pairing(self.pairing);
-        builder.prefilter(self.prefilter);
-        if let Some(depth) = self.dense_depth {
-            builder.dense_depth(depth);
-        }
-        builder
     }
 
     /// The builder of the contiguous NFA.
     fn contiguous(&self) -> contiguous::builder::Builder
-        ensures { result ≡ contiguous_by self.now }
+        ensures { result ≡ self.now.settings }
     {
-        let mut builder = contiguous::builder::Builder::new();
-        builder.match_kind(self.match_kind);
-        builder.pairing(self.pairing);
-        builder.prefilter(self.prefilter);
-        builder.byte_classes(self.byte_classes);
-        builder.row_memory(self.row_memory);
-        if let Some(depth) = self.dense_depth {
-            builder.dense_depth(depth);
-        }
-        builder
+        contiguous::builder::Builder::from(self.settings)
     }
 
     /// The builder of the DFA.
     fn dfa(&self) -> dfa::builder::Builder
-        ensures { result ≡ dfa_by self.now }
+        ensures { result ≡ self.now.settings }
     {
-        let mut builder = dfa::builder::Builder::new();
-        builder.match_kind(self.match_kind);
-        builder.pairing(self.pairing);
-        builder.prefilter(self.prefilter);
-        builder.start_kind(self.start_kind);
-        builder.byte_classes(self.byte_classes);
-        builder
+        dfa::builder::Builder::from(self.settings)
     }
 
     /// A DFA, where one is taken when none is named.
     fn try_dfa(&self, alloc: Global, nfa: &NFA) -> Result<Option<DFA>, BuildError>
-        ensures tried { IfOk result (IsTriedDfa self.now nfa.now) }
+        ensures tried { IfOk result (IsTriedDfa self.now.settings nfa.now) }
         ensures refused { IfErr result (λ error. error ≡ Memory) }
     {
-        if self.start_kind == StartKind::Both || nfa.patterns_len() > MOST_FOR_DFA {
+        if self.settings.start_kind == StartKind::Both || nfa.patterns_len() > MOST_FOR_DFA {
             return Ok(None);
         }
         fitting(self.dfa().build_from_noncontiguous(alloc, nfa))
@@ -311,7 +236,7 @@ impl AhoCorasickBuilder {
         alloc: Global,
         nfa: &NFA,
     ) -> Result<Option<contiguous::NFA>, BuildError>
-        ensures tried { IfOk result (IsTriedContiguous self.now nfa.now) }
+        ensures tried { IfOk result (IsTriedContiguous self.now.settings nfa.now) }
         ensures refused { IfErr result (λ error. error ≡ Memory) }
     {
         fitting(self.contiguous().build_from_noncontiguous(alloc, nfa))
@@ -319,7 +244,7 @@ impl AhoCorasickBuilder {
 
     /// The automaton that serves where none is named.
     fn take(&self, alloc: Global, nfa: NFA) -> Result<Engine, BuildError>
-        ensures taken { IfOk result (IsEngineOf None self.now nfa) }
+        ensures taken { IfOk result (IsEngineOf None self.now.settings nfa) }
         ensures refused { IfErr result (λ error. error ≡ Memory) }
     {
         if let Some(dfa) = self.try_dfa(alloc, &nfa)? {
@@ -333,7 +258,7 @@ impl AhoCorasickBuilder {
 
     /// The automaton that serves: the one that was named, or the one that is taken.
     fn serve(&self, alloc: Global, nfa: NFA) -> Result<Engine, BuildError>
-        ensures served { IfOk result (IsEngineOf self.now.kind self.now nfa) }
+        ensures served { IfOk result (IsEngineOf self.now.kind self.now.settings nfa) }
         ensures refused { IfErr result (IsNotMade self.now nfa) }
     {
         match self.kind {
@@ -361,14 +286,11 @@ impl AhoCorasickBuilder {
     ///
     /// An example: `uses::examples::build::small`.
     pub fn build(&self, alloc: Global, patterns: &[&[u8]]) -> Result<AhoCorasick, BuildError>
-        ensures patterns { IfOk result (λ ac. patterns_of ac ≡ bytes_of patterns.now) }
-        ensures kind { IfOk result (λ ac. kind_of ac ≡ self.now.match_kind) }
-        ensures pairing { IfOk result (λ ac. pairing_of ac ≡ self.now.pairing) }
-        ensures starts { IfOk result (λ ac. start_kind_of ac ≡ self.now.start_kind) }
+        ensures configured { IfOk result (IsConfigured self.now.settings (bytes_of patterns.now)) }
         ensures served { IfOk result (IsFrontBuilt self.now (bytes_of patterns.now)) }
         ensures refused { IfErr result (IsFrontBuildRefused self.now (bytes_of patterns.now)) }
     {
-        let nfa = self.noncontiguous().build(alloc, patterns)?;
+        let nfa = Builder::from(self.settings).build(alloc, patterns)?;
         let engine = self.serve(alloc, nfa)?;
         let shared = Shared {
             built: AsBuilt::of(&engine),
@@ -378,7 +300,7 @@ impl AhoCorasickBuilder {
         match Arc::new(alloc, shared) {
             Ok(shared) => Ok(AhoCorasick {
                 shared,
-                start_kind: self.start_kind,
+                start_kind: self.settings.start_kind,
             }),
             Err(_) => Err(BuildError::from(BuildErrorKind::Memory)),
         }
@@ -393,10 +315,8 @@ impl AhoCorasickBuilder {
         alloc: Global,
         patterns: &[P],
     ) -> Result<AhoCorasick, BuildError>
-        ensures patterns { IfOk result (λ ac. patterns_of ac ≡ map P.items patterns.now) }
-        ensures kind { IfOk result (λ ac. kind_of ac ≡ self.now.match_kind) }
-        ensures pairing { IfOk result (λ ac. pairing_of ac ≡ self.now.pairing) }
-        ensures starts { IfOk result (λ ac. start_kind_of ac ≡ self.now.start_kind) }
+        ensures configured { IfOk result
+            (IsConfigured self.now.settings (map P.items patterns.now)) }
         ensures served { IfOk result (IsFrontBuilt self.now (map P.items patterns.now)) }
         ensures refused { IfErr result (IsFrontBuildRefused self.now (map P.items patterns.now)) }
     {
@@ -416,9 +336,7 @@ impl AhoCorasick {
     ///
     /// An example: `uses::examples::build::which_word`.
     pub fn new(alloc: Global, patterns: &[&[u8]]) -> Result<AhoCorasick, BuildError>
-        ensures patterns { IfOk result (λ ac. patterns_of ac ≡ bytes_of patterns.now) }
-        ensures kind { IfOk result (λ ac. kind_of ac ≡ MatchKind.Standard) }
-        ensures pairing { IfOk result (λ ac. IsUnpaired (pairing_of ac)) }
+        ensures finds { IfOk result (λ ac. FindsBytes (bytes_of patterns.now) (as_built ac).dictionary) }
         ensures starts { IfOk result (λ ac. start_kind_of ac ≡ StartKind.Unanchored) }
         ensures served { IfOk result (IsFrontBuiltByDefault (bytes_of patterns.now)) }
         ensures refused { IfErr result (IsFrontRefusedByDefault (bytes_of patterns.now)) }
@@ -431,9 +349,7 @@ impl AhoCorasick {
         alloc: Global,
         patterns: &[P],
     ) -> Result<AhoCorasick, BuildError>
-        ensures patterns { IfOk result (λ ac. patterns_of ac ≡ map P.items patterns.now) }
-        ensures kind { IfOk result (λ ac. kind_of ac ≡ MatchKind.Standard) }
-        ensures pairing { IfOk result (λ ac. IsUnpaired (pairing_of ac)) }
+        ensures finds { IfOk result (λ ac. FindsBytes (map P.items patterns.now) (as_built ac).dictionary) }
         ensures starts { IfOk result (λ ac. start_kind_of ac ≡ StartKind.Unanchored) }
         ensures served { IfOk result (IsFrontBuiltByDefault (map P.items patterns.now)) }
         ensures refused { IfErr result (IsFrontRefusedByDefault (map P.items patterns.now)) }

@@ -12,12 +12,13 @@ ghost use Rattle.std.specs.Prelude.{◌≡◌, false, length, IfOk, OnOk};
 ghost use Rattle.ac_literal.specs.Packed.{bytes_of};
 ghost use Rattle.ac_automaton.specs.declared.error.StreamError.TheVariants.{Memory};
 ghost use Rattle.ac_automaton.specs.Replace.{IsForMatches};
-ghost use Rattle.ac_automaton.specs.Stream.{AnswersNewAnyKind, CanStream, CanStreamAnyKind};
-ghost use Rattle.ac_automaton.specs.Stream.StreamIter.{AnswersAnyKindIter, AnswersStreamIter};
+ghost use Rattle.ac_automaton.specs.Stream.{AnswersNew, CanStream};
+ghost use Rattle.ac_automaton.specs.Stream.StreamIter.{AnswersStreamIter};
 ghost use Rattle.ac_automaton.specs.Stream.StreamOverlappingIter.{AnswersStreamListing};
-ghost use Rattle.ac_automaton.specs.Stream.StreamReplace.{AcceptsReplacing, AcceptsReplacingAnyKind, CostsStream, ReplacesStream};
-ghost use Rattle.ac_automaton.specs.Stream.StreamReplaceWith.{ReplacesAnyKindWith, ReplacesStreamWith};
+ghost use Rattle.ac_automaton.specs.Stream.StreamReplace.{AcceptsReplacing, CostsStream, ReplacesStream};
+ghost use Rattle.ac_automaton.specs.Stream.StreamReplaceWith.{ReplacesStreamWith};
 ghost use Rattle.ac_automaton.specs.Stream.StreamReplacer.{AnswersReplacer};
+ghost use Rattle.ac_automaton.specs.declared.stream.StreamKinds.TheVariants.{AnyKind, OnlyStandard};
 ghost use Rattle.aho_corasick.specs.AhoCorasick.{as_built, supported_by, pattern_count};
 ghost use Rattle.aho_corasick.specs.Streamed.{IsStreamOver, IsStreamReplaced};
 
@@ -54,7 +55,7 @@ impl AhoCorasick {
         reader: &'a mut Watched<R>,
     ) -> Result<StreamFindIter<'a, R>, AllocError>
         requires open { reader.old.ended ≡ false }
-        requires can { CanStream (as_built self.now) (supported_by self.now) }
+        requires can { CanStream OnlyStandard (as_built self.now) (supported_by self.now) }
         ensures { IfOk result (IsStreamOver (as_built self.now) reader.entry) }
     {
         match self.try_stream_find_iter(alloc, reader) {
@@ -76,8 +77,8 @@ impl AhoCorasick {
         reader: &'a mut Watched<R>,
     ) -> Result<StreamFindIter<'a, R>, StreamError>
         requires { reader.old.ended ≡ false }
-        ensures { AnswersStreamIter (as_built self.now) (supported_by self.now) reader.entry
-            result }
+        ensures { AnswersStreamIter OnlyStandard (as_built self.now) (supported_by self.now)
+            reader.entry result }
     {
         Automaton::try_stream_find_iter(self, alloc, reader)
     }
@@ -125,7 +126,7 @@ impl AhoCorasick {
             (bytes_of replacements.now) reader.old reader.new writer.old writer.new) }
         ensures moved { ReplacesStream R.remaining W.contents (as_built self.now)
             (bytes_of replacements.now) reader.old reader.new writer.old writer.new result }
-        ensures accepted { AcceptsReplacing (as_built self.now) (supported_by self.now)
+        ensures accepted { AcceptsReplacing OnlyStandard (as_built self.now) (supported_by self.now)
             reader.old reader.new writer.old writer.new result }
     {
         Automaton::try_stream_replace_all(self, alloc, reader, writer, replacements)
@@ -146,7 +147,7 @@ impl AhoCorasick {
             (bytes_of replacements.now) reader.old reader.new writer.old writer.new) }
         ensures moved { ReplacesStream R.remaining W.contents (as_built self.now)
             (bytes_of replacements.now) reader.old reader.new writer.old writer.new result }
-        ensures accepted { AcceptsReplacing (as_built self.now) (supported_by self.now)
+        ensures accepted { AcceptsReplacing OnlyStandard (as_built self.now) (supported_by self.now)
             reader.old reader.new writer.old writer.new result }
         ensures cost { CostsStream (as_built self.now) reader.old reader.new
             steps.old steps.new result }
@@ -175,7 +176,7 @@ impl AhoCorasick {
         F: FnMut(&Match, &[u8], &mut Watched<W>) -> Result<(), StreamError>,
         requires open { reader.old.ended ≡ false }
         requires ready { IsForMatches F.FnMut (pattern_count self.now) replace_with }
-        ensures { ReplacesStreamWith W.contents F.FnMut R.remaining (as_built self.now)
+        ensures { ReplacesStreamWith W.contents F.FnMut R.remaining OnlyStandard (as_built self.now)
             (supported_by self.now) replace_with reader.old reader.new writer.old writer.new result }
     {
         Automaton::try_stream_replace_all_with(self, alloc, reader, writer, replace_with)
@@ -191,7 +192,7 @@ impl AhoCorasick {
         reader: &'a mut Watched<R>,
     ) -> Result<StreamFindIter<'a, R>, AllocError>
         requires open { reader.old.ended ≡ false }
-        requires can { CanStreamAnyKind (as_built self.now) (supported_by self.now) }
+        requires can { CanStream AnyKind (as_built self.now) (supported_by self.now) }
         ensures { IfOk result (IsStreamOver (as_built self.now) reader.entry) }
     {
         match self.try_stream_find_iter_any_kind(alloc, reader) {
@@ -215,8 +216,8 @@ impl AhoCorasick {
         reader: &'a mut Watched<R>,
     ) -> Result<StreamFindIter<'a, R>, StreamError>
         requires { reader.old.ended ≡ false }
-        ensures { AnswersAnyKindIter (as_built self.now) (supported_by self.now) reader.entry
-            result }
+        ensures { AnswersStreamIter AnyKind (as_built self.now) (supported_by self.now)
+            reader.entry result }
     {
         Automaton::try_stream_find_iter_any_kind(self, alloc, reader)
     }
@@ -234,7 +235,7 @@ impl AhoCorasick {
         &'a self,
         alloc: Global,
     ) -> Result<StreamSearch<&'a AhoCorasick>, StreamError>
-        ensures { AnswersNewAnyKind (as_built self.now) (supported_by self.now) result }
+        ensures { AnswersNew AnyKind (as_built self.now) (supported_by self.now) result }
     {
         Automaton::try_stream_search(self, alloc)
     }
@@ -274,7 +275,7 @@ impl AhoCorasick {
             (bytes_of replacements.now) reader.old reader.new writer.old writer.new) }
         ensures moved { ReplacesStream R.remaining W.contents (as_built self.now)
             (bytes_of replacements.now) reader.old reader.new writer.old writer.new result }
-        ensures accepted { AcceptsReplacingAnyKind (as_built self.now) (supported_by self.now)
+        ensures accepted { AcceptsReplacing AnyKind (as_built self.now) (supported_by self.now)
             reader.old reader.new writer.old writer.new result }
     {
         Automaton::try_stream_replace_all_any_kind(self, alloc, reader, writer, replacements)
@@ -295,7 +296,7 @@ impl AhoCorasick {
             (bytes_of replacements.now) reader.old reader.new writer.old writer.new) }
         ensures moved { ReplacesStream R.remaining W.contents (as_built self.now)
             (bytes_of replacements.now) reader.old reader.new writer.old writer.new result }
-        ensures accepted { AcceptsReplacingAnyKind (as_built self.now) (supported_by self.now)
+        ensures accepted { AcceptsReplacing AnyKind (as_built self.now) (supported_by self.now)
             reader.old reader.new writer.old writer.new result }
         ensures cost { CostsStream (as_built self.now) reader.old reader.new
             steps.old steps.new result }
@@ -326,7 +327,7 @@ impl AhoCorasick {
         F: FnMut(&Match, &[u8], &mut Watched<W>) -> Result<(), StreamError>,
         requires open { reader.old.ended ≡ false }
         requires ready { IsForMatches F.FnMut (pattern_count self.now) replace_with }
-        ensures { ReplacesAnyKindWith W.contents F.FnMut R.remaining (as_built self.now)
+        ensures { ReplacesStreamWith W.contents F.FnMut R.remaining AnyKind (as_built self.now)
             (supported_by self.now) replace_with reader.old reader.new writer.old writer.new result }
     {
         Automaton::try_stream_replace_all_any_kind_with(self, alloc, reader, writer, replace_with)

@@ -1,6 +1,7 @@
 //! Streams by the front's own calls: what is found, what is written, and what is an error before the first read.
 ghost use Rattle.std.specs.Prelude.{◌≡◌, false};
-ghost use Rattle.ac_automaton.specs.Stream.{CanStream, CanStreamAnyKind};
+ghost use Rattle.ac_automaton.specs.Stream.{CanStream};
+ghost use Rattle.ac_automaton.specs.declared.stream.StreamKinds.TheVariants.{AnyKind, OnlyStandard};
 ghost use Rattle.aho_corasick.specs.AhoCorasick.{as_built, supported_by};
 
 use super::{OwnCase, each_own};
@@ -147,7 +148,7 @@ fn is_found<T: Abort>(
     row: &Row,
     most: usize,
 ) -> Result<(), Fail>
-    requires { CanStream (as_built ac.now) (supported_by ac.now) }
+    requires { CanStream OnlyStandard (as_built ac.now) (supported_by ac.now) }
 {
     let tally = Tally::new();
     let given = Given::Whole(row.text);
@@ -170,7 +171,7 @@ fn is_found_of_any_kind<T: Abort>(
     row: &Row,
     most: usize,
 ) -> Result<(), Fail>
-    requires { CanStreamAnyKind (as_built ac.now) (supported_by ac.now) }
+    requires { CanStream AnyKind (as_built ac.now) (supported_by ac.now) }
 {
     let tally = Tally::new();
     let given = Given::Whole(row.text);

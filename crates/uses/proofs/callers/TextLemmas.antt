@@ -14,14 +14,13 @@ use Rattle.ac_input.specs.Dfa.{Serves}
 use Rattle.ac_input.specs.Dictionary.{whole}
 use Rattle.ac_input.specs.Input.{Asked, whole_of}
 use Rattle.ac_input.specs.Occurrence.{Occurrence}
-use Rattle.ac_input.specs.Same.{IsUnpaired}
 use Rattle.ac_input.specs.Laws.Utf8Laws.{AreFullTexts, TextOccursBetweenChars, KeepsChars}
 use Rattle.ac_literal.specs.Packed.{bytes_of}
 use Rattle.ac_automaton.specs.Automaton.{Built, IsFound}
 use Rattle.ac_noncontiguous.specs.declared.error.BuildErrorKind.{BuildErrorKind}
-use Rattle.aho_corasick.specs.AhoCorasick.{as_built, pairing_of, patterns_of, start_kind_of, supported_by}
+use Rattle.aho_corasick.specs.AhoCorasick.{as_built, start_kind_of, supported_by}
 use Rattle.aho_corasick.specs.declared.ahocorasick.AhoCorasick.{AhoCorasick}
-use Rattle.aho_corasick.specs.Callers.{first_in}
+use Rattle.aho_corasick.specs.Callers.{FindsBytes, first_in}
 use Rattle.aho_corasick.proofs.lemmas.FindLemmas.{found-first}
 use Rattle.uses.specs.Callers.{FindsTexts, IsFirstPart}
 use Rattle.ac_input.specs.Pairing.{IsFolded}
@@ -46,12 +45,12 @@ full-pushed patterns items word n full utf8 left len pushed =
     subst (λ (ps : List (Bor (List ℕ))). AreFullTexts (bytes_of ps)) (sym pushed) more
 
 -- an automaton built of texts, which pairs no byte, finds texts
-pub texts-found : (patterns : List (List ℕ)) (r : Result AhoCorasick BuildErrorKind) → ((folded : Bool) (pairing : List ℕ) → IsFolded folded pairing → KeepsChars pairing) → AreFullTexts patterns → IfOk r (λ ac. patterns_of ac ≡ patterns) → IfOk r (λ ac. IsUnpaired (pairing_of ac)) → IfOk r (λ ac. FindsTexts (as_built ac).dictionary)
-texts-found patterns (Ok ac) keeps full same unpaired = record {
+pub texts-found : (patterns : List (List ℕ)) (r : Result AhoCorasick BuildErrorKind) → ((folded : Bool) (pairing : List ℕ) → IsFolded folded pairing → KeepsChars pairing) → AreFullTexts patterns → IfOk r (λ ac. FindsBytes patterns (as_built ac).dictionary) → IfOk r (λ ac. FindsTexts (as_built ac).dictionary)
+texts-found patterns (Ok ac) keeps full (same, standard, unpaired) = record {
   patterns = subst AreFullTexts (sym same) full;
-  pairing = keeps false (pairing_of ac) unpaired;
+  pairing = keeps false (as_built ac).dictionary.pairing unpaired;
 }
-texts-found patterns (Err error) keeps full same unpaired = tt
+texts-found patterns (Err error) keeps full finds = tt
 
 -- an automaton built for unanchored searches has a start for them
 pub starts-served : (r : Result AhoCorasick BuildErrorKind) → IfOk r (λ ac. start_kind_of ac ≡ Unanchored) → IfOk r (λ ac. supported_by ac No)

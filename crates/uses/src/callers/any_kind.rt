@@ -1,9 +1,10 @@
 //! The front: streams under any kind. Readers and writers here are slices and `Vec`s, whose bytes a contract can name.
 ghost use Rattle.std.specs.Prelude.{◌≡◌, ◌++◌, [], false, length, IfOk, OnOk};
 ghost use Rattle.ac_automaton.specs.Replace.{matches_in};
-ghost use Rattle.ac_automaton.specs.Stream.{CanStreamAnyKind, read_by};
+ghost use Rattle.ac_automaton.specs.Stream.{CanStream, read_by};
 ghost use Rattle.ac_automaton.specs.Stream.StreamIter.{progress_of};
 ghost use Rattle.ac_automaton.specs.Stream.StreamReplace.{IsStreamCost};
+ghost use Rattle.ac_automaton.specs.declared.stream.StreamKinds.TheVariants.{AnyKind};
 ghost use Rattle.aho_corasick.specs.AhoCorasick.{as_built, supported_by, pattern_count};
 ghost use Rattle.uses.specs.Callers.{WritesReplaced};
 
@@ -19,7 +20,7 @@ pub fn search_of<'a, R>(
     reader: &'a mut Watched<R>,
 ) -> Result<StreamFindIter<'a, R>, AllocError>
     requires open { reader.old.ended ≡ false }
-    requires can { CanStreamAnyKind (as_built ac.now) (supported_by ac.now) }
+    requires can { CanStream AnyKind (as_built ac.now) (supported_by ac.now) }
     ensures { IfOk result (λ matches. read_by (progress_of matches) ≡ []) }
 {
     ac.stream_find_iter_any_kind(alloc, reader)

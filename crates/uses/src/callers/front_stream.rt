@@ -3,6 +3,7 @@ ghost use Rattle.std.specs.Prelude.{◌≡◌, ◌+◌, ◌*◌, ◌≤◌, ◌+
 ghost use Rattle.ac_automaton.specs.Replace.{matches_in};
 ghost use Rattle.ac_automaton.specs.Stream.{CanStream, read_by};
 ghost use Rattle.ac_automaton.specs.Stream.StreamIter.{progress_of};
+ghost use Rattle.ac_automaton.specs.declared.stream.StreamKinds.TheVariants.{OnlyStandard};
 ghost use Rattle.aho_corasick.specs.AhoCorasick.{as_built, supported_by, pattern_count};
 ghost use Rattle.uses.specs.Callers.{WritesReplaced};
 
@@ -18,7 +19,7 @@ pub fn search_of<'a, R>(
     reader: &'a mut Watched<R>,
 ) -> Result<StreamFindIter<'a, R>, AllocError>
     requires open { reader.old.ended ≡ false }
-    requires can { CanStream (as_built ac.now) (supported_by ac.now) }
+    requires can { CanStream OnlyStandard (as_built ac.now) (supported_by ac.now) }
     ensures { IfOk result (λ matches. read_by (progress_of matches) ≡ []) }
 {
     ac.stream_find_iter(alloc, reader)

@@ -2,6 +2,7 @@
 ghost use Rattle.std.specs.Prelude.{◌≡◌, false};
 ghost use Rattle.aho_corasick.specs.AhoCorasick.{as_built, supported_by};
 ghost use Rattle.aho_corasick.specs.Stream.{CanStream};
+ghost use Rattle.aho_corasick.specs.declared.StreamKinds.TheVariants.{OnlyStandard};
 
 use aho_corasick::{AhoCorasick, StreamError, StreamFindIter, Watched, write_whole};
 use std::alloc::{AllocError, Global};
@@ -14,7 +15,7 @@ pub fn matches_of<'a, R>(
     reader: &'a mut Watched<R>,
 ) -> Result<StreamFindIter<'a, R>, AllocError>
     requires open { reader.old.ended ≡ false }
-    requires can { CanStream (as_built ac.now) (supported_by ac.now) }
+    requires can { CanStream OnlyStandard (as_built ac.now) (supported_by ac.now) }
 {
     ac.stream_find_iter(alloc, reader)
 }

@@ -10,7 +10,7 @@ abbrev pub invariant-loop-read : goal.invariant-loop-read
 invariant-loop-read g l = record {
   within : l.read ≤ length l.bytes - l.from;
   has : HasAdvanced (g.A.Automaton.built l.automaton) (g.A.Automaton.Reaches l.automaton) No (is_matching (g.A.Automaton.matches l.automaton)) l.fn.sid (drop l.from l.bytes) l.read l.current l.initial.steps l.steps;
-  known : AreNotes (g.A.Automaton.Reaches l.automaton No) (g.A.Automaton.matches l.automaton) l.bytes l.ahead.notes;
+  known : AreNotes g.A.Automaton.Reaches g.A.Automaton.matches l.automaton l.bytes l.ahead.notes;
 }
 
 abbrev pub decreases-loop-read : goal.decreases-loop-read

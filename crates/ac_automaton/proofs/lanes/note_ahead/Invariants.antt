@@ -8,7 +8,7 @@ abbrev pub invariant-loop-left : goal.invariant-loop-left
 invariant-loop-left g l = record {
   left : HaveLeft l.left l.lanes;
   walked : HaveWalked (g.A.LookUp.Reaches l.automaton No) (is_up_to l.last) l.bytes l.lanes;
-  known : AreNotes (g.A.LookUp.Reaches l.automaton No) (g.A.LookUp.matches l.automaton) l.bytes l.notes;
+  known : AreNotes g.A.LookUp.Reaches g.A.LookUp.matches l.automaton l.bytes l.notes;
 }
 
 abbrev pub decreases-loop-left : goal.decreases-loop-left

@@ -16,6 +16,7 @@ ghost use Rattle.ac_automaton.specs.Stream.StreamListing.{AnswersNewListing, IsA
 ghost use Rattle.ac_automaton.specs.Stream.StreamListingSearch.{FillsFront};
 ghost use Rattle.ac_automaton.specs.Stream.StreamListingWalk.{GivesOfState, ListsNext, MayGive, MayList, ReadsOnHeld};
 ghost use Rattle.ac_automaton.specs.Stream.StreamSearch.{some_of};
+ghost use Rattle.ac_automaton.specs.declared.stream.StreamKinds.TheVariants.{OnlyStandard};
 
 use crate::ahead::{Ahead, advance_to_match};
 use crate::automaton::Automaton;
@@ -80,14 +81,15 @@ impl<'a, A: Search> Model for ListingSearch<'a, A> {
         (A.matches i.automaton.now)
         (listing_at (A.built i.automaton.now) i.pieces.items i.given.value i.place i.sums)
         i.place i.given.value (vec_len i.bytes) (take i.filled i.bytes.items) i.filled i.over
-        × AreNotes (A.Reaches i.automaton.now No) (A.matches i.automaton.now)
-        (take i.filled i.bytes.items) i.ahead.notes };
+        × AreNotes A.Reaches A.matches i.automaton.now (take i.filled i.bytes.items)
+        i.ahead.notes };
 }
 
 /// The start state of such a search, where the automaton can make one.
 fn configured<A: Automaton>(automaton: &A) -> Result<StateID, MatchError>
     ensures start { IfOk result (λ sid. A.Reaches automaton.now Anchored.No [] sid) }
-    ensures can { OnOk result (CanStream (A.built automaton.now) (A.supports automaton.now)) }
+    ensures can { OnOk result (CanStream OnlyStandard (A.built automaton.now)
+        (A.supports automaton.now)) }
     ensures error { IfErr result (IsListingConfigRefusal (A.built automaton.now)
         (A.supports automaton.now)) }
 {
@@ -172,12 +174,10 @@ fn read_on<A: Automaton>(
 ) -> ListPlace
     requires stands { MayList A.Automaton automaton.now place.now held.now }
     requires given { place.now.len ≤ place.now.index }
-    requires known { AreNotes (A.Reaches automaton.now No) (A.matches automaton.now) held.now
-        ahead.old.notes }
+    requires known { AreNotes A.Reaches A.matches automaton.now held.now ahead.old.notes }
     ensures reads { ReadsOnHeld A.Automaton automaton.now place.now held.now result
         steps.old steps.new }
-    ensures known { AreNotes (A.Reaches automaton.now No) (A.matches automaton.now) held.now
-        ahead.new.notes }
+    ensures known { AreNotes A.Reaches A.matches automaton.now held.now ahead.new.notes }
 {
     let from = place.at - place.from;
     if from == held.len() {
@@ -202,12 +202,10 @@ pub(crate) fn next_listed<A: Automaton>(
     steps: &mut Steps,
 ) -> Listed
     requires stands { MayList A.Automaton automaton.now place.now held.now }
-    requires known { AreNotes (A.Reaches automaton.now No) (A.matches automaton.now) held.now
-        ahead.old.notes }
+    requires known { AreNotes A.Reaches A.matches automaton.now held.now ahead.old.notes }
     ensures lists { ListsNext A.Automaton automaton.now place.now held.now result
         steps.old steps.new }
-    ensures known { AreNotes (A.Reaches automaton.now No) (A.matches automaton.now) held.now
-        ahead.new.notes }
+    ensures known { AreNotes A.Reaches A.matches automaton.now held.now ahead.new.notes }
 {
     if place.index < place.len {
         return give(automaton, *place);
@@ -240,7 +238,7 @@ impl<'a, A: Search> ListingSearch<'a, A> {
         alloc: Global,
     ) -> Result<ListingSearch<'a, A>, StreamError>
         requires starts { A.Reaches automaton.now No [] start }
-        requires can { CanStream (A.built automaton.now) (A.supports automaton.now) }
+        requires can { CanStream OnlyStandard (A.built automaton.now) (A.supports automaton.now) }
         ensures fresh { IfOk result (λ s. s ≡ fresh_listing (A.built automaton.now)) }
         ensures kept { IfOk result IsOnListing }
         ensures error { IfErr result IsOutOfMemory }

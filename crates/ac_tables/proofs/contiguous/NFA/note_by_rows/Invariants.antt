@@ -5,4 +5,4 @@ use Rattle.ac_tables.specs.Contiguous.ContiguousReads.{contiguous_matches_at, Is
 use Rattle.ac_tables.proofs.contiguous.NFA.note_by_rows.Given as goal
 
 abbrev pub invariant-loop-slot : goal.invariant-loop-slot
-invariant-loop-slot l = AreNotes (IsContiguousRead l.self No) (contiguous_matches_at l.self) l.bytes l.notes
+invariant-loop-slot l = AreNotes IsContiguousRead contiguous_matches_at l.self l.bytes l.notes

@@ -8,11 +8,10 @@ pub returns : goal.returns
 returns g c =
     let made = c.build_from_patterns.result in
     let first = c.new.ensures in
+    let set = first.settings in
     record {
-      patterns = c.build_from_patterns.ensures.patterns;
-      kind = IfOk-weaker made _ _ (λ ac is. is ∙ first.match_kind) c.build_from_patterns.ensures.kind;
-      pairing = IfOk-weaker made _ _ (λ ac is. subst IsUnpaired (sym is) first.pairing) c.build_from_patterns.ensures.pairing;
-      starts = IfOk-weaker made _ _ (λ ac is. is ∙ first.start_kind) c.build_from_patterns.ensures.starts;
+      finds = IfOk-weaker made _ _ (λ ac is. (is.patterns, is.kind ∙ set.match_kind, subst IsUnpaired (sym is.pairing) set.pairing)) c.build_from_patterns.ensures.configured;
+      starts = IfOk-weaker made _ _ (λ ac is. is.starts ∙ set.start_kind) c.build_from_patterns.ensures.configured;
       served = IfOk-weaker made _ _ (λ ac built. (c.new.result, first, built)) c.build_from_patterns.ensures.served;
       refused = IfErr-weaker made _ _ (λ error refused. (c.new.result, first, refused)) c.build_from_patterns.ensures.refused;
     }

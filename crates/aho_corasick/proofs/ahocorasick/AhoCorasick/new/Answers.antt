@@ -8,11 +8,10 @@ pub returns : goal.returns
 returns c =
     let made = c.build.result in
     let first = c.new.ensures in
+    let set = first.settings in
     record {
-      patterns = c.build.ensures.patterns;
-      kind = IfOk-weaker made _ _ (λ ac is. is ∙ first.match_kind) c.build.ensures.kind;
-      pairing = IfOk-weaker made _ _ (λ ac is. subst IsUnpaired (sym is) first.pairing) c.build.ensures.pairing;
-      starts = IfOk-weaker made _ _ (λ ac is. is ∙ first.start_kind) c.build.ensures.starts;
+      finds = IfOk-weaker made _ _ (λ ac is. (is.patterns, is.kind ∙ set.match_kind, subst IsUnpaired (sym is.pairing) set.pairing)) c.build.ensures.configured;
+      starts = IfOk-weaker made _ _ (λ ac is. is.starts ∙ set.start_kind) c.build.ensures.configured;
       served = IfOk-weaker made _ _ (λ ac built. (c.new.result, first, built)) c.build.ensures.served;
       refused = IfErr-weaker made _ _ (λ error refused. (c.new.result, first, refused)) c.build.ensures.refused;
     }

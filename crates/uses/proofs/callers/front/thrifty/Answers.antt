@@ -1,14 +1,9 @@
 -- The automaton has no prefilter, as the settings ask for none.
-use Rattle.std.proofs.Common.{◌≡◌, rules}
-use Rattle.std.specs.Prelude.{IfOk}
+use Rattle.std.proofs.Common.{rules}
 use Rattle.ac_input.specs.declared.search.MatchKind.TheVariants.{Standard}
 use Rattle.ac_literal.specs.Packed.{bytes_of}
-use Rattle.aho_corasick.specs.AhoCorasick.{kind_of, pairing_of}
 use Rattle.aho_corasick.proofs.lemmas.FrontLemmas.{front-plain}
 use Rattle.uses.proofs.callers.front.thrifty.Goals as goal
 
 pub returns-clause-plain : goal.returns-clause-plain
-returns-clause-plain c =
-    let kind : IfOk c.build.result (λ ac. kind_of ac ≡ Standard) = search rules in
-    let pairing : IfOk c.build.result (λ ac. pairing_of ac ≡ c.args.pairing) = search rules in
-    front-plain _ (bytes_of c.args.patterns.now) c.args.pairing Standard c.build.result c.build.ensures.served (search rules) c.build.ensures.patterns kind pairing
+returns-clause-plain c = front-plain _ (bytes_of c.args.patterns.now) c.args.pairing Standard c.build.result c.build.ensures.served (search rules) (search rules) (search rules)

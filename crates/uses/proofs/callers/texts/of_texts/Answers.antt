@@ -6,4 +6,4 @@ pub returns-clause-can : goal.returns-clause-can
 returns-clause-can c = starts-served c.new.result c.new.ensures.starts
 
 pub returns-clause-texts : goal.returns-clause-texts
-returns-clause-texts c = texts-found (bytes_of c.args.texts.now) c.new.result c.folding_keeps_chars.ensures c.requires c.new.ensures.patterns c.new.ensures.pairing
+returns-clause-texts c = texts-found (bytes_of c.args.texts.now) c.new.result c.folding_keeps_chars.ensures c.requires c.new.ensures.finds

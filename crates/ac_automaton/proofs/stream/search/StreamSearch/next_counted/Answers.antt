@@ -22,7 +22,7 @@ invariant_of-self g c =
     let view = next-view b i.pieces.items i.given.value i.progress i.buffer i.sums c.search_stream-searched.result on.looks _ _ inv.number on.stands.course.decided on.closed on.from c.given_then-self-inside.ensures done in (
       subst (λ (t : StreamProgress). IsStreamSearch Reaches t i.start c.search_stream-searched.result.progress.sid c.search_stream-searched.result.progress.best c.given_then-self-inside.result.value i.buffer i.over) (sym view)
           (next-stream Reaches s i.start i.progress.sid i.progress.best i.given.value i.buffer i.over c.search_stream-searched.result _ _ c.given_then-self-inside.result.value inv on c.given_then-self-inside.ensures),
-      subst (λ (bytes : List ℕ). AreNotes Reaches (g.A.Automaton.matches i.automaton) bytes c.search_stream-searched.new.ahead.notes) c.held.ensures c.search_stream-searched.ensures.known,
+      subst (λ (bytes : List ℕ). AreNotes g.A.Automaton.Reaches g.A.Automaton.matches i.automaton bytes c.search_stream-searched.new.ahead.notes) c.held.ensures c.search_stream-searched.ensures.known,
     )
 
 pub returns-clause-finds : goal.returns-clause-finds

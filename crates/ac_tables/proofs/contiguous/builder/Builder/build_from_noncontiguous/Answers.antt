@@ -1,5 +1,5 @@
 -- The new automaton is built as the noncontiguous one was.
-use Rattle.std.proofs.Common.{◌≡◌, false, Option, ap, sym, subst, ◌∙◌}
+use Rattle.std.proofs.Common.{◌≡◌, ℕ, false, Option, ap, sym, subst, ◌∙◌}
 use Rattle.std.proofs.lemmas.Result.{err_from_is_err_and}
 use Rattle.ac_input.specs.Candidate.{Filter}
 use Rattle.ac_input.specs.Dictionary.{Dictionary}
@@ -9,7 +9,8 @@ use Rattle.ac_literal.specs.Openings.{AreOpenings}
 use Rattle.ac_noncontiguous.specs.Nfa.Reads.{dictionary}
 use Rattle.ac_tables.specs.declared.contiguous.table.Table.{Table}
 use Rattle.ac_tables.specs.Contiguous.ContiguousTable.{AreWordsOf, AreSomeStates}
-use Rattle.ac_tables.specs.Contiguous.ContiguousBuilder.{ContiguousSettings, IsMadeFrom}
+use Rattle.ac_noncontiguous.specs.declared.settings.Settings.{Settings}
+use Rattle.ac_tables.specs.Contiguous.ContiguousBuilder.{IsLaidOf, IsMadeFrom, contiguous_dense_depth}
 use Rattle.ac_tables.specs.Contiguous.ContiguousBuild.{IsRefusedFor}
 use Rattle.ac_tables.specs.TableClasses.{AreClassesFor}
 use Rattle.ac_tables.proofs.contiguous.WordTableLemmas.{same-dictionary, refused-laid}
@@ -20,8 +21,10 @@ returns-in_err-laid-clause-refused c =
     let nfa = c.args.nfa.now in
     let classes = c.in_ok-classes.classes in
     let p = err_from_is_err_and c.from_residual-in_err-laid.result c.from_residual-in_err-laid.ensures.1 in
-    let h = subst (λ (s : ContiguousSettings). IsRefusedFor nfa s.dense_depth classes c.in_err-laid.field-0.0) c.self.view_is c.in_err-laid.ensures.refused in
-    let chosen = subst (λ (s : ContiguousSettings). AreClassesFor nfa s.byte_classes classes) c.self.view_is c.in_ok-classes.ensures.classes in
+    let depth = c.unwrap_or-dense_depth.ensures in
+    let own = subst (λ (n : ℕ). IsRefusedFor nfa n classes c.in_err-laid.field-0.0) depth c.in_err-laid.ensures.refused in
+    let h = subst (λ (s : Settings). IsRefusedFor nfa (contiguous_dense_depth s) classes c.in_err-laid.field-0.0) c.self.view_is own in
+    let chosen = subst (λ (s : Settings). AreClassesFor nfa s.byte_classes classes) c.self.view_is c.in_ok-classes.ensures.classes in
     rw (p.1, p.2) (refused-laid c.args.self.now nfa classes c.in_err-laid.field-0.0 chosen h)
 
 pub from_parts-requires-clause-parts : goal.from_parts-requires-clause-parts
@@ -45,10 +48,11 @@ from_parts-requires-clause-opened c =
 pub returns-clause-made : goal.returns-clause-made
 returns-clause-made c =
     let nfa = c.args.nfa.now in
-    let made = c.in_ok-laid.ensures.made in
+    let depth = c.unwrap_or-dense_depth.ensures in
+    let made = subst (λ (n : ℕ). IsLaidOf nfa n c.in_ok-classes.classes c.in_ok-laid.laid) depth c.in_ok-laid.ensures.made in
     let e = same-dictionary (dictionary nfa) c.in_ok-lens.lens c.pairing-pairing.result.now c.match_kind-kind.result (c.in_ok-lens.ensures ∙ c.pattern_lens.ensures) c.pairing-pairing.ensures.value c.match_kind-kind.ensures in
     let words : c.from_parts.result.table.words.items ≡ c.in_ok-laid.laid.table.words.items = ap (λ (t : Table). t.words.items) c.from_parts.ensures.table in
-    subst (λ (s : ContiguousSettings). IsMadeFrom s nfa c.from_parts.result) c.self.view_is
+    subst (λ (s : Settings). IsMadeFrom s nfa c.from_parts.result) c.self.view_is
     (record {
       built =
           ap (λ (d : Dictionary). record { dictionary = d; deterministic = false; prefilter = c.from_parts.result.prefilter }) (c.from_parts.ensures.dictionary ∙ e)
@@ -56,7 +60,7 @@ returns-clause-made c =
       laid = record {
         classes = c.in_ok-classes.classes;
         serve = c.in_ok-classes.ensures.classes;
-        words = subst (AreWordsOf nfa c.self.inside.dense_depth c.in_ok-classes.classes) (sym words) made.words;
+        words = subst (AreWordsOf nfa (contiguous_dense_depth c.self.inside.settings) c.in_ok-classes.classes) (sym words) made.words;
         within = made.small;
       };
     })

@@ -33,7 +33,7 @@ returns-in-Dfa-clause-shows c = to-front (EngineShowsNext c.args.input.now c.arg
 
 -- the notes are those of a search by whichever automaton serves
 abbrev EngineNotes : Asked → List Note → Built → Engine → Type 0
-EngineNotes asked notes b e = AreNotes (IsEngineRead e No) (engine_matches_at e) (take asked.span.end asked.haystack) notes
+EngineNotes asked notes b e = AreNotes IsEngineRead engine_matches_at e (take asked.span.end asked.haystack) notes
 
 pub search_overlapping_ahead-requires-clause-known : goal.search_overlapping_ahead-requires-clause-known
 search_overlapping_ahead-requires-clause-known c = to-engine (EngineNotes c.args.input.now c.args.ahead.now.notes) c.serving.ensures.engine c.serving.ensures.built c.in-Noncontiguous.is c.requires.known

@@ -41,19 +41,19 @@ pub returns-in-Dfa-clause-walk : goal.returns-in-Dfa-clause-walk
 returns-in-Dfa-clause-walk c = to-front (EngineWalksOn c.args.start c.args.progress.now c.args.held.now c.search_stream-in-Dfa.result c.args.steps.now c.search_stream-in-Dfa.new.steps) c.serving.ensures.engine c.serving.ensures.built c.in-Dfa.is c.search_stream-in-Dfa.ensures.walk
 
 pub search_stream-requires-clause-known : goal.search_stream-requires-clause-known
-search_stream-requires-clause-known c = to-engine (λ (b : Built) (e : Engine). AreNotes (IsEngineRead e No) (engine_matches_at e) c.args.held.now c.args.ahead.now.notes) c.serving.ensures.engine c.serving.ensures.built c.in-Noncontiguous.is c.requires.known
+search_stream-requires-clause-known c = to-engine (λ (b : Built) (e : Engine). AreNotes IsEngineRead engine_matches_at e c.args.held.now c.args.ahead.now.notes) c.serving.ensures.engine c.serving.ensures.built c.in-Noncontiguous.is c.requires.known
 
 pub returns-in-Noncontiguous-clause-known : goal.returns-in-Noncontiguous-clause-known
-returns-in-Noncontiguous-clause-known c = to-front (λ (b : Built) (e : Engine). AreNotes (IsEngineRead e No) (engine_matches_at e) c.args.held.now c.search_stream.new.ahead.notes) c.serving.ensures.engine c.serving.ensures.built c.in-Noncontiguous.is c.search_stream.ensures.known
+returns-in-Noncontiguous-clause-known c = to-front (λ (b : Built) (e : Engine). AreNotes IsEngineRead engine_matches_at e c.args.held.now c.search_stream.new.ahead.notes) c.serving.ensures.engine c.serving.ensures.built c.in-Noncontiguous.is c.search_stream.ensures.known
 
 pub search_stream-requires-in-Contiguous-clause-known : goal.search_stream-requires-in-Contiguous-clause-known
-search_stream-requires-in-Contiguous-clause-known c = to-engine (λ (b : Built) (e : Engine). AreNotes (IsEngineRead e No) (engine_matches_at e) c.args.held.now c.args.ahead.now.notes) c.serving.ensures.engine c.serving.ensures.built c.in-Contiguous.is c.requires.known
+search_stream-requires-in-Contiguous-clause-known c = to-engine (λ (b : Built) (e : Engine). AreNotes IsEngineRead engine_matches_at e c.args.held.now c.args.ahead.now.notes) c.serving.ensures.engine c.serving.ensures.built c.in-Contiguous.is c.requires.known
 
 pub returns-in-Contiguous-clause-known : goal.returns-in-Contiguous-clause-known
-returns-in-Contiguous-clause-known c = to-front (λ (b : Built) (e : Engine). AreNotes (IsEngineRead e No) (engine_matches_at e) c.args.held.now c.search_stream-in-Contiguous.new.ahead.notes) c.serving.ensures.engine c.serving.ensures.built c.in-Contiguous.is c.search_stream-in-Contiguous.ensures.known
+returns-in-Contiguous-clause-known c = to-front (λ (b : Built) (e : Engine). AreNotes IsEngineRead engine_matches_at e c.args.held.now c.search_stream-in-Contiguous.new.ahead.notes) c.serving.ensures.engine c.serving.ensures.built c.in-Contiguous.is c.search_stream-in-Contiguous.ensures.known
 
 pub search_stream-requires-in-Dfa-clause-known : goal.search_stream-requires-in-Dfa-clause-known
-search_stream-requires-in-Dfa-clause-known c = to-engine (λ (b : Built) (e : Engine). AreNotes (IsEngineRead e No) (engine_matches_at e) c.args.held.now c.args.ahead.now.notes) c.serving.ensures.engine c.serving.ensures.built c.in-Dfa.is c.requires.known
+search_stream-requires-in-Dfa-clause-known c = to-engine (λ (b : Built) (e : Engine). AreNotes IsEngineRead engine_matches_at e c.args.held.now c.args.ahead.now.notes) c.serving.ensures.engine c.serving.ensures.built c.in-Dfa.is c.requires.known
 
 pub returns-in-Dfa-clause-known : goal.returns-in-Dfa-clause-known
-returns-in-Dfa-clause-known c = to-front (λ (b : Built) (e : Engine). AreNotes (IsEngineRead e No) (engine_matches_at e) c.args.held.now c.search_stream-in-Dfa.new.ahead.notes) c.serving.ensures.engine c.serving.ensures.built c.in-Dfa.is c.search_stream-in-Dfa.ensures.known
+returns-in-Dfa-clause-known c = to-front (λ (b : Built) (e : Engine). AreNotes IsEngineRead engine_matches_at e c.args.held.now c.search_stream-in-Dfa.new.ahead.notes) c.serving.ensures.engine c.serving.ensures.built c.in-Dfa.is c.search_stream-in-Dfa.ensures.known

@@ -9,7 +9,7 @@ use Rattle.aho_corasick.proofs.ahocorasick.builder.AhoCorasickBuilder.try_dfa.Go
 
 pub returns-clause-tried : goal.returns-clause-tried
 returns-clause-tried c =
-    let s = c.args.self.now in
+    let s = c.args.self.now.settings in
     let nfa = c.args.nfa.now in
     let one : s.start_kind ≢ Both = search rules in
     let few : length (dictionary nfa).patterns ≤ most_for_dfa = omega (arith, c.patterns_len.ensures) in

@@ -27,7 +27,7 @@ has-listed g c =
 pub invariant_of-self : goal.invariant_of-self
 invariant_of-self g c = (
   (has-listed g c).right,
-  subst (λ (bytes : List ℕ). AreNotes (g.A.Automaton.Reaches c.self.inside.automaton.now No) (g.A.Automaton.matches c.self.inside.automaton.now) bytes c.search_stream_overlapping-listed.new.ahead.notes)
+  subst (λ (bytes : List ℕ). AreNotes g.A.Automaton.Reaches g.A.Automaton.matches c.self.inside.automaton.now bytes c.search_stream_overlapping-listed.new.ahead.notes)
       (ap (take c.self.inside.filled) c.as_slice.ensures.value) c.search_stream_overlapping-listed.ensures.known,
 )
 

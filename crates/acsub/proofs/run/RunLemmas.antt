@@ -1,5 +1,5 @@
 -- Results of a run, given what was moved.
-use Rattle.std.proofs.Common.{◌≡◌, ◌≢◌, ℕ, Option, List, [], ◌++◌, Result, Ok, Err, refl, sym, ap, ◌∙◌, subst, add-zero, arith}
+use Rattle.std.proofs.Common.{◌≡◌, ◌≢◌, ℕ, false, Option, List, [], ◌++◌, Result, Ok, Err, refl, sym, ap, ◌∙◌, subst, add-zero, arith}
 use Rattle.std.specs.Prelude.{OnOk}
 use Rattle.std.specs.List.{concat}
 use Rattle.std.proofs.lemmas.List.{append-nil}
@@ -22,7 +22,7 @@ use Rattle.acsub.specs.Run.Transformed.{IsStreamed, output_of}
 use Rattle.acsub.specs.Rules.File.{hex_rules}
 use Rattle.acsub.specs.Run.{AnswersRules, HasBegun, Prepares, RanIn, RanPrepared, RanRules, RanToFailedWrite, ReadsByBuffer, WroteText, WroteTextBy}
 use Rattle.acsub.specs.Finder.{FailsToBuild}
-use Rattle.acsub.specs.Plan.{Plan, plan_for}
+use Rattle.acsub.specs.Plan.{Plan, plan_of}
 
 -- nothing was moved
 abbrev pub nothing : Moved
@@ -155,6 +155,6 @@ wrote-text remaining contents plan r r' w w' (Ok done) (m, moved, short, whole) 
 wrote-text remaining contents plan r r' w w' (Err error) ran = tt
 
 -- a run by a rule file that returns Ok has written the text of all that it read
-pub wrote-text_by : {R W : Type 0} (remaining : R → Option (List ℕ)) (contents : W → Option (List ℕ)) (settings : Settings) (file : List ℕ) (r r' : Watched R) (w w' : Watched W) (result : Result (Unit {0}) RunError) → RanIn hex_rules remaining contents r r' w w' (plan_for settings) file result → OnOk result (WroteTextBy settings file r r' w w')
-wrote-text_by remaining contents settings file r r' w w' (Ok done) (m, moved, short, (rules, grammar, whole)) = (rules, grammar, wrote-text remaining contents (plan_for settings rules) r r' w w' (Ok done) (m, moved, short rules grammar, whole))
+pub wrote-text_by : {R W : Type 0} (remaining : R → Option (List ℕ)) (contents : W → Option (List ℕ)) (settings : Settings) (file : List ℕ) (r r' : Watched R) (w w' : Watched W) (result : Result (Unit {0}) RunError) → RanIn hex_rules remaining contents r r' w w' (plan_of false settings) file result → OnOk result (WroteTextBy settings file r r' w w')
+wrote-text_by remaining contents settings file r r' w w' (Ok done) (m, moved, short, (rules, grammar, whole)) = (rules, grammar, wrote-text remaining contents (plan_of false settings rules) r r' w w' (Ok done) (m, moved, short rules grammar, whole))
 wrote-text_by remaining contents settings file r r' w w' (Err error) ran = tt

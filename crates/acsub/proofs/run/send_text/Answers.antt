@@ -6,7 +6,7 @@ use Rattle.acsub.proofs.prepared.FinderLemmas.{whole-lies, overlap-standard}
 use Rattle.acsub.proofs.run.send_text.Goals as goal
 
 pub send_replaced-requires : goal.send_replaced-requires
-send_replaced-requires g c = rw (c.picks-picks.ensures.walk, c.rules.ensures) (whole-lies c.args.prepared.now.settings c.args.prepared.now.rules c.args.input.now)
+send_replaced-requires g c = rw (c.picks-picks.ensures.walk, c.rules.ensures) (whole-lies c.args.prepared.now c.args.input.now)
 
 pub overlapping-requires : goal.overlapping-requires
 overlapping-requires g c = overlap-standard c.args.prepared.now.settings c.args.prepared.now.rules c.requires.accepted (sym c.mode.ensures ∙ c.in-Overlap.is)

@@ -20,11 +20,10 @@ ghost use Rattle.std.specs.Prelude.{◌≡◌, List, [], false, length, OnOk};
 ghost use Rattle.acsub.specs.Matches.{IsHeldCost};
 ghost use Rattle.acsub.specs.Plan.{plan_of};
 ghost use Rattle.acsub.specs.Rules.File.{grammar_of};
-ghost use Rattle.acsub.specs.Run.{CostsFile, CostsIn, CostsRun, Ran, RanIn, RanPrepared, RanRules, Refuses, RefusesIn, RefusesRules, RunsOutFirst, WroteText, WroteTextBy, not_read};
+ghost use Rattle.acsub.specs.Run.{CostsFile, CostsIn, CostsRun, Ran, RanIn, RanRules, Refuses, RefusesIn, RefusesRules, WroteText, WroteTextBy, not_read};
 ghost use Rattle.acsub.specs.Run.RunLaws.{RunsWriteAlike};
 ghost use Rattle.acsub.specs.Run.Sending.{SendsText};
 ghost use Rattle.acsub.specs.Settings.{IsAccepted};
-ghost use Rattle.acsub.specs.Run.Transformed.{IsStreamed};
 
 use crate::error::RunError;
 use crate::input::read_whole;
@@ -158,9 +157,15 @@ pub fn run_rules_counted<R: Read, W: Write>(
     ensures cost { CostsRun (plan_of stream settings.now rules.now) reader.old reader.new
         steps.old steps.new result }
 {
-    match prepare(alloc, settings, stream, rules) {
-        Ok(prepared) => transform(alloc, &prepared, reader, writer, steps),
-        Err(error) => Err(error),
+    let prepared = prepare(alloc, settings, stream, rules)?;
+    match prepared.streamed() {
+        Some(automaton) => stream_text(alloc, &prepared, automaton, reader, writer, steps),
+        None => {
+            let mut output = Output::new(alloc)?;
+            let input = read_whole(alloc, reader)?;
+            let text = write_text(&prepared, input.as_slice(), &mut output, writer, steps);
+            told(text)
+        }
     }
 }
 
@@ -180,51 +185,7 @@ fn unread(error: RuleError) -> RunError
     }
 }
 
-/// Reads the input, and writes its text, while it reads where that may be.
-fn transform<R: Read, W: Write>(
-    alloc: Global,
-    prepared: &Prepared<'_>,
-    reader: &mut Watched<R>,
-    writer: &mut Watched<W>,
-    steps: &mut Steps,
-) -> Result<(), RunError>
-    requires open { reader.old.ended ≡ false }
-    requires accepted { IsAccepted prepared.now.settings prepared.now.rules }
-    ensures ran { RanPrepared R.remaining W.contents reader.old reader.new writer.old writer.new
-        prepared.now result }
-    ensures memory { RunsOutFirst prepared.now reader.old reader.new writer.old writer.new result }
-    ensures cost { CostsRun prepared.now reader.old reader.new steps.old steps.new result }
-{
-    match prepared.streamed() {
-        Some(automaton) => stream_text(alloc, prepared, automaton, reader, writer, steps),
-        None => transform_held(alloc, prepared, reader, writer, steps),
-    }
-}
-
-/// Reads the whole input, and writes its text then.
-fn transform_held<R: Read, W: Write>(
-    alloc: Global,
-    prepared: &Prepared<'_>,
-    reader: &mut Watched<R>,
-    writer: &mut Watched<W>,
-    steps: &mut Steps,
-) -> Result<(), RunError>
-    requires open { reader.old.ended ≡ false }
-    requires accepted { IsAccepted prepared.now.settings prepared.now.rules }
-    requires held { ¬ IsStreamed prepared.now }
-    ensures ran { RanPrepared R.remaining W.contents reader.old reader.new writer.old writer.new
-        prepared.now result }
-    ensures cost { CostsRun prepared.now reader.old reader.new steps.old steps.new result }
-{
-    let mut output = Output::new(alloc)?;
-    let input = read_whole(alloc, reader)?;
-    match write_text(prepared, input.as_slice(), &mut output, writer, steps) {
-        Ok(()) => Ok(()),
-        Err(error) => Err(told(error)),
-    }
-}
-
-/// Writes the text of an input.
+/// Writes the text that a mode makes of the whole input.
 fn write_text<W: Write>(
     prepared: &Prepared<'_>,
     input: &[u8],
@@ -234,24 +195,7 @@ fn write_text<W: Write>(
 ) -> Result<(), StreamError>
     requires accepted { IsAccepted prepared.now.settings prepared.now.rules }
     requires fresh { output.old ≡ [] }
-    ensures sent { SendsText W.contents prepared.now input.now writer.old writer.new [] [] result }
-    ensures cost { IsHeldCost prepared.now (length input.now) steps.old steps.new }
-{
-    send_text(prepared, input, output, writer, steps)?;
-    output.send_held(writer)
-}
-
-/// Sends the text that a mode makes of the whole input.
-fn send_text<W: Write>(
-    prepared: &Prepared<'_>,
-    input: &[u8],
-    output: &mut Output,
-    writer: &mut Watched<W>,
-    steps: &mut Steps,
-) -> Result<(), StreamError>
-    requires accepted { IsAccepted prepared.now.settings prepared.now.rules }
-    ensures sent { SendsText W.contents prepared.now input.now
-        writer.old writer.new output.old output.new result }
+    ensures sent { SendsText W.contents prepared.now input.now writer.old writer.new result }
     ensures cost { IsHeldCost prepared.now (length input.now) steps.old steps.new }
 {
     match prepared.mode() {

@@ -226,10 +226,7 @@ fn show_help<W: Write>(
 fn write_text<W: Write>(text: &str, writer: &mut Watched<W>) -> Result<(), RunError>
     ensures { WritesText W.contents text.now writer.old writer.new result }
 {
-    match write_whole(writer, text.as_bytes()) {
-        Ok(()) => Ok(()),
-        Err(error) => Err(told(error)),
-    }
+    told(write_whole(writer, text.as_bytes()))
 }
 
 /// Flushes the writer after a run. A fault of the run is reported before one of the flush.

@@ -1,11 +1,14 @@
 -- What the outcome of the program says of the run, the help and the flush.
 use Rattle.std.proofs.Common.{◌≡◌, inl, inr, ℕ, List, Option, Result, Ok, Err, refl, sym, ap, ◌∙◌, subst}
-use Rattle.std.specs.Prelude.{String, Vec}
+use Rattle.std.specs.Prelude.{IfErr, String, Vec}
 use Rattle.std.specs.declared.alloc.Global.{Global}
 use Rattle.std.specs.declared.io.Error.{Error}
 use Rattle.std.specs.declared.vec.IntoIter.{IntoIter}
+use Rattle.ac_automaton.specs.Devices.Watched.{IsOfWrite, WritesWhole}
+use Rattle.ac_automaton.specs.declared.error.StreamError.{StreamError}
 use Rattle.ac_automaton.specs.declared.watched.Watched.{Watched}
 use Rattle.acsub.specs.Outcome.{AnswersFile, AnswersHelp, Collects, EndsProgram, EndsTool, Finishes, RanFile, WritesText}
+use Rattle.acsub.specs.Stream.{IsNoRefusal}
 use Rattle.acsub.specs.Tool.{status_of}
 use Rattle.acsub.specs.declared.error.RunError.{RunError}
 use Rattle.acsub.specs.declared.error.RunError.TheVariants as errors
@@ -15,6 +18,11 @@ use Rattle.acsub.specs.declared.tool.Fault.TheVariants as faults
 use Rattle.acsub.specs.declared.words.WordsFault.TheVariants.{Memory}
 
 -- ---- the outcome after the flush
+
+-- the result of a text that was written is never a refused search
+pub write-accepted : {W : Type 0} (contents : W → Option (List ℕ)) (before after : Watched W) (text : List ℕ) (written : Result (Unit {0}) StreamError) → WritesWhole contents before after text written → IfErr written IsNoRefusal
+write-accepted contents before after text (Ok done) writes = tt
+write-accepted contents before after text (Err error) writes = λ refusal e. subst (IsOfWrite before after) e writes.1
 
 -- the outcome after help was written and flushed
 pub help-finished : {W : Type 0} (contents : W → Option (List ℕ)) (before between after : Watched W) (text : List ℕ) (answer : Result (Unit {0}) RunError) (outcome : Result (Unit {0}) Fault) → WritesText contents text before between answer → Finishes contents answer between after outcome → AnswersHelp contents before after outcome

@@ -29,7 +29,7 @@ use crate::error::RunError;
 use crate::input::read_whole;
 use crate::prepared::{Prepared, prepare};
 use crate::rewrite::{send_list, send_replaced};
-use crate::rules::{RuleError, Rules, read_rules_in};
+use crate::rules::{RuleError, Rules, read_rules};
 use crate::settings::{Mode, Settings};
 use crate::stream::{stream_text, told};
 use ac_automaton::error::StreamError;
@@ -106,7 +106,7 @@ pub fn run_in<R: Read, W: Write>(
     ensures cost { CostsIn (grammar_of text) (plan_of stream settings.now) file.now reader.old reader.new
         steps.old steps.new result }
 {
-    match read_rules_in(alloc, text, file) {
+    match read_rules(alloc, text, file) {
         Ok(rules) => run_rules_counted(alloc, settings, stream, &rules, reader, writer, steps),
         Err(error) => Err(unread(error)),
     }

@@ -67,7 +67,7 @@ fn try_run(
     let apart = source.most == 2;
     let mut reader = Watched::new(source);
     let mut writer = Watched::new(sink);
-    let outcome = match read_rules(alloc, rules.as_bytes()) {
+    let outcome = match read_rules(alloc, false, rules.as_bytes()) {
         Ok(rules) if stream || apart => {
             run_rules(alloc, settings, stream, &rules, &mut reader, &mut writer)
         }

@@ -7,7 +7,7 @@ use Rattle.std.specs.declared.vec.IntoIter.{IntoIter}
 use Rattle.ac_automaton.specs.Devices.Watched.{IsOfWrite, WritesWhole}
 use Rattle.ac_automaton.specs.declared.error.StreamError.{StreamError}
 use Rattle.ac_automaton.specs.declared.watched.Watched.{Watched}
-use Rattle.acsub.specs.Outcome.{AnswersFile, AnswersHelp, Collects, EndsProgram, EndsTool, Finishes, RanFile, WritesText}
+use Rattle.acsub.specs.Outcome.{AnswersFile, AnswersHelp, Collects, EndsProgram, EndsTool, Finishes, RanFile, ReadsFile, WritesText}
 use Rattle.acsub.specs.Stream.{IsNoRefusal}
 use Rattle.acsub.specs.Tool.{status_of}
 use Rattle.acsub.specs.declared.error.RunError.{RunError}
@@ -41,6 +41,11 @@ module _ {F R W : Type 0} (held : F → Option (List ℕ)) (remaining : R → Op
   run-finished r r' before between after (Err e) (Ok none) ran flush = absurd flush
   run-finished r r' before between after (Err e) (Err fault) ran (told, inl flush) = subst (λ (f : Fault). AnswersFile held remaining contents asked r r' before after (Err f)) (sym told) (inl (between, ran, flush))
   run-finished r r' before between after (Err e) (Err fault) ran (told, inr flush) = subst (λ (f : Fault). AnswersFile held remaining contents asked r r' before after (Err f)) (sym told) (inr (inl (between, ran, flush)))
+
+  -- if the rule file can't be read, that is the fault, and no device is touched
+  pub file-unread : (r : Watched R) (w : Watched W) (fault : Fault) → ReadsFile {F = F} {Z = Global} held (Err fault) → AnswersFile held remaining contents asked r r w w (Err fault)
+  file-unread r w fault (inl is) = subst (λ (f : Fault). AnswersFile held remaining contents asked r r w w (Err f)) (sym is) (refl, refl)
+  file-unread r w fault (inr is) = subst (λ (f : Fault). AnswersFile held remaining contents asked r r w w (Err f)) (sym is) (inr (inr (refl, (refl, refl))))
 
 -- ---- the words
 

@@ -1,3 +1,3 @@
+pub mod GrammarLemmas
 pub mod LineLemmas
 pub mod SpellingLemmas
-pub mod TextLineLemmas

@@ -6,8 +6,8 @@ use Rattle.std.specs.declared.io.Error.{Error}
 use Rattle.std.specs.Vec.Iter.{into_iter_items}
 use Rattle.std.specs.declared.vec.IntoIter.{IntoIter}
 use Rattle.clap.specs.Words.{Text}
-use Rattle.ac_automaton.specs.Devices.Moved.{HasTaken, NoneTouched}
-use Rattle.ac_automaton.specs.Devices.Watched.{IsOfWrite, NoneRead, TookFront}
+use Rattle.ac_automaton.specs.Devices.Moved.{NoneTouched}
+use Rattle.ac_automaton.specs.Devices.Watched.{NoneRead, WritesWhole}
 use Rattle.ac_automaton.specs.declared.error.StreamError.{StreamError}
 use Rattle.ac_automaton.specs.declared.watched.Watched.{Watched}
 use Rattle.acsub.specs.declared.error.RunError.{RunError}
@@ -47,10 +47,9 @@ pub record Flushes {W : Type 0} (contents : W → Option (List ℕ)) (before aft
   pub device : Keeps (contents before.inner) (contents after.inner)
 
 module _ {W : Type 0} (contents : W → Option (List ℕ)) where
-  -- A text was written whole; or a write failed or took no byte, and a prefix of the text was written.
+  -- A text was written whole; or a write failed or took no byte, and a prefix of the text was written. A run returns that result.
   abbrev pub WritesText : List ℕ → Watched W → Watched W → Result (Unit {0}) RunError → Type 0
-  WritesText text before after (Ok done) = HasTaken contents before after text 0 0
-  WritesText text before after (Err e) = TookFront contents before after text × ((error : StreamError) × IsOfWrite before after error × IsReturnedAs (Err error) (Err e))
+  WritesText text before after result = (written : Result (Unit {0}) StreamError) × IsReturnedAs written result × WritesWhole contents before after text written × NoneRead before after
 
   -- the outcome of a run with this result, and of the flush after it
   abbrev pub Finishes : Result (Unit {0}) RunError → Watched W → Watched W → Result (Unit {0}) Fault → Type 0

@@ -1,5 +1,5 @@
 -- What a run is to do.
-use Rattle.std.specs.Prelude.{Bool, List, false, true}
+use Rattle.std.specs.Prelude.{Bool, List}
 use Rattle.ac_input.specs.Rules.{Rule}
 use Rattle.acsub.specs.declared.settings.Settings.{Settings}
 
@@ -11,11 +11,3 @@ pub record Plan : Type 0 where
 
 abbrev pub plan_of : Bool → Settings → List Rule → Plan
 plan_of stream settings rules = record { settings = settings; rules = rules; stream = stream }
-
--- a plan that doesn't ask for a stream
-abbrev pub plan_for : Settings → List Rule → Plan
-plan_for settings rules = plan_of false settings rules
-
--- a plan that asks for a stream
-abbrev pub streaming_plan_for : Settings → List Rule → Plan
-streaming_plan_for settings rules = plan_of true settings rules

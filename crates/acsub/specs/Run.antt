@@ -2,7 +2,7 @@
 pub mod RunLaws
 pub mod Sending
 pub mod Transformed
-use Rattle.std.specs.Prelude.{◌↔◌, ◌≡◌, ◌≢◌, ℕ, ◌+◌, ◌*◌, ◌≤◌, List, [], ◌++◌, length, Result, Option, Ok, Err, OnOk}
+use Rattle.std.specs.Prelude.{◌↔◌, ◌≡◌, ◌≢◌, ℕ, ◌+◌, ◌*◌, ◌≤◌, false, List, [], ◌++◌, length, Result, Option, Ok, Err, OnOk}
 use Rattle.std.specs.List.{concat}
 use Rattle.ac_input.specs.Laws.BeginningLaws.{IsBeginning}
 use Rattle.ac_input.specs.Rules.{IsRuleFile, Rule}
@@ -18,7 +18,7 @@ use Rattle.acsub.specs.declared.settings.Settings.{Settings}
 use Rattle.acsub.specs.Matches.{IsHeldCost}
 use Rattle.acsub.specs.Rules.File.{Grammar, hex_rules}
 use Rattle.acsub.specs.Finder.{whole_walk}
-use Rattle.acsub.specs.Plan.{Plan, plan_for}
+use Rattle.acsub.specs.Plan.{Plan, plan_of}
 use Rattle.acsub.specs.Served.{AreLooksFor, IsBuildable, IsNotBuilt, dictionary_for}
 use Rattle.acsub.specs.Settings.{IsAccepted, IsFirstExclusion}
 use Rattle.acsub.specs.Run.Transformed.{IsOutputFront, IsStreamed, output_of, stream_room}
@@ -193,10 +193,10 @@ CostsIn grammar plan file reader_before reader_after before after result = (rule
 -- ---- runs by a rule file of hex, without a request to stream
 
 abbrev pub Ran : {R W : Type 0} → (R → Option (List ℕ)) → (W → Option (List ℕ)) → Watched R → Watched R → Watched W → Watched W → Settings → List ℕ → Result (Unit {0}) RunError → Type 0
-Ran remaining contents reader_before reader_after writer_before writer_after settings = RanIn hex_rules remaining contents reader_before reader_after writer_before writer_after (plan_for settings)
+Ran remaining contents reader_before reader_after writer_before writer_after settings = RanIn hex_rules remaining contents reader_before reader_after writer_before writer_after (plan_of false settings)
 
 abbrev pub Refuses : {R W : Type 0} → Settings → List ℕ → Watched R → Watched R → Watched W → Watched W → Result (Unit {0}) RunError → Type 0
-Refuses settings = RefusesIn hex_rules (plan_for settings)
+Refuses settings = RefusesIn hex_rules (plan_of false settings)
 
 abbrev pub CostsFile : {R : Type 0} → Settings → List ℕ → Watched R → Watched R → Steps → Steps → Result (Unit {0}) RunError → Type 0
-CostsFile settings = CostsIn hex_rules (plan_for settings)
+CostsFile settings = CostsIn hex_rules (plan_of false settings)

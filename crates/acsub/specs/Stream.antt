@@ -39,11 +39,6 @@ abbrev pub WritesPlan : {R W : Type 0} → (R → Option (List ℕ)) → (W → 
 WritesPlan remaining contents reader_before reader_after writer_before writer_after plan result =
     WritesStream remaining contents (stream_room plan) (output_of plan.settings plan.rules) (IsOutputFront plan.settings plan.rules) reader_before reader_after writer_before writer_after result
 
--- What a run that writes while it reads has read and written. Its result is that of a search which writes the text of the plan.
-abbrev pub Streams : {R W : Type 0} → (R → Option (List ℕ)) → (W → Option (List ℕ)) → Watched R → Watched R → Watched W → Watched W → Plan → Result (Unit {0}) RunError → Type 0
-Streams remaining contents reader_before reader_after writer_before writer_after plan result =
-    (searched : Result (Unit {0}) StreamError) × IsReturnedAs searched result × WritesPlan remaining contents reader_before reader_after writer_before writer_after plan searched
-
 -- What the search of a stream costs, by the bytes that were read and by their matches. If it returned Ok, it looked at each byte.
 abbrev pub CostsSearch : {R E : Type 0} → Built → Watched R → Watched R → Steps → Steps → Result (Unit {0}) E → Type 0
 CostsSearch b reader_before reader_after before after result =
@@ -54,10 +49,6 @@ CostsSearch b reader_before reader_after before after result =
 -- the error is no refusal of the search
 abbrev pub IsNoRefusal : StreamError → Type 0
 IsNoRefusal error = (refusal : MatchErrorKind) → error ≢ stream.Config refusal
-
--- P holds if the run is out of memory
-abbrev pub IfMemory : Result (Unit {0}) RunError → Type 0 → Type 0
-IfMemory result P = IfErr result (λ error. error ≡ errors.Memory → P)
 
 -- P holds if the search of a stream is out of memory
 abbrev pub IfStreamMemory : Result (Unit {0}) StreamError → Type 0 → Type 0

@@ -3,7 +3,7 @@
 //! A program reads the line of a fault, so that line stands alone. Where standard error is a terminal, a person reads it, and
 //! `main` writes a second line: what is wrong with the words, with a line of the rule file, or with its path. The hint is made
 //! anew from the words and the file, after the run, so no run pays for it. Its texts are held by tests: no clause names them.
-use crate::rules::{RuleError, read_rules_in};
+use crate::rules::{RuleError, read_rules};
 use crate::words::{Words, WordsFault, read_words, words_refused};
 use std::alloc::{AllocError, Global};
 use std::fs;
@@ -78,7 +78,7 @@ fn hint_for_file<F: Files>(
         Ok(bytes) => bytes,
         Err(error) => return Ok(Some(format!(in alloc; "{path}: {error}")?)),
     };
-    match read_rules_in(alloc, asked.text, bytes.as_slice()) {
+    match read_rules(alloc, asked.text, bytes.as_slice()) {
         Err(RuleError::Line(number)) => {
             let line = line_at(bytes.as_slice(), number);
             let reason = if asked.text {

@@ -1,8 +1,8 @@
 //! The text of an input that lies in memory, written as it is found.
 //!
-//! Each function goes on from one match to the next, and sends what stands between and what is put in its place. Nothing of the
-//! text is kept.
-ghost use Rattle.std.specs.Prelude.{length};
+//! Each function goes on from one match to the next, and sends what stands between and what is put in its place. At its end nothing
+//! is held back.
+ghost use Rattle.std.specs.Prelude.{◌≡◌, [], length};
 ghost use Rattle.ac_automaton.specs.Replace.{LieInOrder};
 ghost use Rattle.acsub.specs.Matches.{KeepsCount, left_in};
 ghost use Rattle.acsub.specs.Run.Sending.{SendsList, SendsReplaced};
@@ -16,7 +16,7 @@ use ac_automaton::watched::Watched;
 use ac_input::steps::Steps;
 use std::io::Write;
 
-/// Sends the input with each pick replaced.
+/// Writes the input with each pick replaced.
 pub fn send_replaced<W: Write>(
     picks: &mut Matches<'_>,
     input: &[u8],
@@ -25,9 +25,10 @@ pub fn send_replaced<W: Write>(
     writer: &mut Watched<W>,
     steps: &mut Steps,
 ) -> Result<(), StreamError>
-    requires { LieInOrder (length rules.now) (length input.now) 0 (left_in picks.old) }
+    requires lie { LieInOrder (length rules.now) (length input.now) 0 (left_in picks.old) }
+    requires fresh { output.old ≡ [] }
     ensures sent { SendsReplaced W.contents input.now rules.now picks.old
-        writer.old writer.new output.old output.new result }
+        writer.old writer.new result }
     ensures counts { KeepsCount picks.old picks.new steps.old steps.new }
 {
     let mut at = 0;
@@ -39,22 +40,22 @@ pub fn send_replaced<W: Write>(
         )?;
         at = found.end();
     }
-    output.send(writer, &input[at..])
+    output.send_all(writer, &input[at..])
 }
 
-/// Sends a line for each match.
+/// Writes a line for each match.
 pub fn send_list<W: Write>(
     matches: &mut Matches<'_>,
     output: &mut Output,
     writer: &mut Watched<W>,
     steps: &mut Steps,
 ) -> Result<(), StreamError>
-    ensures sent { SendsList W.contents matches.old
-        writer.old writer.new output.old output.new result }
+    requires { output.old ≡ [] }
+    ensures sent { SendsList W.contents matches.old writer.old writer.new result }
     ensures counts { KeepsCount matches.old matches.new steps.old steps.new }
 {
     while let Some(found) = matches.next_counted(steps) {
         output.send(writer, Line::new(&found).as_bytes())?;
     }
-    Ok(())
+    output.send_held(writer)
 }

@@ -1,19 +1,19 @@
-//! The rule file, and its readers: of hex here, of plain text in [`text`].
+//! The rule file, and its reader. How a line of hex is read stands here, and how one of plain text in [`text`].
 //!
 //! In a rule file of hex each line is `pattern TAB replacement LF`, two digits of either case a byte on both sides.
 //! Either side may be empty. Anything else, as CR, a space, an empty line, a third column or a last line without LF,
 //! makes the line a bad one.
 //!
 //! The file is read twice. The first pass looks for a bad line and counts the rules. It takes no memory, so which line is
-//! reported never depends on memory. The second pass runs only over a rule file. It decodes the sides, and fails only where
-//! it is out of memory. Each pass looks at each byte a few times and never goes back.
+//! reported never depends on memory. The second pass runs only over a rule file. It decodes or copies the sides, and fails only
+//! where it is out of memory. Each pass looks at each byte a few times and never goes back.
 
-ghost use Rattle.std.specs.Prelude.{◌≡◌, ◌↔◌, ◌==◌, ◌<◌, ℕ, List, length, Contains, IsTrue, IfNone, IfOk, IfErr, IfSome, MatchOption, MatchResult};
-ghost use Rattle.ac_input.specs.Rules.{BeginsWithNoRule, FirstBadLine, IsRuleFile, Rule, Spells};
-ghost use Rattle.acsub.specs.Rules.File.{ReadsRules};
-ghost use Rattle.acsub.specs.Rules.Lines.{HasCount, IsFirstLine, IsSpelling, IsSplitAt, rule_at};
+ghost use Rattle.std.specs.Prelude.{◌≡◌, ◌↔◌, ◌==◌, ◌<◌, ℕ, List, length, Contains, IsTrue, IfNone, IfOk, IfErr, IfSome, MatchResult};
+ghost use Rattle.ac_input.specs.Rules.{Rule};
+ghost use Rattle.acsub.specs.Rules.File.{ReadsRules, grammar_of, hex_rules};
+ghost use Rattle.acsub.specs.Rules.Lines.{BeginsWithLine, HasCount, IsSpelling, IsSplitAt, SpellsRule, rule_at};
 ghost use Rattle.ac_literal.specs.Packed.{bytes_of};
-ghost use Rattle.acsub.specs.Rules.Sides.{rule_patterns, replacements_of};
+ghost use Rattle.acsub.specs.Rules.Sides.{rule_of, rule_patterns, replacements_of};
 ghost use Rattle.acsub.specs.declared.rules.RuleError.TheVariants.{Memory};
 
 use memchr::memchr;
@@ -24,7 +24,7 @@ use std::marker::Model;
 
 mod text;
 
-pub use text::read_text_rules;
+use text::first_in_text;
 
 /// Why bytes were not read as a rule file.
 #[derive(Clone, Copy, Debug, PartialEq, Eq)]
@@ -143,38 +143,25 @@ impl Rules {
     }
 }
 
-/// The rules that a rule file spells.
+/// The rules of a rule file of plain text, or of hex.
 ///
 /// The work is linear in the bytes. Takes memory for the rules and nothing else, and none where a line is bad.
-pub fn read_rules(alloc: Global, bytes: &[u8]) -> Result<Rules, RuleError>
-    ensures rules { IfOk result (λ rules. IsRuleFile bytes.now rules) }
-    ensures bad { (n : ℕ) → (result ≡ Err (RuleError.Line n)) ↔ FirstBadLine bytes.now n }
-    ensures memory { result ≡ Err Memory → (rules : List Rule) × IsRuleFile bytes.now rules }
+pub fn read_rules(alloc: Global, text: bool, bytes: &[u8]) -> Result<Rules, RuleError>
+    ensures { ReadsRules text bytes.now result }
 {
-    match count_rules(bytes) {
-        Ok(count) => decode_rules(alloc, bytes, count),
+    match count_rules(text, bytes) {
+        Ok(count) => keep_rules(alloc, text, bytes, count),
         Err(line) => Err(RuleError::Line(line)),
     }
 }
 
-/// The rules of a rule file of plain text, or of hex.
-pub fn read_rules_in(alloc: Global, text: bool, bytes: &[u8]) -> Result<Rules, RuleError>
-    ensures { ReadsRules text bytes.now result }
-{
-    if text {
-        read_text_rules(alloc, bytes)
-    } else {
-        read_rules(alloc, bytes)
-    }
-}
-
 /// The number of rules, or the number of the first bad line.
-fn count_rules(bytes: &[u8]) -> Result<usize, usize>
-    ensures { MatchResult result (HasCount bytes.now) (FirstBadLine bytes.now) }
+fn count_rules(text: bool, bytes: &[u8]) -> Result<usize, usize>
+    ensures { MatchResult result (HasCount text bytes.now) ((grammar_of text).bad bytes.now) }
 {
     let mut count = 0;
     let mut rest = bytes;
-    while let Some(line) = first_line(rest) {
+    while let Some(line) = first_rule(text, rest) {
         count += 1;
         rest = line.rest;
     }
@@ -186,15 +173,15 @@ fn count_rules(bytes: &[u8]) -> Result<usize, usize>
 }
 
 /// The rules of bytes that are known to be a rule file, of which there are `count`.
-fn decode_rules(alloc: Global, bytes: &[u8], count: usize) -> Result<Rules, RuleError>
-    requires { HasCount bytes.now count }
-    ensures rules { IfOk result (λ rules. IsRuleFile bytes.now rules) }
+fn keep_rules(alloc: Global, text: bool, bytes: &[u8], count: usize) -> Result<Rules, RuleError>
+    requires { HasCount text bytes.now count }
+    ensures rules { IfOk result ((grammar_of text).holds bytes.now) }
     ensures memory { IfErr result (λ e. e ≡ RuleError.Memory) }
 {
     let mut sides = Vec::with_capacity(alloc, count)?;
     let mut rest = bytes;
-    while let Some(line) = first_line(rest) {
-        sides.push(decode_line(alloc, &line)?)?;
+    while let Some(line) = first_rule(text, rest) {
+        sides.push(keep_line(alloc, text, &line)?)?;
         rest = line.rest;
     }
     Ok(Rules { sides })
@@ -208,9 +195,20 @@ struct RuleLine<'a> {
     rest: &'a [u8],
 }
 
-/// The rule that the bytes begin with.
-fn first_line(bytes: &[u8]) -> Option<RuleLine<'_>>
-    ensures { MatchOption result (BeginsWithNoRule bytes.now) (IsFirstLine bytes.now) }
+/// The rule that the bytes begin with, as it is written.
+fn first_rule(text: bool, bytes: &[u8]) -> Option<RuleLine<'_>>
+    ensures { BeginsWithLine (grammar_of text) bytes.now result }
+{
+    if text {
+        first_in_text(bytes)
+    } else {
+        first_in_hex(bytes)
+    }
+}
+
+/// The rule of hex that the bytes begin with.
+fn first_in_hex(bytes: &[u8]) -> Option<RuleLine<'_>>
+    ensures { BeginsWithLine hex_rules bytes.now result }
 {
     let (pattern, after) = split_at_byte(bytes, b'\t')?;
     let (replacement, rest) = split_at_byte(after, b'\n')?;
@@ -241,26 +239,28 @@ fn is_spelling(text: &[u8]) -> bool
     text.len() % 2 == 0 && text.iter().all(|digit| digit.is_ascii_hexdigit())
 }
 
-/// Both sides of a line, decoded.
-fn decode_line(alloc: Global, line: &RuleLine<'_>) -> Result<Sides, RuleError>
-    requires pattern { IsSpelling line.now.pattern.now }
-    requires replacement { IsSpelling line.now.replacement.now }
-    ensures pattern { IfOk result (λ s. Spells line.now.pattern.now s.pattern.items) }
-    ensures replacement { IfOk result (λ s. Spells line.now.replacement.now s.replacement.items) }
+/// Both sides of a line, as bytes of their own.
+fn keep_line(alloc: Global, text: bool, line: &RuleLine<'_>) -> Result<Sides, RuleError>
+    requires { (rule : Rule) × SpellsRule (grammar_of text) line.now rule }
+    ensures sides { IfOk result (λ sides. SpellsRule (grammar_of text) line.now (rule_of sides)) }
     ensures memory { IfErr result (λ e. e ≡ RuleError.Memory) }
 {
     Ok(Sides {
-        pattern: decode_side(alloc, line.pattern)?,
-        replacement: decode_side(alloc, line.replacement)?,
+        pattern: keep_side(alloc, text, line.pattern)?,
+        replacement: keep_side(alloc, text, line.replacement)?,
     })
 }
 
-/// The bytes that a side spells.
-fn decode_side(alloc: Global, text: &[u8]) -> Result<Vec<u8>, RuleError>
-    requires { IsSpelling text.now }
-    ensures side { IfOk result (λ bytes. Spells text.now bytes.items) }
+/// The bytes that a side stands for: in plain text those that are written.
+fn keep_side(alloc: Global, text: bool, side: &[u8]) -> Result<Vec<u8>, RuleError>
+    requires { (bytes : List ℕ) × (grammar_of text).spells side.now bytes }
+    ensures side { IfOk result (λ bytes. (grammar_of text).spells side.now bytes.items) }
     ensures memory { IfErr result (λ e. e ≡ RuleError.Memory) }
 {
-    // The text is known to be hex, so memory is all that can fail.
-    hex::decode(alloc, text).map_err(|_| RuleError::Memory)
+    if text {
+        Ok(Vec::from_slice(alloc, side)?)
+    } else {
+        // The side is known to be hex, so memory is all that can fail.
+        hex::decode(alloc, side).map_err(|_| RuleError::Memory)
+    }
 }

@@ -6,7 +6,7 @@
 //! writes while it reads. Everything that is decided is written before each read; at most as many bytes are held back as the
 //! longest pattern has.
 //!
-//! [`run_rules_streaming`] is asked to do so under every kind, and for a list of all that overlap. Under a leftmost kind a match is
+//! A run that is asked for a stream does so under every kind, and for a list of all that overlap. Under a leftmost kind a match is
 //! held back until it is decided: no byte that follows can change it. That is a wish about time: packed search and an empty pattern
 //! hold the input as before.
 //!
@@ -18,19 +18,18 @@
 //! text, which [`runs_write_alike`] states.
 ghost use Rattle.std.specs.Prelude.{◌≡◌, List, [], false, length, OnOk};
 ghost use Rattle.acsub.specs.Matches.{IsHeldCost};
-ghost use Rattle.acsub.specs.Plan.{plan_for, plan_of, streaming_plan_for};
+ghost use Rattle.acsub.specs.Plan.{plan_of};
 ghost use Rattle.acsub.specs.Rules.File.{grammar_of};
-ghost use Rattle.acsub.specs.Run.{CostsFile, CostsIn, CostsRun, Ran, RanIn, RanPrepared, RanRules, Refuses, RefusesIn, RefusesRules, RunsOutFirst, WroteText, WroteTextBy, not_read};
+ghost use Rattle.acsub.specs.Run.{CostsFile, CostsIn, CostsRun, Ran, RanIn, RanRules, Refuses, RefusesIn, RefusesRules, WroteText, WroteTextBy, not_read};
 ghost use Rattle.acsub.specs.Run.RunLaws.{RunsWriteAlike};
 ghost use Rattle.acsub.specs.Run.Sending.{SendsText};
 ghost use Rattle.acsub.specs.Settings.{IsAccepted};
-ghost use Rattle.acsub.specs.Run.Transformed.{IsStreamed};
 
 use crate::error::RunError;
 use crate::input::read_whole;
 use crate::prepared::{Prepared, prepare};
 use crate::rewrite::{send_list, send_replaced};
-use crate::rules::{RuleError, Rules, read_rules_in};
+use crate::rules::{RuleError, Rules, read_rules};
 use crate::settings::{Mode, Settings};
 use crate::stream::{stream_text, told};
 use ac_automaton::error::StreamError;
@@ -78,8 +77,6 @@ pub fn run_counted<R: Read, W: Write>(
     steps: &mut Steps,
 ) -> Result<(), RunError>
     requires { reader.old.ended ≡ false }
-    ensures written { OnOk result (WroteTextBy settings.now rules.now
-        reader.old reader.new writer.old writer.new) }
     ensures answered { Ran R.remaining W.contents reader.old reader.new writer.old writer.new
         settings.now rules.now result }
     ensures fault { Refuses settings.now rules.now
@@ -109,16 +106,23 @@ pub fn run_in<R: Read, W: Write>(
     ensures cost { CostsIn (grammar_of text) (plan_of stream settings.now) file.now reader.old reader.new
         steps.old steps.new result }
 {
-    match read_rules_in(alloc, text, file) {
-        Ok(rules) => run_plan(alloc, settings, stream, &rules, reader, writer, steps),
+    match read_rules(alloc, text, file) {
+        Ok(rules) => run_rules_counted(alloc, settings, stream, &rules, reader, writer, steps),
         Err(error) => Err(unread(error)),
     }
 }
 
 /// Reads the input to its end, and writes the text that settings and rules make of it: [`run`], by rules that have been read.
+///
+/// With `stream` it writes while it reads under a leftmost kind too, and so does a list of all that overlap, unless packed search
+/// finds the matches or a pattern is empty. It writes the same text.
+///
+/// Before each read it has written everything that is decided, of all that overlap each line. Under a leftmost kind it holds back at
+/// most as many bytes as the longest pattern has; after each match it reads at most so many bytes and one again.
 pub fn run_rules<R: Read, W: Write>(
     alloc: Global,
     settings: &Settings,
+    stream: bool,
     rules: &Rules,
     reader: &mut Watched<R>,
     writer: &mut Watched<W>,
@@ -127,84 +131,16 @@ pub fn run_rules<R: Read, W: Write>(
     ensures written { OnOk result (WroteText settings.now rules.now
         reader.old reader.new writer.old writer.new) }
     ensures answered { RanRules R.remaining W.contents reader.old reader.new writer.old writer.new
-        (plan_for settings.now rules.now) result }
-    ensures fault { RefusesRules (plan_for settings.now rules.now)
+        (plan_of stream settings.now rules.now) result }
+    ensures fault { RefusesRules (plan_of stream settings.now rules.now)
         reader.old reader.new writer.old writer.new result }
 {
     let mut steps = Steps::new();
-    run_rules_counted(alloc, settings, rules, reader, writer, &mut steps)
+    run_rules_counted(alloc, settings, stream, rules, reader, writer, &mut steps)
 }
 
 /// The same, and counts what it does. Packed search counts nothing.
 pub fn run_rules_counted<R: Read, W: Write>(
-    alloc: Global,
-    settings: &Settings,
-    rules: &Rules,
-    reader: &mut Watched<R>,
-    writer: &mut Watched<W>,
-    steps: &mut Steps,
-) -> Result<(), RunError>
-    requires { reader.old.ended ≡ false }
-    ensures written { OnOk result (WroteText settings.now rules.now
-        reader.old reader.new writer.old writer.new) }
-    ensures answered { RanRules R.remaining W.contents reader.old reader.new writer.old writer.new
-        (plan_for settings.now rules.now) result }
-    ensures fault { RefusesRules (plan_for settings.now rules.now)
-        reader.old reader.new writer.old writer.new result }
-    ensures cost { CostsRun (plan_for settings.now rules.now) reader.old reader.new
-        steps.old steps.new result }
-{
-    run_plan(alloc, settings, false, rules, reader, writer, steps)
-}
-
-/// The same as [`run_rules`], but writes while it reads under a leftmost kind too, and so does a list of all that overlap, unless
-/// packed search finds the matches or a pattern is empty. It writes the same text.
-///
-/// Before each read it has written everything that is decided, of all that overlap each line. Under a leftmost kind it holds back at
-/// most as many bytes as the longest pattern has; after each match it reads at most so many bytes and one again.
-pub fn run_rules_streaming<R: Read, W: Write>(
-    alloc: Global,
-    settings: &Settings,
-    rules: &Rules,
-    reader: &mut Watched<R>,
-    writer: &mut Watched<W>,
-) -> Result<(), RunError>
-    requires { reader.old.ended ≡ false }
-    ensures written { OnOk result (WroteText settings.now rules.now
-        reader.old reader.new writer.old writer.new) }
-    ensures answered { RanRules R.remaining W.contents reader.old reader.new writer.old writer.new
-        (streaming_plan_for settings.now rules.now) result }
-    ensures fault { RefusesRules (streaming_plan_for settings.now rules.now)
-        reader.old reader.new writer.old writer.new result }
-{
-    let mut steps = Steps::new();
-    run_rules_streaming_counted(alloc, settings, rules, reader, writer, &mut steps)
-}
-
-/// The same, and counts what it does.
-pub fn run_rules_streaming_counted<R: Read, W: Write>(
-    alloc: Global,
-    settings: &Settings,
-    rules: &Rules,
-    reader: &mut Watched<R>,
-    writer: &mut Watched<W>,
-    steps: &mut Steps,
-) -> Result<(), RunError>
-    requires { reader.old.ended ≡ false }
-    ensures written { OnOk result (WroteText settings.now rules.now
-        reader.old reader.new writer.old writer.new) }
-    ensures answered { RanRules R.remaining W.contents reader.old reader.new writer.old writer.new
-        (streaming_plan_for settings.now rules.now) result }
-    ensures fault { RefusesRules (streaming_plan_for settings.now rules.now)
-        reader.old reader.new writer.old writer.new result }
-    ensures cost { CostsRun (streaming_plan_for settings.now rules.now) reader.old reader.new
-        steps.old steps.new result }
-{
-    run_plan(alloc, settings, true, rules, reader, writer, steps)
-}
-
-/// Runs by settings and rules, asked to write while it reads, or not.
-fn run_plan<R: Read, W: Write>(
     alloc: Global,
     settings: &Settings,
     stream: bool,
@@ -221,9 +157,15 @@ fn run_plan<R: Read, W: Write>(
     ensures cost { CostsRun (plan_of stream settings.now rules.now) reader.old reader.new
         steps.old steps.new result }
 {
-    match prepare(alloc, settings, stream, rules) {
-        Ok(prepared) => transform(alloc, &prepared, reader, writer, steps),
-        Err(error) => Err(error),
+    let prepared = prepare(alloc, settings, stream, rules)?;
+    match prepared.streamed() {
+        Some(automaton) => stream_text(alloc, &prepared, automaton, reader, writer, steps),
+        None => {
+            let mut output = Output::new(alloc)?;
+            let input = read_whole(alloc, reader)?;
+            let text = write_text(&prepared, input.as_slice(), &mut output, writer, steps);
+            told(text)
+        }
     }
 }
 
@@ -243,51 +185,7 @@ fn unread(error: RuleError) -> RunError
     }
 }
 
-/// Reads the input, and writes its text, while it reads where that may be.
-fn transform<R: Read, W: Write>(
-    alloc: Global,
-    prepared: &Prepared<'_>,
-    reader: &mut Watched<R>,
-    writer: &mut Watched<W>,
-    steps: &mut Steps,
-) -> Result<(), RunError>
-    requires open { reader.old.ended ≡ false }
-    requires accepted { IsAccepted prepared.now.settings prepared.now.rules }
-    ensures ran { RanPrepared R.remaining W.contents reader.old reader.new writer.old writer.new
-        prepared.now result }
-    ensures memory { RunsOutFirst prepared.now reader.old reader.new writer.old writer.new result }
-    ensures cost { CostsRun prepared.now reader.old reader.new steps.old steps.new result }
-{
-    match prepared.streamed() {
-        Some(automaton) => stream_text(alloc, prepared, automaton, reader, writer, steps),
-        None => transform_held(alloc, prepared, reader, writer, steps),
-    }
-}
-
-/// Reads the whole input, and writes its text then.
-fn transform_held<R: Read, W: Write>(
-    alloc: Global,
-    prepared: &Prepared<'_>,
-    reader: &mut Watched<R>,
-    writer: &mut Watched<W>,
-    steps: &mut Steps,
-) -> Result<(), RunError>
-    requires open { reader.old.ended ≡ false }
-    requires accepted { IsAccepted prepared.now.settings prepared.now.rules }
-    requires held { ¬ IsStreamed prepared.now }
-    ensures ran { RanPrepared R.remaining W.contents reader.old reader.new writer.old writer.new
-        prepared.now result }
-    ensures cost { CostsRun prepared.now reader.old reader.new steps.old steps.new result }
-{
-    let mut output = Output::new(alloc)?;
-    let input = read_whole(alloc, reader)?;
-    match write_text(prepared, input.as_slice(), &mut output, writer, steps) {
-        Ok(()) => Ok(()),
-        Err(error) => Err(told(error)),
-    }
-}
-
-/// Writes the text of an input.
+/// Writes the text that a mode makes of the whole input.
 fn write_text<W: Write>(
     prepared: &Prepared<'_>,
     input: &[u8],
@@ -297,24 +195,7 @@ fn write_text<W: Write>(
 ) -> Result<(), StreamError>
     requires accepted { IsAccepted prepared.now.settings prepared.now.rules }
     requires fresh { output.old ≡ [] }
-    ensures sent { SendsText W.contents prepared.now input.now writer.old writer.new [] [] result }
-    ensures cost { IsHeldCost prepared.now (length input.now) steps.old steps.new }
-{
-    send_text(prepared, input, output, writer, steps)?;
-    output.send_held(writer)
-}
-
-/// Sends the text that a mode makes of the whole input.
-fn send_text<W: Write>(
-    prepared: &Prepared<'_>,
-    input: &[u8],
-    output: &mut Output,
-    writer: &mut Watched<W>,
-    steps: &mut Steps,
-) -> Result<(), StreamError>
-    requires accepted { IsAccepted prepared.now.settings prepared.now.rules }
-    ensures sent { SendsText W.contents prepared.now input.now
-        writer.old writer.new output.old output.new result }
+    ensures sent { SendsText W.contents prepared.now input.now writer.old writer.new result }
     ensures cost { IsHeldCost prepared.now (length input.now) steps.old steps.new }
 {
     match prepared.mode() {

@@ -4,17 +4,12 @@
 //! it is decided. All that is decided is written before the next read, so a run over a pipe writes as soon as it can. It holds no
 //! more than one buffer of the input and one of the text, and takes both before the first read. All that overlap in what was read
 //! can't be changed by what is read later, either.
-ghost use Rattle.std.specs.Prelude.{◌≡◌, Err, IfErr, false};
-ghost use Rattle.ac_automaton.specs.Devices.Moved.{NoneTouched};
-ghost use Rattle.ac_automaton.specs.Stream.{CanStream};
-ghost use Rattle.ac_automaton.specs.Stream.StreamReplace.{ReplacesStream};
-ghost use Rattle.ac_automaton.specs.declared.stream.StreamKinds.TheVariants.{AnyKind};
-ghost use Rattle.aho_corasick.specs.AhoCorasick.{as_built, supported_by};
+ghost use Rattle.std.specs.Prelude.{◌≡◌, IfErr, false};
 ghost use Rattle.acsub.specs.Finder.{IsServing};
-ghost use Rattle.acsub.specs.Settings.{IsAccepted};
-ghost use Rattle.acsub.specs.Rules.Sides.{replacements_of};
-ghost use Rattle.acsub.specs.Stream.{CostsSearch, IfMemory, IfStreamMemory, IsNoRefusal, IsReturnedAs, Streams, WritesPlan};
+ghost use Rattle.acsub.specs.Run.{CostsRun, RanPrepared, RunsOutFirst};
 ghost use Rattle.acsub.specs.Run.Transformed.{IsStreamed};
+ghost use Rattle.acsub.specs.Settings.{IsAccepted};
+ghost use Rattle.acsub.specs.Stream.{IsNoRefusal, IsReturnedAs};
 
 use crate::error::RunError;
 use crate::prepared::Prepared;
@@ -32,7 +27,7 @@ mod overlap;
 use list::list_stream;
 use overlap::list_every;
 
-/// Reads the input, and writes its text while it reads.
+/// Reads the input, and writes what the settings' mode makes of it while it reads.
 pub fn stream_text<R: Read, W: Write>(
     alloc: Global,
     prepared: &Prepared<'_>,
@@ -45,82 +40,37 @@ pub fn stream_text<R: Read, W: Write>(
     requires accepted { IsAccepted prepared.now.settings prepared.now.rules }
     requires serves { IsServing prepared.now.settings prepared.now.rules engine.now }
     requires streamed { IsStreamed prepared.now }
-    ensures streams { Streams R.remaining W.contents reader.old reader.new writer.old writer.new
+    ensures ran { RanPrepared R.remaining W.contents reader.old reader.new writer.old writer.new
         prepared.now result }
-    ensures costs { CostsSearch (as_built engine.now) reader.old reader.new
-        steps.old steps.new result }
-    ensures memory { IfMemory result (NoneTouched reader.old reader.new writer.old writer.new) }
-{
-    match stream_in_mode(alloc, prepared, engine, reader, writer, steps) {
-        Ok(()) => Ok(()),
-        Err(error) => Err(told(error)),
-    }
-}
-
-/// Writes what the settings' mode makes of the input.
-fn stream_in_mode<R: Read, W: Write>(
-    alloc: Global,
-    prepared: &Prepared<'_>,
-    engine: &AhoCorasick,
-    reader: &mut Watched<R>,
-    writer: &mut Watched<W>,
-    steps: &mut Steps,
-) -> Result<(), StreamError>
-    requires open { reader.old.ended ≡ false }
-    requires accepted { IsAccepted prepared.now.settings prepared.now.rules }
-    requires serves { IsServing prepared.now.settings prepared.now.rules engine.now }
-    requires streamed { IsStreamed prepared.now }
-    ensures writes { WritesPlan R.remaining W.contents reader.old reader.new
-        writer.old writer.new prepared.now result }
-    ensures costs { CostsSearch (as_built engine.now) reader.old reader.new
-        steps.old steps.new result }
-    ensures memory { IfStreamMemory result
-        (NoneTouched reader.old reader.new writer.old writer.new) }
-    ensures accepted { IfErr result IsNoRefusal }
+    ensures memory { RunsOutFirst prepared.now reader.old reader.new writer.old writer.new result }
+    ensures cost { CostsRun prepared.now reader.old reader.new steps.old steps.new result }
 {
     match prepared.mode() {
-        Mode::Replace => stream_replaced(alloc, prepared, engine, reader, writer, steps),
-        Mode::List => list_stream(alloc, engine, reader, writer, steps),
-        Mode::Overlap => list_every(alloc, engine, reader, writer, steps),
+        Mode::Replace => {
+            let replacements = prepared.rules().replacements(alloc)?;
+            let texts = replacements.as_slice();
+            let replaced = engine.try_stream_replace_all_any_kind_counted(
+                alloc, reader, writer, texts, steps,
+            );
+            told(replaced)
+        }
+        Mode::List => told(list_stream(alloc, engine, reader, writer, steps)),
+        Mode::Overlap => told(list_every(alloc, engine, reader, writer, steps)),
     }
 }
 
-/// Writes the input with each match replaced.
-fn stream_replaced<R: Read, W: Write>(
-    alloc: Global,
-    prepared: &Prepared<'_>,
-    engine: &AhoCorasick,
-    reader: &mut Watched<R>,
-    writer: &mut Watched<W>,
-    steps: &mut Steps,
-) -> Result<(), StreamError>
-    requires open { reader.old.ended ≡ false }
-    requires serves { IsServing prepared.now.settings prepared.now.rules engine.now }
-    requires can { CanStream AnyKind (as_built engine.now) (supported_by engine.now) }
-    ensures replaces { ReplacesStream R.remaining W.contents (as_built engine.now)
-        (replacements_of prepared.now.rules) reader.old reader.new writer.old writer.new result }
-    ensures costs { CostsSearch (as_built engine.now) reader.old reader.new
-        steps.old steps.new result }
-    ensures memory { IfStreamMemory result
-        (NoneTouched reader.old reader.new writer.old writer.new) }
-    ensures accepted { IfErr result IsNoRefusal }
+/// The result of a run whose search of a stream, or whose write, returned this. No search is refused by then.
+pub(crate) fn told(searched: Result<(), StreamError>) -> Result<(), RunError>
+    requires { IfErr searched IsNoRefusal }
+    ensures { IsReturnedAs searched result }
 {
-    let replacements = prepared.rules().replacements(alloc)?;
-    let texts = replacements.as_slice();
-    engine.try_stream_replace_all_any_kind_counted(alloc, reader, writer, texts, steps)
-}
-
-/// The error of a run whose search of a stream stopped, and was not refused.
-pub(crate) fn told(error: StreamError) -> RunError
-    requires { IsNoRefusal error }
-    ensures { IsReturnedAs (Err error) (Err result) }
-{
-    match error {
-        StreamError::Config(_) => unreachable!(),
-        StreamError::Read(error) => RunError::Read(error),
-        StreamError::Write(error) => RunError::Write(error),
-        StreamError::WriteZero => RunError::WriteZero,
-        StreamError::Memory => RunError::Memory,
-        StreamError::Position => RunError::Position,
+    match searched {
+        Ok(()) => Ok(()),
+        Err(StreamError::Config(_)) => unreachable!(),
+        Err(StreamError::Read(error)) => Err(RunError::Read(error)),
+        Err(StreamError::Write(error)) => Err(RunError::Write(error)),
+        Err(StreamError::WriteZero) => Err(RunError::WriteZero),
+        Err(StreamError::Memory) => Err(RunError::Memory),
+        Err(StreamError::Position) => Err(RunError::Position),
     }
 }

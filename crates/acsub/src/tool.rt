@@ -8,13 +8,13 @@
 ghost use Rattle.std.specs.Prelude.{◌≡◌, false, map, string_bytes};
 ghost use Rattle.std.specs.IoError.{error_kind};
 ghost use Rattle.std.specs.Process.{exit_status};
-ghost use Rattle.acsub.specs.Outcome.{AnswersFile, AnswersHelp, AnswersTool, Collects, EndsProgram, EndsTool, Finishes, ReadsFile, WritesText};
+ghost use Rattle.acsub.specs.Outcome.{AnswersHelp, AnswersTool, Collects, EndsProgram, EndsTool, Finishes, ReadsFile, WritesText};
 ghost use Rattle.acsub.specs.Tool.{IsFaultOf, WritesLine, status_of};
 
 use crate::error::RunError;
 use crate::run::run_in;
 use crate::stream::told;
-use crate::words::{Words, WordsFault, read_words};
+use crate::words::{WordsFault, read_words};
 use ac_automaton::watched::{Watched, write_whole};
 use ac_input::pairing::PairingError;
 use ac_input::steps::Steps;
@@ -159,7 +159,7 @@ fn write_line<E: Write>(fault: &Fault, errors: &mut E) -> io::Result<()>
     writeln!(errors, "acsub: {fault}")
 }
 
-/// The program but for its last line.
+/// The program but for its last line: reads the words and the rule file, runs, and flushes; or shows the help.
 fn work<F: Files, R: Read, W: Write>(
     rt: &F,
     alloc: Global,
@@ -172,39 +172,26 @@ fn work<F: Files, R: Read, W: Write>(
         reader.old reader.new writer.old writer.new result }
 {
     match read_words(alloc, words) {
-        Ok(words) => run_file(rt, alloc, &words, reader, writer),
+        Ok(asked) => {
+            let rules = read_file(rt, alloc, asked.rules)?;
+            let mut steps = Steps::new();
+            let ran = run_in(
+                alloc,
+                &asked.settings,
+                asked.stream,
+                asked.text,
+                rules.as_slice(),
+                reader,
+                writer,
+                &mut steps,
+            );
+            finish(ran, writer)
+        }
         Err(WordsFault::Help(help)) => show_help(alloc, &help, writer),
         Err(WordsFault::Bad) => Err(Fault::Words),
         Err(WordsFault::Memory) => Err(Fault::Run(RunError::Memory)),
         Err(WordsFault::Pairing(error)) => Err(Fault::Pairs(error)),
     }
-}
-
-/// Reads the rule file, runs, and flushes.
-fn run_file<F: Files, R: Read, W: Write>(
-    rt: &F,
-    alloc: Global,
-    words: &Words<'_>,
-    reader: &mut Watched<R>,
-    writer: &mut Watched<W>,
-) -> Result<(), Fault>
-    requires { reader.old.ended ≡ false }
-    ensures { AnswersFile F.File.remaining R.remaining W.contents words.now
-        reader.old reader.new writer.old writer.new result }
-{
-    let rules = read_file(rt, alloc, words.rules)?;
-    let mut steps = Steps::new();
-    let ran = run_in(
-        alloc,
-        &words.settings,
-        words.stream,
-        words.text,
-        rules.as_slice(),
-        reader,
-        writer,
-        &mut steps,
-    );
-    finish(ran, writer)
 }
 
 /// Shows the help or the version, and flushes. No contract of clap says which text it is.
@@ -226,10 +213,7 @@ fn show_help<W: Write>(
 fn write_text<W: Write>(text: &str, writer: &mut Watched<W>) -> Result<(), RunError>
     ensures { WritesText W.contents text.now writer.old writer.new result }
 {
-    match write_whole(writer, text.as_bytes()) {
-        Ok(()) => Ok(()),
-        Err(error) => Err(told(error)),
-    }
+    told(write_whole(writer, text.as_bytes()))
 }
 
 /// Flushes the writer after a run. A fault of the run is reported before one of the flush.

@@ -16,7 +16,7 @@ use Rattle.acsub.specs.Finder.{IsFinderOf, whole_search, whole_walk}
 use Rattle.acsub.specs.Rules.Lines.{rule_at}
 use Rattle.acsub.specs.Settings.{IsAccepted}
 use Rattle.acsub.specs.Rules.Sides.{rule_patterns}
-use Rattle.acsub.specs.Plan.{Plan, plan_for}
+use Rattle.acsub.specs.Plan.{Plan}
 use Rattle.acsub.specs.declared.prepared.Finder.TheVariants as finders
 use Rattle.acsub.specs.declared.settings.Engine.TheVariants as engine
 use Rattle.acsub.specs.declared.settings.Mode.TheVariants as mode
@@ -33,10 +33,11 @@ packed-walk plan input searcher serves =
     ∙ walk_after-unpaired plan.settings.kind (whole_search plan.settings (rule_patterns plan.rules) input) [] plan.settings.pairing (λ byte. refl) serves.1 0 None
 
 -- the matches of a walk over a whole input lie in order
-pub whole-lies : (settings : Settings) (rules : List Rule) (input : List ℕ) → LieInOrder (length rules) (length input) 0 (whole_walk (plan_for settings rules) input)
-whole-lies settings rules input =
-    let lies = walk-lies settings.kind (whole_search settings (rule_patterns rules) input) 0 None _ (walk_of-walk settings.kind (whole_search settings (rule_patterns rules) input) (omega arith)) in
-    subst (λ (count : ℕ). LieInOrder count (length input) 0 (whole_walk (plan_for settings rules) input)) (length-map rules (λ (rule : Rule). rule.0)) lies
+pub whole-lies : (plan : Plan) (input : List ℕ) → LieInOrder (length plan.rules) (length input) 0 (whole_walk plan input)
+whole-lies plan input =
+    let search_in = whole_search plan.settings (rule_patterns plan.rules) input in
+    let lies = walk-lies plan.settings.kind search_in 0 None _ (walk_of-walk plan.settings.kind search_in (omega arith)) in
+    subst (λ (count : ℕ). LieInOrder count (length input) 0 (whole_walk plan input)) (length-map plan.rules (λ (rule : Rule). rule.0)) lies
 
 -- settings that ask for overlapping matches are accepted only with the standard kind
 overlap-kind : (s : Settings) (rules : List Rule) (k : kinds.MatchKind) → IsAccepted s rules → s.mode ≡ mode.Overlap → s.kind ≡ k → k ≡ kind.Standard

@@ -1,9 +1,7 @@
 -- A run by a rule file in either form, whose result follows from that of a run by its rules.
-use Rattle.std.proofs.Common.{◌≡◌, ◌↔◌, ℕ, Bool, true, false, Option, List, Result, Ok, Err, refl, ap, subst}
+use Rattle.std.proofs.Common.{◌≡◌, ◌↔◌, ℕ, Bool, Option, List, Result, Ok, Err, refl, ap, subst}
 use Rattle.ac_input.specs.Rules.{Rule}
 use Rattle.ac_input.specs.declared.steps.Steps.{Steps}
-use Rattle.ac_input.proofs.lemmas.RuleLemmas.{FirstBadLine-one, FirstBadLine-none, IsRuleFile-one}
-use Rattle.ac_input.proofs.lemmas.TextRuleLemmas.{FirstBadTextLine-one, FirstBadTextLine-none, IsTextRuleFile-one}
 use Rattle.ac_automaton.specs.Devices.Moved.{Moved}
 use Rattle.ac_automaton.specs.declared.watched.Watched.{Watched}
 use Rattle.acsub.specs.declared.rules.RuleError.{RuleError}
@@ -13,25 +11,9 @@ use Rattle.acsub.specs.declared.error.RunError.TheVariants as errors
 use Rattle.acsub.specs.Rules.File.{ReadsRules, grammar_of}
 use Rattle.acsub.specs.Plan.{Plan}
 use Rattle.acsub.specs.Run.{AnswersIn, AnswersRules, CostsIn, CostsRun, HasBegun, RanIn, RanRules, ReadsByBuffer, RefusesIn, RefusesRules, not_read}
+use Rattle.acsub.proofs.rules.GrammarLemmas.{bad_none, bad_one, file_one}
 use Rattle.acsub.proofs.run.CountLemmas.{nothing_cost}
 use Rattle.acsub.proofs.run.RunLemmas.{HasMoved-nothing, memory_answer, nothing, nothing_short}
-
--- ---- the two grammars
-
--- a file has at most one list of rules
-pub file_one : (text : Bool) (file : List ℕ) (one other : List Rule) → (grammar_of text).holds file one → (grammar_of text).holds file other → one ≡ other
-file_one true file one other p q = IsTextRuleFile-one file one other p q
-file_one false file one other p q = IsRuleFile-one file one other p q
-
--- a file has at most one first bad line
-bad_one : (text : Bool) (file : List ℕ) (one other : ℕ) → (grammar_of text).bad file one → (grammar_of text).bad file other → one ≡ other
-bad_one true file one other p q = FirstBadTextLine-one file one other p q
-bad_one false file one other p q = FirstBadLine-one file one other p q
-
--- a file of rules has no bad line
-bad_none : (text : Bool) (file : List ℕ) (n : ℕ) (rules : List Rule) → (grammar_of text).holds file rules → ¬ (grammar_of text).bad file n
-bad_none true file n rules p q = FirstBadTextLine-none file n rules p q
-bad_none false file n rules p q = FirstBadLine-none file n rules p q
 
 -- ---- a run by the rules of a file
 

@@ -1,12 +1,11 @@
 -- Results of a run, given what was moved.
-use Rattle.std.proofs.Common.{◌≡◌, ◌≢◌, ℕ, Option, List, [], ◌++◌, Result, Ok, Err, refl, sym, ap, ◌∙◌, subst, add-zero, arith}
-use Rattle.std.specs.Prelude.{OnOk}
+use Rattle.std.proofs.Common.{◌≡◌, ◌≢◌, ℕ, false, Option, List, [], ◌++◌, Result, Ok, Err, refl, sym, ap, ◌∙◌, subst, add-zero, arith}
+use Rattle.std.specs.Prelude.{IfErr, OnOk}
 use Rattle.std.specs.List.{concat}
 use Rattle.std.proofs.lemmas.List.{append-nil}
 use Rattle.ac_automaton.specs.Devices.Moved.{AreWhole, HasGiven, HasMoved, Moved}
-use Rattle.ac_automaton.specs.Devices.Output.{Sent, Stopped}
+use Rattle.ac_automaton.specs.Devices.Output.{Sends, Sent, Stopped}
 use Rattle.ac_automaton.specs.Devices.Watched.{IsOfWrite}
-use Rattle.ac_automaton.specs.declared.error.MatchErrorKind.{MatchErrorKind}
 use Rattle.ac_automaton.specs.declared.error.StreamError.{StreamError}
 use Rattle.ac_automaton.specs.declared.error.StreamError.TheVariants as stream
 use Rattle.ac_automaton.specs.declared.watched.Watched.{Watched}
@@ -17,12 +16,14 @@ use Rattle.acsub.specs.declared.error.RunError.TheVariants as errors
 use Rattle.acsub.specs.declared.settings.Settings.{Settings}
 use Rattle.acsub.specs.Input.{ReadsWhole}
 use Rattle.acsub.specs.Settings.{IsAccepted}
-use Rattle.acsub.specs.Stream.{IsReturnedAs}
+use Rattle.acsub.specs.Stream.{IsNoRefusal, IsReturnedAs}
 use Rattle.acsub.specs.Run.Transformed.{IsStreamed, output_of}
 use Rattle.acsub.specs.Rules.File.{hex_rules}
-use Rattle.acsub.specs.Run.{AnswersRules, HasBegun, Prepares, RanIn, RanPrepared, RanRules, RanToFailedWrite, ReadsByBuffer, WroteText, WroteTextBy}
+use Rattle.acsub.specs.Run.{AnswersRules, HasBegun, IsRefusal, Prepares, RanIn, RanPrepared, RanRules, RanToFailedWrite, ReadsByBuffer, RefusesRules, RunsOutFirst, WroteText, WroteTextBy}
+use Rattle.acsub.specs.Run.Sending.{SendsText}
+use Rattle.acsub.specs.Served.{IsBuildable}
 use Rattle.acsub.specs.Finder.{FailsToBuild}
-use Rattle.acsub.specs.Plan.{Plan, plan_for}
+use Rattle.acsub.specs.Plan.{Plan, plan_of}
 
 -- nothing was moved
 abbrev pub nothing : Moved
@@ -71,7 +72,7 @@ write_failed contents plan w w' pieces input stalls s accepted held whole is =
 
 module _ {R W : Type 0} (remaining : R → Option (List ℕ)) (contents : W → Option (List ℕ)) (plan : Plan) (r r' : Watched R) (w w' : Watched W) (pieces : List (List ℕ)) (input : List ℕ) (accepted : IsAccepted plan.settings plan.rules) (held : ¬ IsStreamed plan) (gave : HasGiven remaining r r' pieces 0) (whole : AreWhole pieces) (is : input ≡ concat pieces) where
   -- the result after the input was read to its end and its text was written
-  pub written_answer : Sent contents w w' [] [] (output_of plan.settings plan.rules input) → RanPrepared remaining contents r r' w w' plan (Ok tt)
+  written_answer : Sent contents w w' [] [] (output_of plan.settings plan.rules input) → RanPrepared remaining contents r r' w w' plan (Ok tt)
   written_answer sent = (
     record { pieces = pieces; failed_reads = 0; taken = sent.gained; failed_writes = 0; stalled_writes = 0 },
     record { reader = gave; writer = HasTaken-from_sent contents w w' [] [] _ sent },
@@ -81,7 +82,7 @@ module _ {R W : Type 0} (remaining : R → Option (List ℕ)) (contents : W → 
   )
 
   -- the result where a write failed after the input was read to its end
-  pub write_answer : (error : StreamError) (result : Result (Unit {0}) RunError) → IsReturnedAs (Err error) result → Stopped contents w w' [] (output_of plan.settings plan.rules input) → IsOfWrite w w' error → RanPrepared remaining contents r r' w w' plan result
+  write_answer : (error : StreamError) (result : Result (Unit {0}) RunError) → IsReturnedAs (Err error) result → Stopped contents w w' [] (output_of plan.settings plan.rules input) → IsOfWrite w w' error → RanPrepared remaining contents r r' w w' plan result
   write_answer (stream.Config error) result t stopped kind = absurd kind
   write_answer (stream.Read error) result t stopped kind = absurd kind
   write_answer (stream.Write error) result t stopped kind = subst (RanPrepared remaining contents r r' w w' plan) (sym t) (
@@ -101,9 +102,15 @@ module _ {R W : Type 0} (remaining : R → Option (List ℕ)) (contents : W → 
   write_answer stream.Memory result t stopped kind = absurd kind
   write_answer stream.Position result t stopped kind = absurd kind
 
--- the error of a write is never a refused search
-pub write-config : {W : Type 0} (old new : Watched W) (error : StreamError) (refusal : MatchErrorKind) → IsOfWrite old new error → error ≢ stream.Config refusal
-write-config old new error refusal kind e = subst (IsOfWrite old new) e kind
+  -- the result after the input was read to its end and its text was sent
+  pub held_answer : (sent : Result (Unit {0}) StreamError) (result : Result (Unit {0}) RunError) → IsReturnedAs sent result → SendsText contents plan input w w' sent → RanPrepared remaining contents r r' w w' plan result
+  held_answer (Ok done) result told sends = subst (RanPrepared remaining contents r r' w w' plan) (sym told) (written_answer sends)
+  held_answer (Err error) result told sends = write_answer error result told sends.0 sends.1
+
+-- the result of a text that was sent is never a refused search
+pub sends-accepted : {W : Type 0} (contents : W → Option (List ℕ)) (w w' : Watched W) (text : List ℕ) (sent : Result (Unit {0}) StreamError) → Sends contents text w w' [] [] sent → IfErr sent IsNoRefusal
+sends-accepted contents w w' text (Ok done) sends = tt
+sends-accepted contents w w' text (Err error) sends = λ refusal e. subst (IsOfWrite w w') e sends.1
 
 -- the reason why nothing was prepared is the run's result
 pub prepared_answer : (asked : Plan) (e : RunError) → Prepares asked (Err e) → AnswersRules asked nothing (Err e)
@@ -126,6 +133,10 @@ unprepared_begun asked (errors.Write e) h begun = absurd h
 unprepared_begun asked errors.WriteZero h begun = absurd h
 unprepared_begun asked errors.Memory h begun = begun
 unprepared_begun asked errors.Position h begun = absurd h
+
+-- a run that was prepared is no refusal, and is within the limits of a build
+pub prepared_refuses : {R W : Type 0} (plan : Plan) (r r' : Watched R) (w w' : Watched W) (result : Result (Unit {0}) RunError) → ¬ IsRefusal result → RunsOutFirst plan r r' w w' result → IsBuildable plan.settings plan.rules → RefusesRules plan r r' w w' result
+prepared_refuses plan r r' w w' result begun memory within = record { untouched = λ refusal. absurd (begun refusal); memory = memory; within = λ _. within }
 
 -- if memory ran out before anything was read, nothing was moved
 pub memory_ran : {R W : Type 0} (remaining : R → Option (List ℕ)) (contents : W → Option (List ℕ)) (plan : Plan) (r : Watched R) (w : Watched W) → RanPrepared remaining contents r r w w plan (Err errors.Memory)
@@ -155,6 +166,6 @@ wrote-text remaining contents plan r r' w w' (Ok done) (m, moved, short, whole) 
 wrote-text remaining contents plan r r' w w' (Err error) ran = tt
 
 -- a run by a rule file that returns Ok has written the text of all that it read
-pub wrote-text_by : {R W : Type 0} (remaining : R → Option (List ℕ)) (contents : W → Option (List ℕ)) (settings : Settings) (file : List ℕ) (r r' : Watched R) (w w' : Watched W) (result : Result (Unit {0}) RunError) → RanIn hex_rules remaining contents r r' w w' (plan_for settings) file result → OnOk result (WroteTextBy settings file r r' w w')
-wrote-text_by remaining contents settings file r r' w w' (Ok done) (m, moved, short, (rules, grammar, whole)) = (rules, grammar, wrote-text remaining contents (plan_for settings rules) r r' w w' (Ok done) (m, moved, short rules grammar, whole))
+pub wrote-text_by : {R W : Type 0} (remaining : R → Option (List ℕ)) (contents : W → Option (List ℕ)) (settings : Settings) (file : List ℕ) (r r' : Watched R) (w w' : Watched W) (result : Result (Unit {0}) RunError) → RanIn hex_rules remaining contents r r' w w' (plan_of false settings) file result → OnOk result (WroteTextBy settings file r r' w w')
+wrote-text_by remaining contents settings file r r' w w' (Ok done) (m, moved, short, (rules, grammar, whole)) = (rules, grammar, wrote-text remaining contents (plan_of false settings rules) r r' w w' (Ok done) (m, moved, short rules grammar, whole))
 wrote-text_by remaining contents settings file r r' w w' (Err error) ran = tt

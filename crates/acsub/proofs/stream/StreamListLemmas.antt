@@ -16,15 +16,18 @@ use Rattle.ac_input.specs.Text.{listed}
 use Rattle.ac_input.specs.Work.{shortest}
 use Rattle.ac_input.proofs.lemmas.BeginningLemmas.{listed-beginning, whole-walk_begins}
 use Rattle.ac_automaton.specs.Automaton.{Built}
-use Rattle.ac_automaton.specs.Devices.Moved.{AreFilled, AreWhole, HasGiven, but_last}
+use Rattle.ac_automaton.specs.Devices.Moved.{AreFilled, AreWhole, HasGiven, HasTaken, but_last}
 use Rattle.ac_automaton.specs.Replace.{LieInOrder, matches_in}
-use Rattle.ac_automaton.specs.Stream.{AreAllGiven, CanBeCounted, Decides, EachIsDecided, IsOnCourse, IsSearched, ReadsNothing, StreamCounts, StreamProgress, cut_of, end_of, fresh_progress, read_by, room_of}
-use Rattle.ac_automaton.specs.Stream.StreamIter.{HasGained, IsStopped, NextGives, StaysStopped}
+use Rattle.ac_automaton.specs.Stream.{AreAllGiven, CanBeCounted, Decides, EachIsDecided, GoesOn, IsOnCourse, IsSearched, ReadsNothing, StreamCounts, StreamProgress, cut_of, end_of, fresh_progress, read_by, room_of}
+use Rattle.ac_automaton.specs.Stream.StreamIter.{HasGained, IsStopped, KeepsReader, NextGives, StaysStopped, progress_of}
+use Rattle.ac_automaton.specs.declared.stream.StreamFindIter.{StreamFindIter}
 use Rattle.ac_automaton.specs.declared.watched.Watched.{Watched}
 use Rattle.ac_automaton.proofs.devices.MovedLemmas.{given-then, turns-filled}
 use Rattle.ac_automaton.proofs.lemmas.ReplaceLemmas.{matches-lie}
 use Rattle.ac_automaton.proofs.stream.StreamReplaceLemmas.{given-none, nothing-matches, pieces-fit, taken-none}
+use Rattle.ac_automaton.proofs.stream.StreamCountLemmas.{StreamCounts-then}
 use Rattle.ac_automaton.proofs.stream.StreamCutLemmas.{matches-walk}
+use Rattle.ac_automaton.proofs.stream.StreamSendLemmas.{ReadsNothing-then}
 use Rattle.ac_automaton.proofs.stream.SearchLemmas.{nothing-in_empty}
 use Rattle.ac_automaton.proofs.lemmas.WalkEndLemmas.{none-alive}
 use Rattle.ac_automaton.specs.Stream.StreamReplace.{IsBegun}
@@ -32,19 +35,53 @@ use Rattle.ac_automaton.proofs.stream.StreamAnswerLemmas.{cost-read}
 use Rattle.ac_input.specs.declared.steps.Steps.{Steps}
 use Rattle.ac_automaton.specs.declared.error.StreamError.{StreamError}
 use Rattle.ac_automaton.specs.declared.error.StreamError.TheVariants as reads
+use Rattle.aho_corasick.specs.declared.ahocorasick.AhoCorasick.{AhoCorasick}
 use Rattle.acsub.specs.Plan.{Plan}
 use Rattle.acsub.specs.Served.{dictionary_for}
 use Rattle.acsub.specs.Stream.{CostsSearch, WritesPlan}
 use Rattle.acsub.specs.Run.Transformed.{IsDecidedList, IsOutputFront}
 use Rattle.acsub.specs.declared.settings.Mode.TheVariants as modes
 use Rattle.acsub.proofs.stream.StreamedLemmas.{output-in, room-in, writes-plan}
-use Rattle.acsub.specs.Stream.StreamList.{HasListed, IsOpen, IsOver, ListsStream, WritesLines, listed_in}
+use Rattle.acsub.specs.Stream.StreamList.{GoesOnUnread, ListsStream, WritesLines, listed_in}
 use Rattle.acsub.proofs.stream.LinesLemmas.{lines-failed, lines-taken}
 use Rattle.acsub.proofs.stream.WritingLemmas.{begins-then, writes-failed_read, writes-too_long, writes-whole}
+
+-- ---- what holds between two reads
+
+-- more may be read
+abbrev pub IsOpen : {R : Type 0} → StreamProgress → Watched R → Type 0
+IsOpen s reader = AreFilled s.pieces × (s.closed ≡ false) × (reader.ended ≡ false)
+
+-- the input was read to its end, and the search is closed
+abbrev pub IsOver : StreamProgress → Type 0
+IsOver s = AreWhole s.pieces × (s.closed ≡ true)
+
+-- at least the matches that were decided before the last read were returned
+abbrev pub GaveEarly : StreamProgress → Type 0
+GaveEarly s = (early : List Occurrence) × Decides s.built.dictionary (concat (but_last s.pieces)) early × IsBeginning early s.given
+
+-- A list between two reads: all decided matches were returned, a line for each was written, and nothing is held back.
+pub record HasListed {R W : Type 0} (remaining : R → Option (List ℕ)) (contents : W → Option (List ℕ)) (b : Built) (s : StreamProgress) (reader_before reader_after : Watched R) (writer_before writer_after : Watched W) : Type 0 where
+  pub built : s.built ≡ b
+  pub course : IsOnCourse s
+  pub countable : CanBeCounted (read_by s)
+  pub all : AreAllGiven s
+  pub early : GaveEarly s
+  pub input : IsOpen s reader_after ⊎ IsOver s
+  pub read : HasGiven remaining reader_before reader_after s.pieces 0
+  pub written : HasTaken contents writer_before writer_after (listed s.given) 0 0
 
 -- nothing was read in between
 pub nothing-read : (s : StreamProgress) → ReadsNothing s s
 nothing-read s = record { on = λ standard. omega arith; last = omega arith; closed = refl; built = refl; pieces = refl; from = refl }
+
+-- a search that goes on twice without a read goes on without one
+pub unread-then : {R : Type 0} (i j k : StreamFindIter AhoCorasick R) (before between after : Steps) → GoesOnUnread i j before between → ReadsNothing (progress_of j) (progress_of k) → KeepsReader j k → GoesOn (progress_of j) (progress_of k) between after → GoesOnUnread i k before after
+unread-then i j k before between after gone nothing keeps goes = record {
+  unread = ReadsNothing-then (progress_of i) (progress_of j) (progress_of k) gone.unread nothing;
+  reader = (keeps.0 ∙ gone.reader.0, keeps.1 ∙ gone.reader.1);
+  goes = (StreamCounts-then (progress_of i) (progress_of j) (progress_of k) before between after gone.goes.0 goes.0, goes.1);
+}
 
 -- ---- pieces
 

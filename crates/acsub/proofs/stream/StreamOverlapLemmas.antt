@@ -20,19 +20,21 @@ use Rattle.ac_input.proofs.lemmas.ContainsLemmas.{Contains-head}
 use Rattle.ac_input.proofs.lemmas.ListingLemmas.{listing_of-lists}
 use Rattle.ac_automaton.specs.Automaton.{Built}
 use Rattle.ac_automaton.specs.Devices.Buffer.{least_room}
-use Rattle.ac_automaton.specs.Devices.Moved.{AreFilled, HasGiven, but_last}
+use Rattle.ac_automaton.specs.Devices.Moved.{AreFilled, HasGiven, HasTaken, but_last}
 use Rattle.ac_automaton.specs.Replace.{matches_in}
 use Rattle.ac_automaton.specs.Stream.{CanBeCounted, CanStream, read_again}
-use Rattle.ac_automaton.specs.Stream.StreamListing.{IsAllListed, IsListingConfigRefusal, IsListingRefusal, IsOnListing, ListingCounts, ListingProgress, ListingStays, ListsHeld, all_read, fresh_listing, occurrences_in}
-use Rattle.ac_automaton.specs.Stream.StreamOverlappingIter.{ListingGained, NextLists}
+use Rattle.ac_automaton.specs.Stream.StreamListing.{IsAllListed, IsListingConfigRefusal, IsListingRefusal, IsOnListing, ListingCounts, ListingProgress, ListingStays, ListsHeld, ListsOnCourse, all_read, fresh_listing, occurrences_in}
+use Rattle.ac_automaton.specs.Stream.StreamOverlappingIter.{KeepsListedReader, ListingGained, NextLists, listing_of_stream}
 use Rattle.ac_automaton.specs.Stream.StreamReplace.{IsBegun}
 use Rattle.ac_automaton.specs.declared.error.MatchErrorKind.{MatchErrorKind}
 use Rattle.ac_automaton.specs.declared.error.StreamError.{StreamError}
 use Rattle.ac_automaton.specs.declared.error.StreamError.TheVariants as reads
+use Rattle.ac_automaton.specs.declared.stream.overlapping.StreamFindOverlappingIter.{StreamFindOverlappingIter}
 use Rattle.ac_automaton.specs.declared.watched.Watched.{Watched}
 use Rattle.ac_automaton.specs.declared.stream.StreamKinds.TheVariants.{OnlyStandard}
 use Rattle.ac_automaton.proofs.iter.IterLemmas.{occurs-not_empty}
 use Rattle.ac_automaton.proofs.devices.MovedLemmas.{given-then, turns-filled}
+use Rattle.ac_automaton.proofs.stream.StreamListingSearchLemmas.{listing-counts-then}
 use Rattle.ac_automaton.proofs.stream.StreamReplaceLemmas.{given-none, taken-none}
 use Rattle.aho_corasick.specs.AhoCorasick.{as_built, supported_by}
 use Rattle.aho_corasick.specs.declared.ahocorasick.AhoCorasick.{AhoCorasick}
@@ -41,7 +43,7 @@ use Rattle.acsub.specs.Plan.{Plan}
 use Rattle.acsub.specs.Served.{dictionary_for}
 use Rattle.acsub.specs.Settings.{IsAccepted}
 use Rattle.acsub.specs.Stream.{CostsSearch, WritesPlan}
-use Rattle.acsub.specs.Stream.StreamOverlap.{HasListedEach, ListsEvery, every_line}
+use Rattle.acsub.specs.Stream.StreamOverlap.{GoesOnListed, ListsEvery, every_line}
 use Rattle.acsub.specs.Run.Transformed.{IsOutputFront, IsStreamed, output_of, room_in}
 use Rattle.acsub.specs.declared.settings.Mode.{Mode}
 use Rattle.acsub.specs.declared.settings.Mode.TheVariants as modes
@@ -52,10 +54,21 @@ use Rattle.acsub.specs.Stream.StreamList.{WritesLines}
 use Rattle.acsub.proofs.stream.LinesLemmas.{lines-failed, lines-taken}
 use Rattle.acsub.proofs.stream.WritingLemmas.{writes-failed_read, writes-too_long, writes-whole}
 
--- ---- what was read
+-- ---- what holds between two reads
+
+-- A list between two reads: all occurrences in what was read were returned, and a line for each was written. More may be read.
+pub record HasListedEach {R W : Type 0} (remaining : R → Option (List ℕ)) (contents : W → Option (List ℕ)) (b : Built) (s : ListingProgress) (reader_before reader_after : Watched R) (writer_before writer_after : Watched W) : Type 0 where
+  pub built : s.built ≡ b
+  pub course : IsOnListing s
+  pub countable : CanBeCounted (all_read s)
+  pub all : IsAllListed s
+  pub filled : AreFilled s.pieces
+  pub unended : reader_after.ended ≡ false
+  pub read : HasGiven remaining reader_before reader_after s.pieces 0
+  pub written : HasTaken contents writer_before writer_after (listed s.given) 0 0
 
 -- if nothing was read in each of two steps, nothing was read over both
-pub stays-then : (s t u : ListingProgress) → ListingStays s t → ListingStays t u → ListingStays s u
+stays-then : (s t u : ListingProgress) → ListingStays s t → ListingStays t u → ListingStays s u
 stays-then s t u a b = record {
   on = let one = a.on in let two = b.on in omega (arith, one, two);
   built = b.built ∙ a.built;
@@ -65,6 +78,14 @@ stays-then s t u a b = record {
 -- nothing was read in between
 pub stays-here : (s : ListingProgress) → ListingStays s s
 stays-here s = record { on = omega arith; built = refl; pieces = refl }
+
+-- a search that goes on twice without a read goes on without one
+pub listed-then : {R : Type 0} (i j k : StreamFindOverlappingIter AhoCorasick R) (before between after : Steps) → GoesOnListed i j before between → ListingStays (listing_of_stream j) (listing_of_stream k) → KeepsListedReader j k → ListsOnCourse (listing_of_stream j) (listing_of_stream k) between after → GoesOnListed i k before after
+listed-then i j k before between after gone stays keeps goes = record {
+  unread = stays-then (listing_of_stream i) (listing_of_stream j) (listing_of_stream k) gone.unread stays;
+  reader = (keeps.0 ∙ gone.reader.0, keeps.1 ∙ gone.reader.1);
+  goes = (listing-counts-then (listing_of_stream i) (listing_of_stream j) (listing_of_stream k) before between after gone.goes.0 goes.0, goes.1);
+}
 
 -- fewer occurrences in what was read are left after one more was returned
 pub each-fewer : (s t : ListingProgress) (o : Occurrence) → ListsHeld s (Some o) t → IsOnListing t → length (occurrences_in t.built (all_read t)) - length t.given < length (occurrences_in s.built (all_read s)) - length s.given

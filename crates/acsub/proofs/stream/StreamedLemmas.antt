@@ -13,7 +13,7 @@ use Rattle.ac_input.specs.Work.{longest, shortest}
 use Rattle.ac_input.proofs.lemmas.BeginningLemmas.{listed-beginning}
 use Rattle.ac_automaton.specs.Automaton.{Built}
 use Rattle.ac_automaton.specs.Devices.Buffer.{room_for}
-use Rattle.std.specs.Prelude.{IfErr, max}
+use Rattle.std.specs.Prelude.{IfErr, OnOk, max}
 use Rattle.ac_automaton.specs.Devices.Moved.{AllFit, AreFilled, Moved, NoneTouched, but_last}
 use Rattle.ac_automaton.specs.Stream.{CanStream, IsConfigRefusal, IsStreamRefusal, IsFront, IsNear, room_of}
 use Rattle.ac_automaton.specs.Stream.StreamAnswer.{AnswersWriting, WroteToFailedWrite}
@@ -33,11 +33,12 @@ use Rattle.aho_corasick.specs.AhoCorasick.{as_built, supported_by}
 use Rattle.aho_corasick.specs.declared.ahocorasick.AhoCorasick.{AhoCorasick}
 use Rattle.acsub.specs.Finder.{IsServing, whole_search}
 use Rattle.acsub.specs.Served.{dictionary_for}
-use Rattle.acsub.specs.Run.{AnswersRules, IsRefusal, RanPrepared, RanToFailedWrite}
+use Rattle.acsub.specs.Run.{AnswersRules, CostsRun, IsRefusal, RanPrepared, RanToFailedWrite, RunsOutFirst}
 use Rattle.acsub.specs.Plan.{Plan}
 use Rattle.acsub.specs.Settings.{HasEmptyPattern, IsAccepted}
 use Rattle.acsub.specs.Rules.Sides.{rule_patterns, replacements_of}
-use Rattle.acsub.specs.Stream.{CostsSearch, IfStreamMemory, IsNoRefusal, IsReturnedAs, Streams, WritesPlan, WritesStream}
+use Rattle.acsub.specs.Stream.{CostsSearch, IfStreamMemory, IsNoRefusal, IsReturnedAs, WritesPlan, WritesStream}
+use Rattle.acsub.proofs.run.CountLemmas.{streamed-cost}
 use Rattle.acsub.proofs.stream.CutLemmas.{cut-begins}
 use Rattle.acsub.specs.Run.Transformed.{IsOutputFront, IsStreamed, output_of, room_in, stream_room, text_in}
 use Rattle.ac_input.specs.declared.search.Anchored.{Anchored}
@@ -201,8 +202,34 @@ module _ (plan : Plan) (m : Moved) (accepted : IsAccepted plan.settings plan.rul
   streamed-says (Err stream.Position) result is a = subst Says (sym is) (λ refusal. refusal, record { accepted = accepted; long = a.long; written = a.written; failed = a.failed })
 
 -- the result of a run that writes while it reads
-pub streamed_answer : {R W : Type 0} (remaining : R → Option (List ℕ)) (contents : W → Option (List ℕ)) (plan : Plan) (r r' : Watched R) (w w' : Watched W) (result : Result (Unit {0}) RunError) → IsAccepted plan.settings plan.rules → IsStreamed plan
-    → Streams remaining contents r r' w w' plan result → RanPrepared remaining contents r r' w w' plan result
-streamed_answer remaining contents plan r r' w w' result accepted streamed (searched, returned, (m, moved, short, a)) =
+pub streamed_answer : {R W : Type 0} (remaining : R → Option (List ℕ)) (contents : W → Option (List ℕ)) (plan : Plan) (r r' : Watched R) (w w' : Watched W) (searched : Result (Unit {0}) StreamError) (result : Result (Unit {0}) RunError) → IsAccepted plan.settings plan.rules → IsStreamed plan
+    → IsReturnedAs searched result → WritesPlan remaining contents r r' w w' plan searched → RanPrepared remaining contents r r' w w' plan result
+streamed_answer remaining contents plan r r' w w' searched result accepted streamed returned (m, moved, short, a) =
     let says = streamed-says plan m accepted streamed searched result returned a in
     (m, moved, (λ _. short), says.0, says.1)
+
+-- if the search that ran out of memory touched no device, nor did the run
+pub streamed_memory : {R W : Type 0} (plan : Plan) (r r' : Watched R) (w w' : Watched W) (searched : Result (Unit {0}) StreamError) (result : Result (Unit {0}) RunError) → IsReturnedAs searched result → IfStreamMemory searched (NoneTouched r r' w w') → RunsOutFirst plan r r' w w' result
+streamed_memory plan r r' w w' (Ok done) result is memory out streamed = absurd (cc (is, out))
+streamed_memory plan r r' w w' (Err (stream.Config error)) result is memory out streamed = absurd is
+streamed_memory plan r r' w w' (Err (stream.Read error)) result is memory out streamed = absurd (cc (is, out))
+streamed_memory plan r r' w w' (Err (stream.Write error)) result is memory out streamed = absurd (cc (is, out))
+streamed_memory plan r r' w w' (Err stream.WriteZero) result is memory out streamed = absurd (cc (is, out))
+streamed_memory plan r r' w w' (Err stream.Memory) result is memory out streamed = memory refl
+streamed_memory plan r r' w w' (Err stream.Position) result is memory out streamed = absurd (cc (is, out))
+
+-- what an `Ok` of the search means, an `Ok` of the run means
+returned-ok : (P : Type 0) (searched : Result (Unit {0}) StreamError) (result : Result (Unit {0}) RunError) → IsReturnedAs searched result → OnOk searched P → OnOk result P
+returned-ok P (Ok done) result is p = subst (λ (r : Result (Unit {0}) RunError). OnOk r P) (sym is) p
+returned-ok P (Err (stream.Config error)) result is p = absurd is
+returned-ok P (Err (stream.Read error)) result is p = subst (λ (r : Result (Unit {0}) RunError). OnOk r P) (sym is) tt
+returned-ok P (Err (stream.Write error)) result is p = subst (λ (r : Result (Unit {0}) RunError). OnOk r P) (sym is) tt
+returned-ok P (Err stream.WriteZero) result is p = subst (λ (r : Result (Unit {0}) RunError). OnOk r P) (sym is) tt
+returned-ok P (Err stream.Memory) result is p = subst (λ (r : Result (Unit {0}) RunError). OnOk r P) (sym is) tt
+returned-ok P (Err stream.Position) result is p = subst (λ (r : Result (Unit {0}) RunError). OnOk r P) (sym is) tt
+
+-- the run costs what the search of the stream costs
+pub streamed_cost : {R : Type 0} (plan : Plan) (ac : AhoCorasick) (r r' : Watched R) (before after : Steps) (searched : Result (Unit {0}) StreamError) (result : Result (Unit {0}) RunError) → IsServing plan.settings plan.rules ac → IsStreamed plan
+    → IsReturnedAs searched result → CostsSearch (as_built ac) r r' before after searched → CostsRun plan r r' before after result
+streamed_cost plan ac r r' before after searched result serves streamed returned (pieces, read, cost, whole) =
+    streamed-cost plan ac r r' before after result serves streamed (pieces, read, cost, returned-ok _ searched result returned whole)

@@ -1,11 +1,14 @@
 -- What the outcome of the program says of the run, the help and the flush.
 use Rattle.std.proofs.Common.{◌≡◌, inl, inr, ℕ, List, Option, Result, Ok, Err, refl, sym, ap, ◌∙◌, subst}
-use Rattle.std.specs.Prelude.{String, Vec}
+use Rattle.std.specs.Prelude.{IfErr, String, Vec}
 use Rattle.std.specs.declared.alloc.Global.{Global}
 use Rattle.std.specs.declared.io.Error.{Error}
 use Rattle.std.specs.declared.vec.IntoIter.{IntoIter}
+use Rattle.ac_automaton.specs.Devices.Watched.{IsOfWrite, WritesWhole}
+use Rattle.ac_automaton.specs.declared.error.StreamError.{StreamError}
 use Rattle.ac_automaton.specs.declared.watched.Watched.{Watched}
-use Rattle.acsub.specs.Outcome.{AnswersFile, AnswersHelp, Collects, EndsProgram, EndsTool, Finishes, RanFile, WritesText}
+use Rattle.acsub.specs.Outcome.{AnswersFile, AnswersHelp, Collects, EndsProgram, EndsTool, Finishes, RanFile, ReadsFile, WritesText}
+use Rattle.acsub.specs.Stream.{IsNoRefusal}
 use Rattle.acsub.specs.Tool.{status_of}
 use Rattle.acsub.specs.declared.error.RunError.{RunError}
 use Rattle.acsub.specs.declared.error.RunError.TheVariants as errors
@@ -15,6 +18,11 @@ use Rattle.acsub.specs.declared.tool.Fault.TheVariants as faults
 use Rattle.acsub.specs.declared.words.WordsFault.TheVariants.{Memory}
 
 -- ---- the outcome after the flush
+
+-- the result of a text that was written is never a refused search
+pub write-accepted : {W : Type 0} (contents : W → Option (List ℕ)) (before after : Watched W) (text : List ℕ) (written : Result (Unit {0}) StreamError) → WritesWhole contents before after text written → IfErr written IsNoRefusal
+write-accepted contents before after text (Ok done) writes = tt
+write-accepted contents before after text (Err error) writes = λ refusal e. subst (IsOfWrite before after) e writes.1
 
 -- the outcome after help was written and flushed
 pub help-finished : {W : Type 0} (contents : W → Option (List ℕ)) (before between after : Watched W) (text : List ℕ) (answer : Result (Unit {0}) RunError) (outcome : Result (Unit {0}) Fault) → WritesText contents text before between answer → Finishes contents answer between after outcome → AnswersHelp contents before after outcome
@@ -33,6 +41,11 @@ module _ {F R W : Type 0} (held : F → Option (List ℕ)) (remaining : R → Op
   run-finished r r' before between after (Err e) (Ok none) ran flush = absurd flush
   run-finished r r' before between after (Err e) (Err fault) ran (told, inl flush) = subst (λ (f : Fault). AnswersFile held remaining contents asked r r' before after (Err f)) (sym told) (inl (between, ran, flush))
   run-finished r r' before between after (Err e) (Err fault) ran (told, inr flush) = subst (λ (f : Fault). AnswersFile held remaining contents asked r r' before after (Err f)) (sym told) (inr (inl (between, ran, flush)))
+
+  -- if the rule file can't be read, that is the fault, and no device is touched
+  pub file-unread : (r : Watched R) (w : Watched W) (fault : Fault) → ReadsFile {F = F} {Z = Global} held (Err fault) → AnswersFile held remaining contents asked r r w w (Err fault)
+  file-unread r w fault (inl is) = subst (λ (f : Fault). AnswersFile held remaining contents asked r r w w (Err f)) (sym is) (refl, refl)
+  file-unread r w fault (inr is) = subst (λ (f : Fault). AnswersFile held remaining contents asked r r w w (Err f)) (sym is) (inr (inr (refl, (refl, refl))))
 
 -- ---- the words
 

@@ -1,20 +1,23 @@
 -- A rule file, in either form: of plain text, or of hex.
 use Rattle.std.specs.Prelude.{◌≡◌, ◌↔◌, ℕ, Bool, true, false, List, Result, Err, IfOk}
-use Rattle.ac_input.specs.Rules.{FirstBadLine, FirstBadTextLine, IsRuleFile, IsTextRuleFile, Rule}
+use Rattle.ac_input.specs.Rules.{BeginsWithRule, BeginsWithTextRule, FirstBadLine, FirstBadTextLine, IsRuleFile, IsTextRuleFile, Rule, Spells}
 use Rattle.acsub.specs.declared.rules.RuleError.{RuleError}
 use Rattle.acsub.specs.declared.rules.RuleError.TheVariants.{Line, Memory}
 
--- The form of a rule file: the rules that a file holds, and the number of its first bad line.
+-- The form of a rule file: the rules that a file holds; the number of its first bad line; the rule of a text's first line, and what
+-- follows that line; and the bytes that a side stands for, as it is written.
 pub record Grammar : Type 1 where
   pub holds : List ℕ → List Rule → Type 0
   pub bad : List ℕ → ℕ → Type 0
+  pub begins : List ℕ → Rule → List ℕ → Type 0
+  pub spells : List ℕ → List ℕ → Type 0
 
 -- the form in hex, and the one of plain text
 abbrev pub hex_rules : Grammar
-hex_rules = record { holds = IsRuleFile; bad = FirstBadLine }
+hex_rules = record { holds = IsRuleFile; bad = FirstBadLine; begins = BeginsWithRule; spells = Spells }
 
 abbrev pub text_rules : Grammar
-text_rules = record { holds = IsTextRuleFile; bad = FirstBadTextLine }
+text_rules = record { holds = IsTextRuleFile; bad = FirstBadTextLine; begins = BeginsWithTextRule; spells = λ side bytes. bytes ≡ side }
 
 -- the form that is asked for: of plain text, or in hex
 abbrev pub grammar_of : Bool → Grammar

@@ -1,9 +1,10 @@
 -- What a text of rules begins with, and how many rules it has.
-use Rattle.std.specs.Prelude.{◌≡◌, ℕ, List, [], ◌∷◌, ◌++◌, length, slice_index_or, Contains}
-use Rattle.ac_input.specs.Rules.{BeginsWithTextRule, IsRuleFile, IsTextRuleFile, Rule, Spells}
+use Rattle.std.specs.Prelude.{◌≡◌, ℕ, Bool, List, [], ◌∷◌, ◌++◌, length, slice_index_or, Contains, Option, Some, None}
+use Rattle.ac_input.specs.Rules.{Rule, Spells}
+use Rattle.acsub.specs.Rules.File.{Grammar, grammar_of}
 use Rattle.acsub.specs.declared.rules.RuleLine.{RuleLine}
 
--- the text spells some bytes
+-- the text spells some bytes in hex
 abbrev pub IsSpelling : List ℕ → Type 0
 IsSpelling text = (bytes : List ℕ) × Spells text bytes
 
@@ -11,27 +12,18 @@ IsSpelling text = (bytes : List ℕ) × Spells text bytes
 abbrev pub IsSplitAt : List ℕ → ℕ → List ℕ → List ℕ → Type 0
 IsSplitAt text separator before after = (text ≡ before ++ separator ∷ after) × ¬ Contains before separator
 
--- the text begins with a line of these two sides, each of them spelled in hex, and the rest follows
-abbrev pub BeginsWithLine : List ℕ → List ℕ → List ℕ → List ℕ → Type 0
-BeginsWithLine text pattern replacement more = IsSpelling pattern × IsSpelling replacement × (text ≡ pattern ++ 9 ∷ (replacement ++ 10 ∷ more))
+-- both sides of the line, as they are written, stand for those of the rule
+abbrev pub SpellsRule : Grammar → RuleLine → Rule → Type 0
+SpellsRule grammar line rule = grammar.spells line.pattern.now rule.0 × grammar.spells line.replacement.now rule.1
 
--- the text begins with this line
-abbrev pub IsFirstLine : List ℕ → RuleLine → Type 0
-IsFirstLine text line = BeginsWithLine text line.pattern.now line.replacement.now line.rest.now
+-- the text begins with this line, which spells a rule; or it begins with no rule
+abbrev pub BeginsWithLine : Grammar → List ℕ → Option RuleLine → Type 0
+BeginsWithLine grammar text (Some line) = (rule : Rule) × SpellsRule grammar line rule × grammar.begins text rule line.rest.now
+BeginsWithLine grammar text None = (rule : Rule) (more : List ℕ) → ¬ grammar.begins text rule more
 
--- the text is a rule file of this many rules
-abbrev pub HasCount : List ℕ → ℕ → Type 0
-HasCount text count = (rules : List Rule) × IsRuleFile text rules × (count ≡ length rules)
-
--- ---- rule files of plain text
-
--- the text begins with this line, which is a rule in plain text
-abbrev pub IsFirstTextRule : List ℕ → RuleLine → Type 0
-IsFirstTextRule text line = BeginsWithTextRule text (line.pattern.now, line.replacement.now) line.rest.now
-
--- the text is a rule file of plain text, with this many rules
-abbrev pub HasTextCount : List ℕ → ℕ → Type 0
-HasTextCount text count = (rules : List Rule) × IsTextRuleFile text rules × (count ≡ length rules)
+-- the file has this many rules
+abbrev pub HasCount : Bool → List ℕ → ℕ → Type 0
+HasCount text file count = (rules : List Rule) × (grammar_of text).holds file rules × (count ≡ length rules)
 
 -- ---- rules
 

@@ -1,16 +1,13 @@
--- Lists over streams: what a result says of what was read and written, and what holds at each point.
-use Rattle.std.specs.Prelude.{◌≡◌, ◌⊎◌, ℕ, List, ◌∷◌, ◌++◌, [], false, true, Option, Result}
-use Rattle.std.specs.List.{concat}
+-- Lists over streams: what a result says of what was read and written.
+use Rattle.std.specs.Prelude.{◌≡◌, ℕ, List, ◌∷◌, ◌++◌, [], OnOk, Option, Result}
 use Rattle.ac_input.specs.Occurrence.{Occurrence}
 use Rattle.ac_input.specs.Text.{listed}
-use Rattle.ac_input.specs.Laws.BeginningLaws.{IsBeginning}
 use Rattle.ac_input.specs.declared.steps.Steps.{Steps}
 use Rattle.ac_automaton.specs.Automaton.{Built}
-use Rattle.ac_automaton.specs.Devices.Moved.{AreFilled, AreWhole, HasGiven, HasTaken, but_last}
 use Rattle.ac_automaton.specs.Devices.Output.{Sends}
 use Rattle.ac_automaton.specs.Replace.{matches_in}
-use Rattle.ac_automaton.specs.Stream.{AreAllGiven, CanBeCounted, Decides, IsOnCourse, StreamProgress, read_by, room_of}
-use Rattle.ac_automaton.specs.Stream.StreamIter.{progress_of, reader_of}
+use Rattle.ac_automaton.specs.Stream.{AreAllGiven, GoesOn, ReadsNothing, room_of}
+use Rattle.ac_automaton.specs.Stream.StreamIter.{KeepsReader, progress_of, reader_of}
 use Rattle.ac_automaton.specs.declared.error.StreamError.{StreamError}
 use Rattle.ac_automaton.specs.declared.stream.StreamFindIter.{StreamFindIter}
 use Rattle.ac_automaton.specs.declared.watched.Watched.{Watched}
@@ -39,8 +36,6 @@ module _ {R : Type 0} where
   abbrev pub CostsOn : {E : Type 0} → StreamFindIter AhoCorasick R → StreamFindIter AhoCorasick R → Steps → Steps → Result (Unit {0}) E → Type 0
   CostsOn from to before after result = CostsSearch (progress_of from).built (reader_of from) (reader_of to) before after result
 
--- ---- what holds at each point of a list
-
 -- A line for an occurrence was sent, and one for each that was returned after it; or the sending stopped at a write. These were
 -- returned before and after. Nothing was held back before, and these bytes are after.
 pub record WritesLines {W : Type 0} (contents : W → Option (List ℕ)) (o : Occurrence) (before after : List Occurrence) (old new : Watched W) (held : List ℕ) (result : Result (Unit {0}) StreamError) : Type 0 where
@@ -48,25 +43,13 @@ pub record WritesLines {W : Type 0} (contents : W → Option (List ℕ)) (o : Oc
   pub given : after ≡ before ++ more
   pub sends : Sends contents (listed (o ∷ more)) old new [] held result
 
--- more may be read
-abbrev pub IsOpen : {R : Type 0} → StreamProgress → Watched R → Type 0
-IsOpen s reader = AreFilled s.pieces × (s.closed ≡ false) × (reader.ended ≡ false)
+-- Nothing was read from one state of the iterator to the other. What it did was counted, and it is on its course.
+pub record GoesOnUnread {R : Type 0} (from to : StreamFindIter AhoCorasick R) (before after : Steps) : Type 0 where
+  pub unread : ReadsNothing (progress_of from) (progress_of to)
+  pub reader : KeepsReader from to
+  pub goes : GoesOn (progress_of from) (progress_of to) before after
 
--- the input was read to its end, and the search is closed
-abbrev pub IsOver : StreamProgress → Type 0
-IsOver s = AreWhole s.pieces × (s.closed ≡ true)
-
--- at least the matches that were decided before the last read were returned
-abbrev pub GaveEarly : StreamProgress → Type 0
-GaveEarly s = (early : List Occurrence) × Decides s.built.dictionary (concat (but_last s.pieces)) early × IsBeginning early s.given
-
--- A list between two reads: all decided matches were returned, a line for each was written, and nothing is held back.
-pub record HasListed {R W : Type 0} (remaining : R → Option (List ℕ)) (contents : W → Option (List ℕ)) (b : Built) (s : StreamProgress) (reader_before reader_after : Watched R) (writer_before writer_after : Watched W) : Type 0 where
-  pub built : s.built ≡ b
-  pub course : IsOnCourse s
-  pub countable : CanBeCounted (read_by s)
-  pub all : AreAllGiven s
-  pub early : GaveEarly s
-  pub input : IsOpen s reader_after ⊎ IsOver s
-  pub read : HasGiven remaining reader_before reader_after s.pieces 0
-  pub written : HasTaken contents writer_before writer_after (listed s.given) 0 0
+-- A line for a match was written, and one for each decided match that was returned after it, which are all; or a write failed.
+pub record WritesHeld {R W : Type 0} (contents : W → Option (List ℕ)) (o : Occurrence) (from to : StreamFindIter AhoCorasick R) (old new : Watched W) (result : Result (Unit {0}) StreamError) : Type 0 where
+  pub lines : WritesLines contents o (progress_of from).given (progress_of to).given old new [] result
+  pub all : OnOk result (AreAllGiven (progress_of to))

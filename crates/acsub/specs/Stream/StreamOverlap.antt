@@ -1,18 +1,18 @@
--- Lists of all that overlap in a stream: what a result says of what was read and written, and what holds at each point.
-use Rattle.std.specs.Prelude.{◌≡◌, ℕ, List, false, Option, Result}
+-- Lists of all that overlap in a stream: what a result says of what was read and written.
+use Rattle.std.specs.Prelude.{◌≡◌, ℕ, List, [], OnOk, Option, Result}
+use Rattle.ac_input.specs.Occurrence.{Occurrence}
 use Rattle.ac_input.specs.Text.{listed}
 use Rattle.ac_input.specs.declared.steps.Steps.{Steps}
 use Rattle.ac_automaton.specs.Automaton.{Built}
 use Rattle.ac_automaton.specs.Devices.Buffer.{least_room}
-use Rattle.ac_automaton.specs.Devices.Moved.{AreFilled, HasGiven, HasTaken}
-use Rattle.ac_automaton.specs.Stream.{CanBeCounted}
-use Rattle.ac_automaton.specs.Stream.StreamListing.{IsAllListed, IsOnListing, ListingProgress, all_read, occurrences_in}
-use Rattle.ac_automaton.specs.Stream.StreamOverlappingIter.{listing_of_stream, reader_listed}
+use Rattle.ac_automaton.specs.Stream.StreamListing.{IsAllListed, ListingStays, ListsOnCourse, occurrences_in}
+use Rattle.ac_automaton.specs.Stream.StreamOverlappingIter.{KeepsListedReader, listing_of_stream, reader_listed}
 use Rattle.ac_automaton.specs.declared.error.StreamError.{StreamError}
 use Rattle.ac_automaton.specs.declared.stream.overlapping.StreamFindOverlappingIter.{StreamFindOverlappingIter}
 use Rattle.ac_automaton.specs.declared.watched.Watched.{Watched}
 use Rattle.aho_corasick.specs.declared.ahocorasick.AhoCorasick.{AhoCorasick}
 use Rattle.acsub.specs.Stream.{CostsSearch, WritesStream}
+use Rattle.acsub.specs.Stream.StreamList.{WritesLines}
 
 -- a line for each occurrence in a text
 abbrev pub every_line : Built → List ℕ → List ℕ
@@ -35,15 +35,14 @@ module _ {R : Type 0} where
   abbrev pub CostsEveryOn : {E : Type 0} → StreamFindOverlappingIter AhoCorasick R → StreamFindOverlappingIter AhoCorasick R → Steps → Steps → Result (Unit {0}) E → Type 0
   CostsEveryOn from to before after result = CostsSearch (listing_of_stream from).built (reader_listed from) (reader_listed to) before after result
 
--- ---- what holds at each point of a list
+-- Nothing was read from one state of the iterator to the other. What it did was counted, and it is on its course.
+pub record GoesOnListed {R : Type 0} (from to : StreamFindOverlappingIter AhoCorasick R) (before after : Steps) : Type 0 where
+  pub unread : ListingStays (listing_of_stream from) (listing_of_stream to)
+  pub reader : KeepsListedReader from to
+  pub goes : ListsOnCourse (listing_of_stream from) (listing_of_stream to) before after
 
--- A list between two reads: all occurrences in what was read were returned, and a line for each was written. More may be read.
-pub record HasListedEach {R W : Type 0} (remaining : R → Option (List ℕ)) (contents : W → Option (List ℕ)) (b : Built) (s : ListingProgress) (reader_before reader_after : Watched R) (writer_before writer_after : Watched W) : Type 0 where
-  pub built : s.built ≡ b
-  pub course : IsOnListing s
-  pub countable : CanBeCounted (all_read s)
-  pub all : IsAllListed s
-  pub filled : AreFilled s.pieces
-  pub unended : reader_after.ended ≡ false
-  pub read : HasGiven remaining reader_before reader_after s.pieces 0
-  pub written : HasTaken contents writer_before writer_after (listed s.given) 0 0
+-- A line for an occurrence was written, and one for each that was returned after it, which are all of what was read; or a write
+-- failed.
+pub record WritesEach {R W : Type 0} (contents : W → Option (List ℕ)) (o : Occurrence) (from to : StreamFindOverlappingIter AhoCorasick R) (old new : Watched W) (result : Result (Unit {0}) StreamError) : Type 0 where
+  pub lines : WritesLines contents o (listing_of_stream from).given (listing_of_stream to).given old new [] result
+  pub all : OnOk result (IsAllListed (listing_of_stream to))

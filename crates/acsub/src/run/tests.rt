@@ -2,7 +2,7 @@
 //!
 //! What is written stands in `texts`, and in `repeated` for letters that stand many times over. What is refused stands in
 //! `refusals`, and what becomes of a reader or a writer that stops in `devices`.
-use super::{run, run_rules, run_rules_streaming};
+use super::{run, run_rules};
 use crate::error::RunError;
 use crate::rules::{RuleError, read_rules};
 use crate::scripted::{Same, Sink, Source, Told, expecting, whole};
@@ -67,11 +67,10 @@ fn try_run(
     let apart = source.most == 2;
     let mut reader = Watched::new(source);
     let mut writer = Watched::new(sink);
-    let outcome = match read_rules(alloc, rules.as_bytes()) {
-        Ok(rules) if stream => {
-            run_rules_streaming(alloc, settings, &rules, &mut reader, &mut writer)
+    let outcome = match read_rules(alloc, false, rules.as_bytes()) {
+        Ok(rules) if stream || apart => {
+            run_rules(alloc, settings, stream, &rules, &mut reader, &mut writer)
         }
-        Ok(rules) if apart => run_rules(alloc, settings, &rules, &mut reader, &mut writer),
         _ => run(alloc, settings, rules.as_bytes(), &mut reader, &mut writer),
     };
     let sink = writer.into_inner();

@@ -6,16 +6,16 @@
 //! buffer, which is written before each read, so that a stream over a file makes about one write a read.
 //!
 //! Both buffers are taken before the first read, and no memory after that. Nothing is tried again, and nothing is flushed.
-ghost use Rattle.std.specs.Prelude.{◌≡◌, ◌≤◌, [], false, IfErr, OnOk};
+ghost use Rattle.std.specs.Prelude.{◌≡◌, ◌≤◌, [], false, IfErr};
 ghost use Rattle.ac_input.specs.Work.{shortest};
 ghost use Rattle.ac_automaton.specs.Devices.Moved.{NoneTouched};
-ghost use Rattle.ac_automaton.specs.Stream.{AreAllGiven, CanBeCounted, CanStream, GoesOn, IsOnCourse, ReadsNothing, fresh_progress, read_by};
-ghost use Rattle.ac_automaton.specs.Stream.StreamIter.{KeepsReader, progress_of, reader_name, reader_of};
+ghost use Rattle.ac_automaton.specs.Stream.{CanBeCounted, CanStream, IsOnCourse, fresh_progress, read_by};
+ghost use Rattle.ac_automaton.specs.Stream.StreamIter.{progress_of, reader_name, reader_of};
 ghost use Rattle.ac_automaton.specs.Stream.StreamReplace.{IsBegun};
 ghost use Rattle.ac_automaton.specs.declared.stream.StreamKinds.TheVariants.{AnyKind};
 ghost use Rattle.aho_corasick.specs.AhoCorasick.{as_built, supported_by};
 ghost use Rattle.acsub.specs.Stream.{CostsSearch, IfStreamMemory, IsNoRefusal};
-ghost use Rattle.acsub.specs.Stream.StreamList.{CostsOn, ListsOn, ListsStream, WritesLines};
+ghost use Rattle.acsub.specs.Stream.StreamList.{CostsOn, GoesOnUnread, ListsOn, ListsStream, WritesHeld};
 
 use crate::line::Line;
 use ac_automaton::error::StreamError;
@@ -31,24 +31,21 @@ use std::io::{Read, Write};
 /// Writes a line for a match, and one for each further match of what was read. It holds nothing back.
 fn write_lines<R: Read, W: Write>(
     found: &Match,
-    matches: &mut StreamFindIter<'_, R>,
+    iter: &mut StreamFindIter<'_, R>,
     output: &mut Output,
     writer: &mut Watched<W>,
     steps: &mut Steps,
 ) -> Result<(), StreamError>
-    requires countable { CanBeCounted (read_by (progress_of matches.old)) }
-    requires course { IsOnCourse (progress_of matches.old) }
+    requires countable { CanBeCounted (read_by (progress_of iter.old)) }
+    requires course { IsOnCourse (progress_of iter.old) }
     requires empty { output.old ≡ [] }
-    ensures writes { WritesLines W.contents found.now (progress_of matches.old).given
-        (progress_of matches.new).given writer.old writer.new [] result }
-    ensures unread { ReadsNothing (progress_of matches.old) (progress_of matches.new) }
-    ensures all { OnOk result (AreAllGiven (progress_of matches.new)) }
+    ensures writes { WritesHeld W.contents found.now iter.old iter.new
+        writer.old writer.new result }
+    ensures unread { GoesOnUnread iter.old iter.new steps.old steps.new }
     ensures none { output.new ≡ [] }
-    ensures reader { KeepsReader matches.old matches.new }
-    ensures goes { GoesOn (progress_of matches.old) (progress_of matches.new) steps.old steps.new }
 {
     output.send(writer, Line::new(found).as_bytes())?;
-    while let Some(next) = matches.next_held_counted(steps) {
+    while let Some(next) = iter.next_held_counted(steps) {
         output.send(writer, Line::new(&next).as_bytes())?;
     }
     output.send_held(writer)
@@ -56,24 +53,23 @@ fn write_lines<R: Read, W: Write>(
 
 /// Reads on to the end of the input. Before each read all that can be listed is written.
 fn list_read<R: Read, W: Write>(
-    matches: &mut StreamFindIter<'_, R>,
+    iter: &mut StreamFindIter<'_, R>,
     output: &mut Output,
     writer: &mut Watched<W>,
     steps: &mut Steps,
 ) -> Result<(), StreamError>
-    requires fresh { progress_of matches.old ≡ fresh_progress (progress_of matches.old).built }
-    requires filled { 1 ≤ shortest (progress_of matches.old).built.dictionary.patterns }
+    requires fresh { progress_of iter.old ≡ fresh_progress (progress_of iter.old).built }
+    requires filled { 1 ≤ shortest (progress_of iter.old).built.dictionary.patterns }
     requires empty { output.old ≡ [] }
-    requires unended { (reader_of matches.old).ended ≡ false }
-    ensures list { ListsOn R.remaining W.contents matches.old matches.new
-        writer.old writer.new result }
-    ensures costs { CostsOn matches.old matches.new steps.old steps.new result }
+    requires unended { (reader_of iter.old).ended ≡ false }
+    ensures lists { ListsOn R.remaining W.contents iter.old iter.new writer.old writer.new result }
+    ensures costs { CostsOn iter.old iter.new steps.old steps.new result }
     ensures begun { IfErr result IsBegun }
-    ensures same_reference { reader_name matches.new ≡ reader_name matches.old }
+    ensures same_reference { reader_name iter.new ≡ reader_name iter.old }
 {
-    while let Some(next) = matches.next_counted(steps) {
+    while let Some(next) = iter.next_counted(steps) {
         let found = next?;
-        write_lines(&found, matches, output, writer, steps)?;
+        write_lines(&found, iter, output, writer, steps)?;
     }
     Ok(())
 }

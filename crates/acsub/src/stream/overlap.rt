@@ -5,17 +5,16 @@
 //! once it was searched.
 //!
 //! Both buffers are taken before the first read, and no memory after that. Nothing is tried again, and nothing is flushed.
-ghost use Rattle.std.specs.Prelude.{◌≡◌, [], false, IfErr, OnOk};
+ghost use Rattle.std.specs.Prelude.{◌≡◌, [], false, IfErr};
 ghost use Rattle.ac_automaton.specs.Devices.Moved.{NoneTouched};
 ghost use Rattle.ac_automaton.specs.Stream.{CanBeCounted, CanStream};
-ghost use Rattle.ac_automaton.specs.Stream.StreamListing.{IsAllListed, IsOnListing, ListingStays, ListsOnCourse, all_read, fresh_listing};
-ghost use Rattle.ac_automaton.specs.Stream.StreamOverlappingIter.{KeepsListedReader, listing_of_stream, reader_listed, reader_listed_name};
+ghost use Rattle.ac_automaton.specs.Stream.StreamListing.{IsOnListing, all_read, fresh_listing};
+ghost use Rattle.ac_automaton.specs.Stream.StreamOverlappingIter.{listing_of_stream, reader_listed, reader_listed_name};
 ghost use Rattle.ac_automaton.specs.Stream.StreamReplace.{IsBegun};
 ghost use Rattle.ac_automaton.specs.declared.stream.StreamKinds.TheVariants.{OnlyStandard};
 ghost use Rattle.aho_corasick.specs.AhoCorasick.{as_built, supported_by};
 ghost use Rattle.acsub.specs.Stream.{CostsSearch, IfStreamMemory, IsNoRefusal};
-ghost use Rattle.acsub.specs.Stream.StreamList.{WritesLines};
-ghost use Rattle.acsub.specs.Stream.StreamOverlap.{CostsEveryOn, ListsEvery, ListsEveryOn};
+ghost use Rattle.acsub.specs.Stream.StreamOverlap.{CostsEveryOn, GoesOnListed, ListsEvery, ListsEveryOn, WritesEach};
 
 use crate::line::Line;
 use ac_automaton::error::StreamError;
@@ -39,14 +38,10 @@ fn write_each<R: Read, W: Write>(
     requires countable { CanBeCounted (all_read (listing_of_stream iter.old)) }
     requires course { IsOnListing (listing_of_stream iter.old) }
     requires empty { output.old ≡ [] }
-    ensures writes { WritesLines W.contents found.now (listing_of_stream iter.old).given
-        (listing_of_stream iter.new).given writer.old writer.new [] result }
-    ensures unread { ListingStays (listing_of_stream iter.old) (listing_of_stream iter.new) }
-    ensures all { OnOk result (IsAllListed (listing_of_stream iter.new)) }
+    ensures writes { WritesEach W.contents found.now iter.old iter.new
+        writer.old writer.new result }
+    ensures unread { GoesOnListed iter.old iter.new steps.old steps.new }
     ensures none { output.new ≡ [] }
-    ensures reader { KeepsListedReader iter.old iter.new }
-    ensures goes { ListsOnCourse (listing_of_stream iter.old)
-        (listing_of_stream iter.new) steps.old steps.new }
 {
     output.send(writer, Line::new(found).as_bytes())?;
     while let Some(next) = iter.next_held_counted(steps) {

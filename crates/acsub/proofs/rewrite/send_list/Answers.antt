@@ -1,16 +1,16 @@
--- Each turn sends the line of the next match.
-use Rattle.std.proofs.Common.{ℕ, List, ◌++◌, [], refl, subst}
+-- Each turn sends the line of the next match. At the end nothing is held back.
+use Rattle.std.proofs.Common.{◌++◌, [], refl, ◌∙◌}
+use Rattle.std.proofs.lemmas.List.{append-nil}
 use Rattle.std.proofs.lemmas.Result.{err_from_is_err_and}
 use Rattle.ac_input.specs.Text.{line, listed}
-use Rattle.ac_automaton.specs.Devices.Output.{Sent}
 use Rattle.ac_automaton.proofs.devices.OutputLemmas.{Sent-none, Sent-then}
 use Rattle.acsub.specs.Matches.{left_in}
 use Rattle.acsub.proofs.rewrite.RewriteLemmas.{listed-end, listed-step}
-use Rattle.acsub.proofs.rewrite.SendingLemmas.{sends-stopped}
+use Rattle.acsub.proofs.rewrite.SendingLemmas.{sends-last, sends-stopped}
 use Rattle.acsub.proofs.rewrite.send_list.Goals as goal
 
 pub loop-found-init : goal.loop-found-init
-loop-found-init g c = record { front = []; sent = Sent-none _ c.args.writer.now c.args.output.now; order = refl; counted = λ plan n begun h. h }
+loop-found-init g c = record { front = []; sent = rw c.requires (Sent-none _ c.args.writer.now []); order = refl; counted = λ plan n begun h. h }
 
 pub returns-in_err-send-clause-sent : goal.returns-in_err-send-clause-sent
 returns-in_err-send-clause-sent g c =
@@ -18,7 +18,7 @@ returns-in_err-send-clause-sent g c =
     let before = c.loop-found.invariant in
     let found = c.in-Some.found in
     let stopped = rw (c.as_bytes.ensures, c.new.ensures) at c.in_err-send.ensures.sent in
-    rw (p.1, p.2) (sends-stopped _ _ _ _ _ _ before.front (line found) _ before.sent (listed (left_in c.next_counted.new.self)) c.send.new.self _ (listed-step found _ _ before.front _ c.in-Some.ensures.yields before.order) stopped)
+    rw (p.1, p.2) (sends-stopped _ _ _ _ _ _ before.front (line found) _ before.sent (listed (left_in c.next_counted.new.self)) [] _ (listed-step found _ _ before.front _ c.in-Some.ensures.yields before.order) (stopped.0, stopped.1, refl))
 
 pub returns-in_err-send-clause-counts : goal.returns-in_err-send-clause-counts
 returns-in_err-send-clause-counts g c = λ plan n begun h. c.next_counted.ensures.counts plan n begun (c.loop-found.invariant.counted plan n begun h)
@@ -38,7 +38,8 @@ loop-found-preserved g c =
 pub returns-clause-sent : goal.returns-clause-sent
 returns-clause-sent g c =
     let before = c.loop-found.invariant in
-    subst (λ (text : List ℕ). Sent g.W.Write.contents c.args.writer.now c.loop-found.writer c.args.output.now c.loop-found.output text) (listed-end _ before.front _ c.in_default.ensures.yields.0 before.order) before.sent
+    let end = listed-end _ before.front _ c.in_default.ensures.yields.0 before.order in
+    sends-last _ _ _ _ _ _ before.front [] _ before.sent [] c.send_held.result (append-nil before.front ∙ end) (rw c.send_held.ensures.none at c.send_held.ensures.sent)
 
 pub returns-clause-counts : goal.returns-clause-counts
 returns-clause-counts g c = λ plan n begun h. c.next_counted.ensures.counts plan n begun (c.loop-found.invariant.counted plan n begun h)

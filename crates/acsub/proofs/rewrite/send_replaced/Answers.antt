@@ -14,7 +14,7 @@ use Rattle.acsub.proofs.rewrite.send_replaced.Goals as goal
 
 pub loop-found-init : goal.loop-found-init
 loop-found-init g c =
-    record { front = []; sent = Sent-none _ c.args.writer.now c.args.output.now; order = refl; lies = c.requires; within = omega arith; counted = λ plan n begun h. h }
+    record { front = []; sent = rw c.requires.fresh (Sent-none _ c.args.writer.now []); order = refl; lies = c.requires.lie; within = omega arith; counted = λ plan n begun h. h }
 
 pub replacement-requires : goal.replacement-requires
 replacement-requires g c =
@@ -28,11 +28,12 @@ returns-in_err-send_exchanged-clause-sent g c =
     let seen = c.in-Some.ensures.yields in
     let lies = lies-first (length c.args.rules.now) (length c.args.input.now) c.loop-found.at (left_in c.loop-found.picks) (left_in c.next_counted.new.self) c.in-Some.found seen before.lies in
     let number = c.as_usize.ensures.value ∙ c.pattern.ensures in
-    rw (p.1, p.2) (sends-stopped _ _ _ _ _ _ before.front _ _ before.sent _ c.send_exchanged.new.self _
+    let stopped = c.in_err-send_exchanged.ensures.sent in
+    rw (p.1, p.2) (sends-stopped _ _ _ _ _ _ before.front _ _ before.sent _ [] _
     (replaced-step c.loop-found.at c.in-Some.found (left_in c.loop-found.picks) (left_in c.next_counted.new.self) c.args.input.now (replacements_of c.args.rules.now) before.front _ _ _ seen
     (ap (λ (k : ℕ). slice_range c.args.input.now c.loop-found.at k) c.start.ensures.value)
     (c.replacement.ensures ∙ ap (λ (n : ℕ). (rule_at c.args.rules.now n).1) number ∙ replacement_of_rule c.args.rules.now _ lies.0) before.order)
-    c.in_err-send_exchanged.ensures.sent)
+    (stopped.0, stopped.1, refl))
 
 pub returns-in_err-send_exchanged-clause-counts : goal.returns-in_err-send_exchanged-clause-counts
 returns-in_err-send_exchanged-clause-counts g c = λ plan n begun h. c.next_counted.ensures.counts plan n begun (c.loop-found.invariant.counted plan n begun h)
@@ -59,7 +60,7 @@ pub returns-clause-sent : goal.returns-clause-sent
 returns-clause-sent g c =
     let before = c.loop-found.invariant in
     let end = replaced-end c.loop-found.at _ c.args.input.now (replacements_of c.args.rules.now) before.front _ c.in_default.ensures.yields.0 before.order in
-    sends-last _ _ _ _ _ _ before.front _ _ before.sent _ c.send.result (ap (λ (t : List ℕ). before.front ++ t) (take_rest c.args.input.now c.loop-found.at) ∙ end) c.send.ensures.sent
+    sends-last _ _ _ _ _ _ before.front _ _ before.sent [] c.send_all.result (ap (λ (t : List ℕ). before.front ++ t) (take_rest c.args.input.now c.loop-found.at) ∙ end) c.send_all.ensures.sent
 
 pub returns-clause-counts : goal.returns-clause-counts
 returns-clause-counts g c = λ plan n begun h. c.next_counted.ensures.counts plan n begun (c.loop-found.invariant.counted plan n begun h)

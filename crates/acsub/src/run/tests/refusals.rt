@@ -1,6 +1,6 @@
 //! Rule files and settings that are an error before anything is read or written, and those that are accepted.
 use super::*;
-use crate::rules::{self, read_text_rules};
+use crate::rules;
 use crate::scripted::PLAIN;
 use crate::settings::Mode::{List, Overlap, Replace};
 use crate::settings::SettingError::{
@@ -12,7 +12,7 @@ use std::test::Fail;
 
 /// Why the rule file and the settings are an error, if they are.
 fn refusal(alloc: Global, settings: &Settings, file: &str) -> Answer {
-    match read_rules(alloc, file.as_bytes()) {
+    match read_rules(alloc, false, file.as_bytes()) {
         Ok(rules) => match check(settings, &rules) {
             Ok(()) => Answer::Done,
             Err(error) => Answer::Setting(error),
@@ -166,17 +166,17 @@ const PLAIN_TEXT: &[Plain] = &[
 /// Asserts that a bad line is reported whatever memory does, and that rules are read or there was no memory.
 pub fn reads_where_there_is_memory(rt: &impl Abort, alloc: Global) {
     for Bad(file, line) in BAD {
-        let refused = read_rules(alloc, file.as_bytes()).err();
+        let refused = read_rules(alloc, false, file.as_bytes()).err();
         assert_eq!(rt; refused, Some(RuleError::Line(*line)), "by {file:?}");
     }
     for Good(file, sides) in GOOD {
-        match &read_rules(alloc, file.as_bytes()) {
+        match &read_rules(alloc, false, file.as_bytes()) {
             Ok(rules) => has_sides(rt, rules, sides),
             Err(error) => assert_eq!(rt; *error, RuleError::Memory, "by {file:?}"),
         }
     }
     for Plain(file, want) in PLAIN_TEXT {
-        match (&read_text_rules(alloc, file), want) {
+        match (&read_rules(alloc, true, file), want) {
             (Ok(rules), Ok(sides)) => has_sides(rt, rules, sides),
             (Ok(rules), Err(_)) => assert_eq!(rt; rules.len(), usize::MAX, "by {file:?}"),
             (Err(error), Ok(_)) => assert_eq!(rt; *error, RuleError::Memory, "by {file:?}"),
@@ -191,7 +191,7 @@ pub fn reads_where_there_is_memory(rt: &impl Abort, alloc: Global) {
 #[test]
 fn reads_rules(rt: HostRuntime) -> Result<(), Fail> {
     for Good(file, sides) in GOOD {
-        let rules = read_rules(rt.alloc(), file.as_bytes())?;
+        let rules = read_rules(rt.alloc(), false, file.as_bytes())?;
         has_sides(&rt, &rules, sides);
     }
     Ok(())

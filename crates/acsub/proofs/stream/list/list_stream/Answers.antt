@@ -40,5 +40,5 @@ pub returns-clause-lists : goal.returns-clause-lists
 returns-clause-lists g c =
     let answer = c.in_ok-matches.ensures.answer in
     let built = ap (λ (p : StreamProgress). p.built) answer.1 in
-    let lists = rw (built, answer.2) at c.list_read-outcome.ensures.list in
+    let lists = rw (built, answer.2) at c.list_read-outcome.ensures.lists in
     subst (λ (reader : Watched _). ListsStream g.R.Read.remaining g.W.Write.contents (as_built c.args.engine.now) c.args.reader.now reader c.args.writer.now c.list_read-outcome.new.writer c.list_read-outcome.result) (search rules) lists

@@ -1,7 +1,7 @@
 use Rattle.std.proofs.Common.{◌≡◌, ◌-◌, [], length}
 use Rattle.ac_automaton.specs.Stream.StreamListing.{ListingCounts, all_read}
 use Rattle.ac_automaton.specs.Stream.StreamOverlappingIter.{listing_of_stream, reader_listed, reader_listed_name}
-use Rattle.acsub.specs.Stream.StreamOverlap.{HasListedEach}
+use Rattle.acsub.proofs.stream.StreamOverlapLemmas.{HasListedEach}
 use Rattle.acsub.proofs.stream.overlap.list_each.Given as goal
 
 abbrev pub invariant-loop-next : goal.invariant-loop-next

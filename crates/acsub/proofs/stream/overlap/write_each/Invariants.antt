@@ -1,15 +1,14 @@
 use Rattle.std.proofs.Common.{◌-◌, length, Ok}
-use Rattle.ac_automaton.specs.Stream.StreamListing.{ListingCounts, ListingStays, all_read, occurrences_in}
-use Rattle.ac_automaton.specs.Stream.StreamOverlappingIter.{KeepsListedReader, listing_of_stream}
+use Rattle.ac_automaton.specs.Stream.StreamListing.{all_read, occurrences_in}
+use Rattle.ac_automaton.specs.Stream.StreamOverlappingIter.{listing_of_stream}
 use Rattle.acsub.specs.Stream.StreamList.{WritesLines}
+use Rattle.acsub.specs.Stream.StreamOverlap.{GoesOnListed}
 use Rattle.acsub.proofs.stream.overlap.write_each.Given as goal
 
 abbrev pub invariant-loop-next : goal.invariant-loop-next
 invariant-loop-next g l = record {
   sent : WritesLines g.W.Write.contents l.fn.found (listing_of_stream l.fn.iter).given (listing_of_stream l.iter).given l.fn.writer l.writer l.output (Ok tt);
-  unread : ListingStays (listing_of_stream l.fn.iter) (listing_of_stream l.iter);
-  reader : KeepsListedReader l.fn.iter l.iter;
-  counted : ListingCounts (listing_of_stream l.fn.iter) (listing_of_stream l.iter) l.fn.steps l.steps;
+  gone : GoesOnListed l.fn.iter l.iter l.fn.steps l.steps;
 }
 
 abbrev pub decreases-loop-next : goal.decreases-loop-next

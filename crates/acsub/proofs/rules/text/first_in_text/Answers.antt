@@ -1,10 +1,10 @@
 -- The first line splits into one pair of sides, which either are a rule or not.
-use Rattle.std.proofs.Common.{ℕ, List, length, Contains, sym, ◌∙◌, ap, subst}
+use Rattle.std.proofs.Common.{ℕ, List, length, Contains, refl, sym, ◌∙◌, ap, subst}
 use Rattle.std.proofs.lemmas.Bool.{eq-eqb, eqb-true, false≢true}
 use Rattle.std.proofs.lemmas.List.{nil_from_length}
 use Rattle.ac_input.proofs.lemmas.RuleOrderLemmas.{Contains-between}
 use Rattle.ac_input.proofs.lemmas.TextRuleLemmas.{BeginsWithNoTextRule-from_sides}
-use Rattle.acsub.proofs.rules.text.first_rule.Goals as goal
+use Rattle.acsub.proofs.rules.text.first_in_text.Goals as goal
 
 pub returns-then-is_empty : goal.returns-then-is_empty
 returns-then-is_empty c =
@@ -21,5 +21,8 @@ returns-in-Some c =
 
 pub returns-in-None : goal.returns-in-None
 returns-in-None c =
-    let pattern = c.sides_of.result.0.now in
-    (c.first_written.result.0.now, c.without_return.result.now, c.first_written.ensures, c.without_return.ensures, (c.sides_of.ensures, (λ empty. false≢true (c.if-is_empty.ensures ∙ eq-eqb (length pattern) 0 (ap length empty))), c.in-None.ensures.none))
+    let pattern = c.sides_of.result.0.now in (
+      (pattern, c.sides_of.result.1.now),
+      (refl, refl),
+      (c.first_written.result.0.now, c.without_return.result.now, c.first_written.ensures, c.without_return.ensures, (c.sides_of.ensures, (λ empty. false≢true (c.if-is_empty.ensures ∙ eq-eqb (length pattern) 0 (ap length empty))), c.in-None.ensures.none)),
+    )

@@ -1,7 +1,7 @@
 //! How C builds an automaton, and shares it.
 ghost use Rattle.std.specs.Prelude.{◌≡◌, Ok, Err, IfOk, IfErr};
 ghost use Rattle.ac_literal.specs.Packed.{bytes_of};
-ghost use Rattle.ac_c.specs.Build.{AnswersBuild, AnswersBuilder, AreDefaults, IsBuiltFrom, PairsBy, IsShared, engine_by, kind_by, no_fault, pairs_of, plain, build_refusal, start_kind_by};
+ghost use Rattle.ac_c.specs.Build.{AnswersBuilder, AreDefaults, IsBuiltFrom, PairsBy, IsShared, engine_by, kind_by, no_fault, pairs_of, plain, build_refusal, start_kind_by};
 
 use crate::handle::Handle;
 use crate::status::{
@@ -246,7 +246,7 @@ fn built_by(
 }
 
 /// The same in a box.
-fn boxed_by(
+pub fn boxed_by(
     alloc: Global,
     patterns: &[&[u8]],
     settings: &Settings,
@@ -260,31 +260,6 @@ fn boxed_by(
     match Box::new(alloc, built_by(alloc, patterns, settings, pairs)?) {
         Ok(ac) => Ok(ac),
         Err(_) => Err(Refusal::plain(NO_MEMORY)),
-    }
-}
-
-/// Builds an automaton into a handle, as C sees it.
-pub fn build(
-    alloc: Global,
-    patterns: &[&[u8]],
-    settings: &Settings,
-    pairs: &[Pair],
-    handle: &mut Handle,
-    fault: &mut Fault,
-) -> u32
-    ensures { AnswersBuild (bytes_of patterns.now) settings.now pairs.now handle.old.value
-        handle.new.value fault.new result }
-{
-    match boxed_by(alloc, patterns, settings, pairs) {
-        Ok(ac) => {
-            *handle = Handle::of(ac);
-            *fault = Fault::nothing();
-            OK
-        }
-        Err(refusal) => {
-            *fault = refusal.fault;
-            refusal.status
-        }
     }
 }
 

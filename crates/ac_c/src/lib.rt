@@ -82,7 +82,17 @@ pub extern "C" fn dado_raw_build(
     ensures { AnswersBuild (bytes_of patterns.now) settings.now pairs.now handle.old.value
         handle.new.value fault.new result }
 {
-    build::build(alloc, patterns, settings, pairs, handle, fault)
+    match build::boxed_by(alloc, patterns, settings, pairs) {
+        Ok(ac) => {
+            *handle = Handle::of(ac);
+            *fault = Fault::nothing();
+            OK
+        }
+        Err(refusal) => {
+            *fault = refusal.fault;
+            refusal.status
+        }
+    }
 }
 
 /// Frees the automaton, if there is one.

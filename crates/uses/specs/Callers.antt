@@ -1,18 +1,33 @@
 -- What the callers can conclude from the library's contracts.
-use Rattle.std.specs.Prelude.{◌≡◌, ℕ, ◌+◌, ◌-◌, ◌≤◌, List, [], ◌∷◌, ◌++◌, map, take, drop, slice_range, option_map, Option, Some, None, String}
+use Rattle.std.specs.Prelude.{◌≡◌, ℕ, ◌+◌, ◌*◌, ◌-◌, ◌≤◌, List, [], ◌∷◌, ◌++◌, map, take, drop, slice_range, option_map, Option, Some, None, String, false}
 use Rattle.std.specs.Borrow.{Bor}
 use Rattle.std.specs.Global.{Global, Vec}
 use Rattle.std.specs.String.{string_bytes}
+use Rattle.ac_input.specs.declared.search.MatchKind.{MatchKind}
 use Rattle.ac_input.specs.declared.search.Span.{Span}
+use Rattle.ac_input.specs.declared.steps.Steps.{Steps}
+use Rattle.ac_input.specs.Computed.{best_of}
 use Rattle.ac_input.specs.Dictionary.{Dictionary}
 use Rattle.ac_input.specs.Laws.Utf8Laws.{AreFullTexts, KeepsChars}
 use Rattle.ac_input.specs.Occurrence.{Search, Occurrence, Occurs}
+use Rattle.ac_literal.specs.Packed.{in_whole}
 use Rattle.ac_automaton.specs.Automaton.{Built}
 use Rattle.ac_automaton.specs.Replace.{text_matches_in}
+use Rattle.ac_automaton.specs.Stream.{fresh_progress}
+use Rattle.ac_automaton.specs.Stream.StreamIter.{progress_of, reader_of}
 use Rattle.ac_automaton.specs.Stream.StreamReplace.{replaced_in}
+use Rattle.ac_automaton.specs.declared.stream.StreamFindIter.{StreamFindIter}
 use Rattle.ac_automaton.specs.declared.watched.Watched.{Watched}
 use Rattle.aho_corasick.specs.AhoCorasick.{HasOccurrence}
 use Rattle.aho_corasick.specs.Callers.{first_in}
+
+-- at most two looks at states for each of so many bytes
+abbrev pub TwoLooks : Steps → Steps → ℕ → Type 0
+TwoLooks old new bytes = new.looked.value ≤ old.looked.value + 2 * bytes
+
+-- the best occurrence of these patterns in a text, by this kind
+abbrev pub IsBestOf : MatchKind → List (List ℕ) → List ℕ → Option Occurrence → Type 0
+IsBestOf kind patterns text found = found ≡ best_of kind (in_whole patterns text)
 
 -- an occurrence lies in a span
 abbrev pub LiesIn : Span → Occurrence → Type 0
@@ -38,12 +53,16 @@ with_first text replacement [] = text
 with_first text replacement (o ∷ os) = take o.start text ++ replacement ++ drop o.end text
 
 -- the destination gained the text, with its first match replaced
-abbrev pub AppendsOne : Built → List ℕ → List ℕ → String Global → String Global → Type 0
-AppendsOne b text replacement old new = string_bytes new ≡ string_bytes old ++ with_first text replacement (text_matches_in b text)
+abbrev pub AddsOne : Built → List ℕ → List ℕ → String Global → String Global → Type 0
+AddsOne b text replacement old new = string_bytes new ≡ string_bytes old ++ with_first text replacement (text_matches_in b text)
 
 -- the writer has taken the text, with each match replaced
-abbrev pub WritesReplaced : Built → List (Bor (List ℕ)) → List ℕ → Watched (Vec ℕ) → Watched (Vec ℕ) → Type 0
-WritesReplaced b replacements text old new = new.inner.items ≡ old.inner.items ++ replaced_in b (map (λ r. r.now) replacements) text
+abbrev pub Rewrites : Built → List (Bor (List ℕ)) → List ℕ → Watched (Vec ℕ) → Watched (Vec ℕ) → Type 0
+Rewrites b replacements text old new = new.inner.items ≡ old.inner.items ++ replaced_in b (map (λ r. r.now) replacements) text
+
+-- the search has read nothing yet of a reader that gives this text
+abbrev pub HasToRead : {A : Type 0} → StreamFindIter A (Bor (List ℕ)) → List ℕ → Type 0
+HasToRead i text = (progress_of i ≡ fresh_progress (progress_of i).built) × ((reader_of i).ended ≡ false) × ((reader_of i).inner.now ≡ text)
 
 -- No occurrence begins before the place. Where there is no place, there is no occurrence.
 abbrev pub IsSkip : Search → Option ℕ → Type 0

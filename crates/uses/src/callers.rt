@@ -3,7 +3,6 @@
 //! Each is a few lines that call one part of the library. Its contract follows from that part's contract alone, in the words of the
 //! definitions. So a reader sees how a call is used, and what is known after it. Those of [`plain`] have none: they show what needs no
 //! proof file.
-pub mod any_kind;
 pub mod build;
 pub mod find;
 pub mod front;

@@ -1,10 +1,10 @@
 //! Searches for one match.
-ghost use Rattle.std.specs.Prelude.{◌≡◌, ◌↔◌, ◌+◌, ◌-◌, ◌*◌, ◌<◌, ◌≤◌, false, length, option_map, IfOk, IfSome, IsTrue};
+ghost use Rattle.std.specs.Prelude.{◌≡◌, ◌↔◌, ◌-◌, ◌<◌, ◌≤◌, false, length, option_map, IfOk, IfSome, IsTrue};
 ghost use Rattle.ac_input.specs.declared.search.MatchKind.TheVariants.{Standard};
 ghost use Rattle.ac_input.specs.Dictionary.{whole};
 ghost use Rattle.ac_input.specs.Input.{IsSpanOf};
 ghost use Rattle.aho_corasick.specs.Callers.{BeginsWithPattern, IsFirstEnd, IsMostBytes, OccursIn, first_in};
-ghost use Rattle.uses.specs.Callers.{LiesIn};
+ghost use Rattle.uses.specs.Callers.{LiesIn, TwoLooks};
 
 use ac_automaton::automaton::Automaton;
 use ac_automaton::error::MatchError;
@@ -74,9 +74,9 @@ pub fn first_match_counted<A: Search>(
     steps: &mut Steps,
 ) -> Option<Match>
     requires { A.supports automaton.now Anchored.No }
-    ensures linear { steps.new.looked.value ≤ steps.old.looked.value + 2 * length text.now }
+    ensures linear { TwoLooks steps.old steps.new (length text.now) }
     ensures early { (A.built automaton.now).dictionary.kind ≡ Standard
-        → IfSome result (λ o. steps.new.looked.value ≤ steps.old.looked.value + 2 * o.end) }
+        → IfSome result (λ o. TwoLooks steps.old steps.new o.end) }
 {
     automaton
         .try_find_counted(&Input::new(text), steps)

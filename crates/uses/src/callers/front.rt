@@ -15,21 +15,11 @@ use std::alloc::{AllocError, Global};
 
 /// The automaton of the patterns by the settings that a builder has at first: standard matches, byte for byte, from any place.
 pub fn of_bytes(alloc: Global, patterns: &[&[u8]]) -> Result<AhoCorasick, BuildError>
-    ensures dictionary { IfOk result
+    ensures finds { IfOk result
         (λ ac. FindsBytes (bytes_of patterns.now) (as_built ac).dictionary) }
     ensures starts { IfOk result (λ ac. start_kind_of ac ≡ Unanchored) }
 {
     AhoCorasick::new(alloc, patterns)
-}
-
-/// The automaton of texts that prefers the longest of those that start first.
-pub fn of_texts(alloc: Global, texts: &[&str]) -> Result<AhoCorasick, BuildError>
-    ensures patterns { IfOk result (λ ac. patterns_of ac ≡ bytes_of texts.now) }
-    ensures kind { IfOk result (λ ac. kind_of ac ≡ LeftmostLongest) }
-{
-    let mut builder = AhoCorasick::builder();
-    builder.match_kind(MatchKind::LeftmostLongest);
-    builder.build_from_patterns(alloc, texts)
 }
 
 /// One that prefers the pattern that was given first, and takes the two cases of an ASCII letter for the same.
@@ -43,6 +33,16 @@ pub fn folded(alloc: Global, patterns: &[&[u8]]) -> Result<AhoCorasick, BuildErr
         .match_kind(MatchKind::LeftmostFirst)
         .ascii_case_insensitive(true);
     builder.build(alloc, patterns)
+}
+
+/// One of texts that prefers the longest of those that start first.
+pub fn of_texts(alloc: Global, texts: &[&str]) -> Result<AhoCorasick, BuildError>
+    ensures patterns { IfOk result (λ ac. patterns_of ac ≡ bytes_of texts.now) }
+    ensures kind { IfOk result (λ ac. kind_of ac ≡ LeftmostLongest) }
+{
+    let mut builder = AhoCorasick::builder();
+    builder.match_kind(MatchKind::LeftmostLongest);
+    builder.build_from_patterns(alloc, texts)
 }
 
 /// One that takes little memory, whichever automaton serves: with no rows but those of the starts, and no prefilter. It finds the same.

@@ -1,5 +1,5 @@
 //! The front: searches for one match, and for one after another.
-ghost use Rattle.std.specs.Prelude.{◌≡◌, ◌↔◌, ◌+◌, ◌*◌, ◌≤◌, false, length, slice_get, IfOk, IsTrue};
+ghost use Rattle.std.specs.Prelude.{◌≡◌, ◌↔◌, false, length, slice_get, IfOk, IsTrue};
 ghost use Rattle.ac_input.specs.declared.search.MatchKind.TheVariants.{Standard};
 ghost use Rattle.ac_input.specs.Dictionary.{whole};
 ghost use Rattle.ac_input.specs.Input.{whole_of};
@@ -8,8 +8,9 @@ ghost use Rattle.ac_input.specs.Same.{IsUnpaired};
 ghost use Rattle.ac_literal.specs.Packed.{search_kind};
 ghost use Rattle.ac_automaton.specs.Automaton.{listing_in};
 ghost use Rattle.ac_automaton.specs.Replace.{matches_in};
-ghost use Rattle.aho_corasick.specs.AhoCorasick.{as_built, supported_by};
+ghost use Rattle.aho_corasick.specs.AhoCorasick.{as_built, kind_of, supported_by};
 ghost use Rattle.aho_corasick.specs.Callers.{BeginsWithPattern, OccursIn, first_in};
+ghost use Rattle.uses.specs.Callers.{TwoLooks};
 
 use ac_input::search::{Anchored, Input, Match};
 use ac_input::steps::Steps;
@@ -49,7 +50,7 @@ pub fn first_match_counted(
     text: &[u8],
     steps: &mut Steps,
 ) -> Result<Option<Match>, MatchError>
-    ensures { IfOk result (λ found. steps.new.looked.value ≤ steps.old.looked.value + 2 * length text.now) }
+    ensures { IfOk result (λ found. TwoLooks steps.old steps.new (length text.now)) }
 {
     ac.try_find_counted(Input::new(text), steps)
 }
@@ -118,7 +119,7 @@ pub fn all_occurrences(
 /// Whether the occurrences in the text can be listed: that needs the standard kind, and a start for unanchored searches.
 pub fn has_listing(ac: &AhoCorasick, text: &[u8]) -> bool
     ensures { IsTrue result
-        ↔ supported_by ac.now Anchored.No × ((as_built ac.now).dictionary.kind ≡ Standard) }
+        ↔ supported_by ac.now Anchored.No × (kind_of ac.now ≡ Standard) }
 {
     ac.try_find_overlapping_iter(Input::new(text)).is_ok()
 }

@@ -4,7 +4,7 @@ ghost use Rattle.std.specs.String.{string_bytes};
 ghost use Rattle.ac_input.specs.Same.{IsUnpaired};
 ghost use Rattle.aho_corasick.specs.AhoCorasick.{as_built, supported_by, pattern_count};
 ghost use Rattle.aho_corasick.specs.Callers.{KeepsUnmatched};
-ghost use Rattle.uses.specs.Callers.{AppendsOne};
+ghost use Rattle.uses.specs.Callers.{AddsOne};
 
 use ac_input::search::Anchored;
 use aho_corasick::{AhoCorasick, ReplaceError};
@@ -78,7 +78,7 @@ pub fn append_first_replaced(
 ) -> Result<(), AllocError>
     requires { supported_by ac.now Anchored.No }
     ensures { OnOk result
-        (AppendsOne (as_built ac.now) text.now replacement.now dst.old dst.new) }
+        (AddsOne (as_built ac.now) text.now replacement.now dst.old dst.new) }
 {
     ac.replace_all_with(alloc, text, dst, |_, _, dst| {
         dst.push_str(replacement)?;
@@ -95,7 +95,7 @@ pub fn try_append_first_replaced(
     dst: &mut String,
 ) -> Result<(), ReplaceError>
     ensures { OnOk result
-        (AppendsOne (as_built ac.now) text.now replacement.now dst.old dst.new) }
+        (AddsOne (as_built ac.now) text.now replacement.now dst.old dst.new) }
 {
     ac.try_replace_all_with(alloc, text, dst, |_, _, dst| {
         dst.push_str(replacement)?;

@@ -1,8 +1,8 @@
 //! Going over all matches.
-ghost use Rattle.std.specs.Prelude.{◌≡◌, ◌+◌, ◌*◌, ◌≤◌, length, IfOk};
+ghost use Rattle.std.specs.Prelude.{◌≡◌, ◌≤◌, length, IfOk};
 ghost use Rattle.ac_input.specs.declared.search.MatchKind.TheVariants.{Standard};
 ghost use Rattle.ac_automaton.specs.Replace.{matches_in};
-ghost use Rattle.uses.specs.Callers.{bytes_in};
+ghost use Rattle.uses.specs.Callers.{TwoLooks, bytes_in};
 
 use ac_automaton::error::MatchError;
 use ac_automaton::search::Search;
@@ -10,34 +10,22 @@ use ac_input::search::{Anchored, Input, Match};
 use ac_input::steps::Steps;
 use std::alloc::{AllocError, Global};
 
-/// All matches of the text, one after another.
+/// All matches of the text, one after another. They are the same where the text is read ahead.
 pub fn all_matches<A: Search>(
     automaton: &A,
     alloc: Global,
     text: &[u8],
+    ahead: bool,
 ) -> Result<Vec<Match>, AllocError>
     requires { A.supports automaton.now Anchored.No }
     ensures { IfOk result (λ v. v.items ≡ matches_in (A.built automaton.now) text.now) }
 {
-    automaton
-        .try_find_iter(Input::new(text))
-        .unwrap()
-        .collect(alloc)
-}
-
-/// The same matches, of a text that is read ahead.
-pub fn all_matches_ahead<A: Search>(
-    automaton: &A,
-    alloc: Global,
-    text: &[u8],
-) -> Result<Vec<Match>, AllocError>
-    requires { A.supports automaton.now Anchored.No }
-    ensures { IfOk result (λ v. v.items ≡ matches_in (A.built automaton.now) text.now) }
-{
-    automaton
-        .try_find_iter_ahead(Input::new(text))
-        .unwrap()
-        .collect(alloc)
+    let input = Input::new(text);
+    if ahead {
+        automaton.try_find_iter_ahead(input).unwrap().collect(alloc)
+    } else {
+        automaton.try_find_iter(input).unwrap().collect(alloc)
+    }
 }
 
 /// How many matches the text has.
@@ -66,7 +54,7 @@ pub fn bytes_matched<A: Search>(automaton: &A, text: &[u8]) -> Result<usize, Mat
 pub fn pass_matches<A: Search>(automaton: &A, text: &[u8], steps: &mut Steps)
     requires supports { A.supports automaton.now Anchored.No }
     requires standard { (A.built automaton.now).dictionary.kind ≡ Standard }
-    ensures { steps.new.looked.value ≤ steps.old.looked.value + 2 * length text.now }
+    ensures { TwoLooks steps.old steps.new (length text.now) }
 {
     let mut matches = automaton.try_find_iter(Input::new(text)).unwrap();
     while let Some(_) = matches.next_counted(steps) {}
@@ -76,8 +64,9 @@ pub fn pass_matches<A: Search>(automaton: &A, text: &[u8], steps: &mut Steps)
 pub fn pass_matches_ahead<A: Search>(automaton: &A, text: &[u8], steps: &mut Steps)
     requires supports { A.supports automaton.now Anchored.No }
     requires standard { (A.built automaton.now).dictionary.kind ≡ Standard }
-    ensures { steps.new.looked.value ≤ steps.old.looked.value + 2 * length text.now }
+    ensures { TwoLooks steps.old steps.new (length text.now) }
 {
-    let mut matches = automaton.try_find_iter_ahead(Input::new(text)).unwrap();
+    let input = Input::new(text);
+    let mut matches = automaton.try_find_iter_ahead(input).unwrap();
     while let Some(_) = matches.next_counted(steps) {}
 }

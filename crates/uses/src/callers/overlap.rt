@@ -1,10 +1,11 @@
 //! Overlapping searches.
-ghost use Rattle.std.specs.Prelude.{◌≡◌, ◌↔◌, ◌+◌, ◌*◌, ◌≤◌, false, length, slice_get, IfOk, IsTrue};
+ghost use Rattle.std.specs.Prelude.{◌≡◌, ◌↔◌, false, length, slice_get, IfOk, IsTrue};
 ghost use Rattle.ac_input.specs.declared.search.MatchKind.TheVariants.{Standard};
 ghost use Rattle.ac_input.specs.Dictionary.{whole};
 ghost use Rattle.ac_input.specs.Input.{whole_of};
 ghost use Rattle.ac_input.specs.Listing.{IsListing};
 ghost use Rattle.ac_automaton.specs.Automaton.{listing_in};
+ghost use Rattle.uses.specs.Callers.{TwoLooks};
 
 use ac_automaton::automaton::Automaton;
 use ac_automaton::overlapping::OverlappingState;
@@ -56,7 +57,7 @@ pub fn occurrence<A: Search>(automaton: &A, text: &[u8], index: usize) -> Option
 pub fn pass_occurrences<A: Search>(automaton: &A, text: &[u8], steps: &mut Steps)
     requires supports { A.supports automaton.now Anchored.No }
     requires standard { (A.built automaton.now).dictionary.kind ≡ Standard }
-    ensures { steps.new.looked.value ≤ steps.old.looked.value + 2 * length text.now }
+    ensures { TwoLooks steps.old steps.new (length text.now) }
 {
     let mut occurrences = automaton
         .try_find_overlapping_iter(Input::new(text))

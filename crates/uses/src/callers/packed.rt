@@ -1,13 +1,12 @@
 //! Packed search and prefilters.
 ghost use Rattle.std.specs.Prelude.{◌≡◌, ◌↔◌, ◌+◌, ◌<◌, ◌≤◌, true, false, [], ◌∷◌, length, IfOk, IfSome, IsTrue, Some};
 ghost use Rattle.ac_input.specs.declared.search.MatchKind.TheVariants.{LeftmostFirst, LeftmostLongest};
-ghost use Rattle.ac_input.specs.Computed.{best_of};
 ghost use Rattle.ac_input.specs.Dictionary.{whole};
 ghost use Rattle.ac_input.specs.Pairing.{IsFolded};
 ghost use Rattle.ac_input.specs.Same.{IsUnpaired};
 ghost use Rattle.ac_input.specs.Work.{shortest};
-ghost use Rattle.ac_literal.specs.Packed.{AreServed, added, added_all, bytes_of, in_whole, leftmost_first, matches_of, search_kind};
-ghost use Rattle.uses.specs.Callers.{IsSkip, LiesIn};
+ghost use Rattle.ac_literal.specs.Packed.{AreServed, added, added_all, bytes_of, leftmost_first, matches_of, search_kind};
+ghost use Rattle.uses.specs.Callers.{IsBestOf, IsSkip, LiesIn};
 
 use ac_automaton::automaton::Automaton;
 use ac_automaton::search::Search;
@@ -18,15 +17,13 @@ use ac_literal::packed::{self, Builder, Config, Searcher};
 use ac_literal::prefilter::{Candidate, Prefilter, PrefilterBuilder};
 use std::alloc::{AllocError, Global};
 
+/// A match, if there is one, or that memory ran out.
+pub type Found = Result<Option<Match>, AllocError>;
+
 /// The leftmost-first match of the text, of patterns that packed search serves.
-pub fn first_match(
-    alloc: Global,
-    patterns: &[&[u8]],
-    text: &[u8],
-) -> Result<Option<Match>, AllocError>
+pub fn first_match(alloc: Global, patterns: &[&[u8]], text: &[u8]) -> Found
     requires { AreServed (bytes_of patterns.now) }
-    ensures { IfOk result (λ found. found
-        ≡ best_of LeftmostFirst (in_whole (bytes_of patterns.now) text.now)) }
+    ensures { IfOk result (IsBestOf LeftmostFirst (bytes_of patterns.now) text.now) }
 {
     let searcher = Searcher::new(alloc, patterns)?.unwrap();
     Ok(searcher.find(text))
@@ -40,14 +37,9 @@ pub fn can_serve(alloc: Global, patterns: &[&[u8]]) -> Result<bool, AllocError>
 }
 
 /// The leftmost-longest match.
-pub fn longest_match(
-    alloc: Global,
-    patterns: &[&[u8]],
-    text: &[u8],
-) -> Result<Option<Match>, AllocError>
+pub fn longest_match(alloc: Global, patterns: &[&[u8]], text: &[u8]) -> Found
     requires { AreServed (bytes_of patterns.now) }
-    ensures { IfOk result (λ found. found
-        ≡ best_of LeftmostLongest (in_whole (bytes_of patterns.now) text.now)) }
+    ensures { IfOk result (IsBestOf LeftmostLongest (bytes_of patterns.now) text.now) }
 {
     let mut config = Config::new();
     let mut builder = config

@@ -1,6 +1,7 @@
 //! The front: streams whose pieces are pushed. However a text is cut into pieces, its matches come out.
-ghost use Rattle.std.specs.Prelude.{◌≡◌, false, map, IfOk};
+ghost use Rattle.std.specs.Prelude.{◌≡◌, false, IfOk};
 ghost use Rattle.std.specs.List.{concat};
+ghost use Rattle.ac_literal.specs.Packed.{bytes_of};
 ghost use Rattle.ac_automaton.specs.Replace.{matches_in};
 ghost use Rattle.ac_automaton.specs.Stream.{CanBeCounted, read_by};
 ghost use Rattle.aho_corasick.specs.AhoCorasick.{as_built};
@@ -50,7 +51,7 @@ pub fn matches_of_pieces(
     pieces: &[&[u8]],
 ) -> Result<Vec<Match>, StreamError>
     ensures { IfOk result (λ v. v.items
-        ≡ matches_in (as_built ac.now) (concat (map (λ p. p.now) pieces.now))) }
+        ≡ matches_in (as_built ac.now) (concat (bytes_of pieces.now))) }
 {
     let mut search = ac.try_stream_search(alloc)?;
     let mut found = Vec::new(alloc);

@@ -3,7 +3,7 @@ ghost use Rattle.std.specs.Prelude.{◌≡◌, ◌++◌, length, map, IfOk, OnOk
 ghost use Rattle.std.specs.String.{string_bytes};
 ghost use Rattle.ac_input.specs.Same.{IsUnpaired};
 ghost use Rattle.aho_corasick.specs.Callers.{KeepsUnmatched};
-ghost use Rattle.uses.specs.Callers.{AppendsOne};
+ghost use Rattle.uses.specs.Callers.{AddsOne};
 
 use ac_automaton::error::ReplaceError;
 use ac_automaton::search::Search;
@@ -46,7 +46,7 @@ pub fn append_first_replaced<A: Search>(
     dst: &mut String,
 ) -> Result<(), ReplaceError>
     ensures { OnOk result
-        (AppendsOne (A.built automaton.now) text.now replacement.now dst.old dst.new) }
+        (AddsOne (A.built automaton.now) text.now replacement.now dst.old dst.new) }
 {
     automaton.try_replace_all_with(alloc, text, dst, |_, _, dst| {
         dst.push_str(replacement)?;

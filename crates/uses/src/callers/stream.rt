@@ -1,11 +1,11 @@
 //! Streams. Readers and writers here are slices and `Vec`s, whose bytes a contract can name.
-ghost use Rattle.std.specs.Prelude.{◌≡◌, ◌↔◌, ◌+◌, ◌*◌, ◌<◌, ◌≤◌, ◌++◌, false, length, map, take, IfOk, IfSome, IsTrue, OnOk};
+ghost use Rattle.std.specs.Prelude.{◌≡◌, ◌↔◌, ◌<◌, ◌++◌, false, length, map, take, IfOk, IfSome, IsTrue, OnOk};
 ghost use Rattle.std.specs.List.{concat};
 ghost use Rattle.ac_input.specs.declared.search.MatchKind.TheVariants.{Standard};
 ghost use Rattle.ac_automaton.specs.Replace.{matches_in};
 ghost use Rattle.ac_automaton.specs.Stream.{AreAllGiven, CanBeCounted, read_by};
 ghost use Rattle.ac_automaton.specs.Stream.StreamIter.{progress_of, reader_name, reader_of};
-ghost use Rattle.uses.specs.Callers.{WritesReplaced};
+ghost use Rattle.uses.specs.Callers.{HasToRead, Rewrites, TwoLooks};
 
 use ac_automaton::error::StreamError;
 use ac_automaton::output::Output;
@@ -18,6 +18,23 @@ use std::alloc::{AllocError, Global};
 use std::io;
 use std::io::{Read, Write};
 
+/// All matches of a search that has read nothing yet of this text, one after another.
+pub fn all_of<A: Search>(
+    mut matches: StreamFindIter<'_, A, &[u8]>,
+    alloc: Global,
+    text: &[u8],
+) -> Result<Vec<Match>, StreamError>
+    requires { HasToRead matches text.now }
+    ensures { IfOk result (λ v. v.items ≡ matches_in (progress_of matches.entry).built text.now) }
+{
+    let mut found = Vec::new(alloc);
+    let mut steps = Steps::new();
+    while let Some(next) = matches.next_counted(&mut steps) {
+        found.push(next?).map_err(AllocError::from)?;
+    }
+    Ok(found)
+}
+
 /// All matches of what a reader gives, one after another.
 pub fn all_matches<A: Search>(
     automaton: &A,
@@ -27,13 +44,11 @@ pub fn all_matches<A: Search>(
     ensures { IfOk result (λ v. v.items ≡ matches_in (A.built automaton.now) text.now) }
 {
     let mut reader = Watched::new(text);
-    let mut found = Vec::new(alloc);
-    let mut matches = automaton.try_stream_find_iter(alloc, &mut reader)?;
-    let mut steps = Steps::new();
-    while let Some(next) = matches.next_counted(&mut steps) {
-        found.push(next?).map_err(AllocError::from)?;
-    }
-    Ok(found)
+    all_of(
+        automaton.try_stream_find_iter(alloc, &mut reader)?,
+        alloc,
+        text,
+    )
 }
 
 /// The next match of a stream. Where there is one, the reader has not ended: under standard no match waits for the end.
@@ -87,7 +102,7 @@ pub fn replaced<A: Search>(
 ) -> Result<(), StreamError>
     requires { length replacements.now ≡ length (A.built automaton.now).dictionary.patterns }
     ensures { OnOk result
-        (WritesReplaced (A.built automaton.now) replacements.now text.now writer.old writer.new) }
+        (Rewrites (A.built automaton.now) replacements.now text.now writer.old writer.new) }
 {
     let mut reader = Watched::new(text);
     automaton.try_stream_replace_all(alloc, &mut reader, writer, replacements)
@@ -103,7 +118,7 @@ pub fn replaced_counted<A: Search>(
     steps: &mut Steps,
 ) -> Result<(), StreamError>
     requires { length replacements.now ≡ length (A.built automaton.now).dictionary.patterns }
-    ensures { steps.new.looked.value ≤ steps.old.looked.value + 2 * length text.now }
+    ensures { TwoLooks steps.old steps.new (length text.now) }
 {
     let mut reader = Watched::new(text);
     automaton.try_stream_replace_all_counted(alloc, &mut reader, writer, replacements, steps)

@@ -49,7 +49,7 @@ pub fn contiguous_plain(
     pairing: Pairing,
 ) -> Result<contiguous::NFA, BuildError>
     ensures { IfOk result
-        (λ nfa. IsPlain (bytes_of patterns.now) pairing kind (contiguous_built_as nfa)) }
+        (λ n. IsPlain (bytes_of patterns.now) pairing kind (contiguous_built_as n)) }
 {
     let mut builder = contiguous::Builder::new();
     builder.match_kind(kind).pairing(pairing).prefilter(false);
@@ -121,7 +121,7 @@ pub fn dfa_plain(
     starts: StartKind,
 ) -> Result<DFA, BuildError>
     ensures plain { IfOk result
-        (λ dfa. IsPlain (bytes_of patterns.now) pairing kind (dfa_built_as dfa)) }
+        (λ d. IsPlain (bytes_of patterns.now) pairing kind (dfa_built_as d)) }
     ensures starts { IfOk result (λ dfa. dfa.table.kind ≡ starts) }
 {
     let mut builder = dfa::Builder::new();

@@ -49,19 +49,17 @@ pub fn masked<R: Read + Drop, W: Write + Drop>(
     ac.try_stream_replace_all(alloc, &mut reader, &mut writer, &masks)
 }
 
-/// The same under any kind: with `pass` and `password` under leftmost-longest, all of `password` is masked. It holds back what isn't
-/// decided.
-pub fn longest_masked<R: Read + Drop, W: Write + Drop>(
+/// The same under any kind, of a slice, which is a reader too: with `pass` and `password` under leftmost-longest, all of `password` is
+/// masked. It holds back what isn't decided.
+pub fn longest_masked<W: Write>(
     ac: &AhoCorasick,
     alloc: Global,
-    reader: R,
-    writer: W,
+    text: &[u8],
+    writer: &mut Watched<W>,
 ) -> Result<(), StreamError> {
     let mask: &[u8] = b"***";
     let masks = vec![in alloc; mask; ac.patterns_len()]?;
-    let mut reader = Watched::new(reader);
-    let mut writer = Watched::new(writer);
-    ac.try_stream_replace_all_any_kind(alloc, &mut reader, &mut writer, &masks)
+    ac.try_stream_replace_all_any_kind(alloc, &mut Watched::new(text), writer, &masks)
 }
 
 /// As `masked`, each match in brackets. A write that fails ends it.

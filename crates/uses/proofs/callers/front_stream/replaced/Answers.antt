@@ -5,7 +5,14 @@ use Rattle.aho_corasick.specs.AhoCorasick.{as_built}
 use Rattle.aho_corasick.proofs.lemmas.StreamLemmas.{stream-replaces}
 use Rattle.uses.proofs.callers.front_stream.replaced.Goals as goal
 
-pub returns : goal.returns
-returns c =
+pub returns-in-OnlyStandard : goal.returns-in-OnlyStandard
+returns-in-OnlyStandard c =
     let reads = ap (λ (r : Bor (List ℕ)). Some r.now) c.new-reader.ensures.device in
-    stream-replaces _ (λ v. v.items) (as_built c.args.ac.now) (map (λ r. r.now) c.args.replacements.now) c.args.text.now c.new-reader.result c.try_stream_replace_all.new.reader c.args.writer.now c.try_stream_replace_all.new.writer c.try_stream_replace_all.result reads c.try_stream_replace_all.ensures.moved
+    let called = c.try_stream_replace_all in
+    stream-replaces _ (λ v. v.items) (as_built c.args.ac.now) (map (λ r. r.now) c.args.replacements.now) c.args.text.now c.new-reader.result called.new.reader c.args.writer.now called.new.writer called.result reads called.ensures.moved
+
+pub returns-in-AnyKind : goal.returns-in-AnyKind
+returns-in-AnyKind c =
+    let reads = ap (λ (r : Bor (List ℕ)). Some r.now) c.new-reader.ensures.device in
+    let called = c.try_stream_replace_all_any_kind in
+    stream-replaces _ (λ v. v.items) (as_built c.args.ac.now) (map (λ r. r.now) c.args.replacements.now) c.args.text.now c.new-reader.result called.new.reader c.args.writer.now called.new.writer called.result reads called.ensures.moved

@@ -1,6 +1,6 @@
 -- The automaton is the one in the handle.
 use Rattle.std.proofs.Common.{refl, inl, inr}
-use Rattle.ac_c.proofs.build.build.Goals as goal
+use Rattle.ac_c.proofs.dado_raw_build.Goals as goal
 
 pub returns-in-Ok : goal.returns-in-Ok
 returns-in-Ok c = inl (c.in-Ok.ac.value, c.in-Ok.ensures.built, c.of.ensures, refl, c.nothing.ensures)

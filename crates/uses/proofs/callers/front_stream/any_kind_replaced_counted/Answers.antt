@@ -3,7 +3,7 @@ use Rattle.std.proofs.Common.{List, ℕ, Some, map, ap}
 use Rattle.std.specs.Borrow.{Bor}
 use Rattle.aho_corasick.specs.AhoCorasick.{as_built}
 use Rattle.aho_corasick.proofs.lemmas.StreamLemmas.{stream-costs}
-use Rattle.uses.proofs.callers.any_kind.replaced_counted.Goals as goal
+use Rattle.uses.proofs.callers.front_stream.any_kind_replaced_counted.Goals as goal
 
 pub returns : goal.returns
 returns c =

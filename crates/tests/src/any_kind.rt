@@ -4,18 +4,20 @@
 //! of the input. All these texts are cut at many places, and end in a failed read at each of them.
 ghost use Rattle.std.specs.Prelude.{◌≡◌, false};
 
-use crate::answers::Asks::Walk;
+use crate::answers::Asks::{self, List};
 use crate::answers::Text::Whole;
 use crate::answers::{by_plain, input};
 use crate::devices::{AMPLE, Given, Outcome, Room, Sink, Source, Tally};
 use crate::engines::Letters::{Cased, Folded};
-use crate::engines::{Asked, Case, FEW, FIRST, Letters, Pick, all, each, pick, serves};
-use crate::streams::next_pick;
+use crate::engines::{Asked, Case, FEW, FIRST, Letters, Pick, Trial, all, each, pick};
+use crate::listed::Listed;
+use crate::rows::words::{APPEND, SENTENCE};
+use crate::streams::{Sought, is_over, next_pick, search_outcome};
 use ac_automaton::error::{MatchErrorKind, StreamError};
 use ac_automaton::stream::{StreamReplacer, StreamSearch};
 use ac_automaton::watched::{Watched, write_whole};
 use ac_input::search::MatchKind::{LeftmostFirst, LeftmostLongest, Standard};
-use ac_input::search::{Anchored, Match, MatchKind, StartKind};
+use ac_input::search::{Match, MatchKind};
 use ac_input::steps::Steps;
 use ac_noncontiguous::Search;
 use std::alloc::Global;
@@ -42,22 +44,18 @@ impl Row<'_> {
     /// the text ends, they are those that the text decides, and then comes the error.
     fn gives<T: Abort, A: Search>(
         &self,
-        rt: &T,
-        alloc: Global,
-        automaton: &A,
-        text: &[u8],
-        fails: bool,
+        on: &Trial<'_, T, A>,
+        given: Given<'_>,
         most: usize,
     ) -> Result<(), Fail> {
-        let shows = self.shows;
-        let given = if fails {
-            Given::Fails(text, b"x")
-        } else {
-            Given::Pauses(text, b"x")
-        };
+        let (rt, shows) = (on.rt, self.shows);
+        let text = given.bytes();
+        let fails = matches!(given, Given::Fails(..));
         let tally = Tally::new();
         let mut reader = Watched::new(Source::new(given, most, &[], &tally));
-        let mut matches = automaton.try_stream_find_iter_any_kind(alloc, &mut reader)?;
+        let mut matches = on
+            .automaton
+            .try_stream_find_iter_any_kind(on.alloc, &mut reader)?;
         let all = text.len().div_ceil(most.max(1)).saturating_add(1);
         for (want, decided) in self.finds {
             if *decided > text.len() && fails {
@@ -71,37 +69,26 @@ impl Row<'_> {
             let reads = decided.div_ceil(most.max(1)).min(all);
             assert_eq!(rt; tally.reads.get(), reads, "{shows}");
         }
-        if fails {
-            let failed = Err(Outcome::Read(ErrorKind::Interrupted));
-            assert_eq!(rt; next_pick(&mut matches, false), failed, "{shows}");
-        }
-        assert_eq!(rt; next_pick(&mut matches, true), Ok(None), "{shows}");
-        assert_eq!(rt; next_pick(&mut matches, false), Ok(None), "{shows}");
+        is_over(rt, &mut matches, fails, false, shows);
         assert_eq!(rt; tally.reads.get(), all, "{shows}");
         Ok(())
     }
 
     /// Asserts them for a reader that fails after each front of the text.
-    fn stops<T: Abort, A: Search>(&self, rt: &T, alloc: Global, automaton: &A) -> Result<(), Fail> {
+    fn stops<T: Abort, A: Search>(&self, on: &Trial<'_, T, A>) -> Result<(), Fail> {
         for len in 0..=self.text.len() {
             let front = self.text.get(..len).ok_or("a front of the text")?;
-            self.gives(rt, alloc, automaton, front, true, 1)?;
-            self.gives(rt, alloc, automaton, front, true, 3)?;
+            self.gives(on, Given::Fails(front, b"x"), 1)?;
+            self.gives(on, Given::Fails(front, b"x"), 3)?;
         }
         Ok(())
     }
 
     /// Asserts the matches of a text that is pushed, each once the piece is pushed that decides it, and the others once it is
     /// finished.
-    fn pushes<T: Abort, A: Search>(
-        &self,
-        rt: &T,
-        alloc: Global,
-        automaton: &A,
-        most: usize,
-    ) -> Result<(), Fail> {
-        let shows = self.shows;
-        let mut search = StreamSearch::any_kind(automaton, alloc)?;
+    fn pushes<T: Abort, A: Search>(&self, on: &Trial<'_, T, A>, most: usize) -> Result<(), Fail> {
+        let (rt, shows) = (on.rt, self.shows);
+        let mut search = StreamSearch::any_kind(on.automaton, on.alloc)?;
         let mut pushed = 0;
         for piece in self.text.chunks(most.max(1)) {
             let taken = push(&mut search, piece)?;
@@ -136,28 +123,18 @@ pub fn push<A: Search>(search: &mut StreamSearch<A>, piece: &[u8]) -> Result<usi
 
 impl Case for Row<'_> {
     fn asked(&self) -> Asked<'_> {
-        Asked {
-            patterns: self.patterns,
-            kind: self.kind,
-            letters: self.letters,
-        }
+        Asked::of(self.patterns, self.kind, self.letters)
     }
 
-    fn check<T: Abort, A: Search>(
-        &self,
-        rt: &T,
-        alloc: Global,
-        automaton: &A,
-        starts: StartKind,
-    ) -> Result<(), Fail> {
-        if !serves(starts, Anchored::No) {
+    fn check<T: Abort, A: Search>(&self, on: &Trial<'_, T, A>) -> Result<(), Fail> {
+        if !on.searches() {
             return Ok(());
         }
         for most in [1, 2, 3, 4, 5, 7, 100] {
-            self.gives(rt, alloc, automaton, self.text, false, most)?;
-            self.pushes(rt, alloc, automaton, most)?;
+            self.gives(on, Given::Pauses(self.text, b"x"), most)?;
+            self.pushes(on, most)?;
         }
-        self.stops(rt, alloc, automaton)
+        self.stops(on)
     }
 }
 
@@ -182,12 +159,12 @@ const BACK: Row<'static> = Row {
 };
 
 /// One pattern begins another, which begins a third.
-const APPEND: Row<'static> = Row {
+const WORDS: Row<'static> = Row {
     shows: "the longest of three patterns, one of which begins another",
-    patterns: &[b"append", b"appendage", b"app"],
+    patterns: APPEND,
     kind: LeftmostLongest,
     letters: Cased,
-    text: b"append the app to the appendage",
+    text: SENTENCE,
     finds: &[((0, 0, 6), 7), ((2, 11, 14), 15), ((1, 22, 31), END)],
 };
 
@@ -236,18 +213,18 @@ const ROWS: &[Row<'static>] = &[
         kind: LeftmostFirst,
         ..BACK
     },
-    APPEND,
+    WORDS,
     Row {
         shows: "the first of three patterns, which begins another",
         kind: LeftmostFirst,
         finds: &[((0, 0, 6), 7), ((2, 11, 14), 15), ((0, 22, 28), 29)],
-        ..APPEND
+        ..WORDS
     },
     Row {
         shows: "under standard, what ends first",
         kind: Standard,
         finds: &[((2, 0, 3), 3), ((2, 11, 14), 14), ((2, 22, 25), 25)],
-        ..APPEND
+        ..WORDS
     },
     Row {
         shows: "a word that begins another, in both cases",
@@ -291,33 +268,25 @@ fn many<T: Abort>(rt: &T, alloc: Global) -> Result<(), Fail> {
     each(rt, alloc, &row, FEW)
 }
 
+const A_AND_TWENTY: &[&[u8]] = &[b"a", b"aaaaaaaaaaaaaaaaaaaab"];
+
 /// The matches of a thousand letters.
 #[derive(Clone, Copy)]
 struct Thousand<'a>(&'a [(Pick, usize)]);
 
 impl Case for Thousand<'_> {
     fn asked(&self) -> Asked<'_> {
-        Asked {
-            patterns: &[b"a", b"aaaaaaaaaaaaaaaaaaaab"],
-            kind: LeftmostLongest,
-            letters: Cased,
-        }
+        Asked::of(A_AND_TWENTY, LeftmostLongest, Cased)
     }
 
-    fn check<T: Abort, A: Search>(
-        &self,
-        rt: &T,
-        alloc: Global,
-        automaton: &A,
-        _starts: StartKind,
-    ) -> Result<(), Fail> {
+    fn check<T: Abort, A: Search>(&self, on: &Trial<'_, T, A>) -> Result<(), Fail> {
         let row = Row {
             shows: "a match for each letter, though twenty of them begin a longer pattern",
             finds: self.0,
             ..INSIDE
         };
         for most in [1, 7, 1000] {
-            row.gives(rt, alloc, automaton, &[b'a'; 1000], false, most)?;
+            row.gives(on, Given::Pauses(&[b'a'; 1000], b"x"), most)?;
         }
         Ok(())
     }
@@ -325,16 +294,17 @@ impl Case for Thousand<'_> {
 
 /// Asserts the matches of a text, by this many bytes a read.
 fn are_found<T: Abort, A: Search>(
-    rt: &T,
-    alloc: Global,
-    automaton: &A,
+    on: &Trial<'_, T, A>,
     text: &[u8],
     most: usize,
     finds: &[Pick],
 ) -> Result<(), Fail> {
+    let rt = on.rt;
     let tally = Tally::new();
     let mut reader = Watched::new(Source::new(Given::Whole(text), most, &[], &tally));
-    let mut matches = automaton.try_stream_find_iter_any_kind(alloc, &mut reader)?;
+    let mut matches = on
+        .automaton
+        .try_stream_find_iter_any_kind(on.alloc, &mut reader)?;
     for want in finds {
         assert_eq!(rt; next_pick(&mut matches, false), Ok(Some(*want)));
     }
@@ -342,34 +312,26 @@ fn are_found<T: Abort, A: Search>(
     Ok(())
 }
 
+const LYNXES: &[&[u8]] = &[b"lynx", b"lynxes"];
+
 /// A match across the end of the buffer, another where it is full again, and one that ends with the input.
 struct Long;
 
 impl Case for Long {
     fn asked(&self) -> Asked<'_> {
-        Asked {
-            patterns: &[b"lynx", b"lynxes"],
-            kind: LeftmostLongest,
-            letters: Cased,
-        }
+        Asked::of(LYNXES, LeftmostLongest, Cased)
     }
 
-    fn check<T: Abort, A: Search>(
-        &self,
-        rt: &T,
-        alloc: Global,
-        automaton: &A,
-        _starts: StartKind,
-    ) -> Result<(), Fail> {
+    fn check<T: Abort, A: Search>(&self, on: &Trial<'_, T, A>) -> Result<(), Fail> {
         let lines: &[u8] = &[b'-'; 65_534];
-        let text = [lines, b"lynx", lines, b"lynxes", lines, b"lynx"].concat(alloc)?;
+        let text = [lines, b"lynx", lines, b"lynxes", lines, b"lynx"].concat(on.alloc)?;
         let finds = [
             (0, 65_534, 65_538),
             (1, 131_072, 131_078),
             (0, 196_612, 196_616),
         ];
         for most in [5, 4099, 65_536] {
-            are_found(rt, alloc, automaton, &text, most, &finds)?;
+            are_found(on, &text, most, &finds)?;
         }
         Ok(())
     }
@@ -423,14 +385,14 @@ enum Way {
 const WAYS: [Way; 3] = [Way::List, Way::Counted, Way::Closure];
 
 /// Replaces what a reader gives by this call, for a writer that has this room: the result, and what was written.
-fn replaces<A: Search>(
-    alloc: Global,
-    automaton: &A,
+fn replaces<T, A: Search>(
+    on: &Trial<'_, T, A>,
     list: &[&[u8]],
     reader: Source<'_>,
     writer: Sink<'_>,
     way: Way,
 ) -> Result<(Outcome, Vec<u8>), Fail> {
+    let (alloc, automaton) = (on.alloc, on.automaton);
     if automaton.patterns_len() != list.len() {
         return Err("a replacement for each pattern".into());
     }
@@ -455,26 +417,14 @@ fn replaces<A: Search>(
 
 impl Written {
     /// Asserts what is written, so much of it before each read as is due, by one byte a read; and by more bytes a read.
-    fn is_written<T: Abort, A: Search>(
-        &self,
-        rt: &T,
-        alloc: Global,
-        automaton: &A,
-        way: Way,
-    ) -> Result<(), Fail> {
+    fn is_written<T: Abort, A: Search>(&self, on: &Trial<'_, T, A>, way: Way) -> Result<(), Fail> {
+        let (rt, list) = (on.rt, self.replacements);
         for most in [1, 2, 3, 7, 100] {
             let due = if most == 1 { self.due } else { &[] };
             let tally = Tally::new();
             let reader = Source::new(Given::Whole(self.text), most, due, &tally);
-            let writer = Sink::new(alloc, AMPLE, &tally)?;
-            let (outcome, taken) = replaces(
-                alloc,
-                automaton,
-                self.replacements,
-                reader,
-                writer,
-                way,
-            )?;
+            let writer = Sink::new(on.alloc, AMPLE, &tally)?;
+            let (outcome, taken) = replaces(on, list, reader, writer, way)?;
             assert_eq!(rt; outcome, Outcome::Done, "{way:?}");
             assert_eq!(rt; taken.as_slice(), self.written, "{way:?}");
         }
@@ -483,15 +433,14 @@ impl Written {
 
     /// Asserts the text that is handed out of pieces of so many bytes: what is due after each byte, at most that after longer ones, and
     /// all of it once it is finished.
-    fn is_handed_out<T: Abort, A: Search>(
+    fn hands_out<T: Abort, A: Search>(
         &self,
-        rt: &T,
-        alloc: Global,
-        automaton: &A,
+        on: &Trial<'_, T, A>,
         most: usize,
     ) -> Result<(), Fail> {
-        let mut replacer = StreamReplacer::any_kind(automaton, alloc)?;
-        let mut made = Vec::new(alloc);
+        let rt = on.rt;
+        let mut replacer = StreamReplacer::any_kind(on.automaton, on.alloc)?;
+        let mut made = Vec::new(on.alloc);
         let mut pushed = 0;
         for piece in self.text.chunks(most.max(1)) {
             if replacer.is_finished() {
@@ -519,26 +468,14 @@ impl Written {
     }
 
     /// Asserts that a read which fails after a front of the text leaves written what was due by then.
-    fn stops<T: Abort, A: Search>(
-        &self,
-        rt: &T,
-        alloc: Global,
-        automaton: &A,
-        way: Way,
-    ) -> Result<(), Fail> {
+    fn stops<T: Abort, A: Search>(&self, on: &Trial<'_, T, A>, way: Way) -> Result<(), Fail> {
+        let (rt, list) = (on.rt, self.replacements);
         for (len, due) in self.due.iter().enumerate() {
             let front = self.text.get(..len).ok_or("a front of the text")?;
             let tally = Tally::new();
             let reader = Source::new(Given::Fails(front, b"x"), 1, &[], &tally);
-            let writer = Sink::new(alloc, AMPLE, &tally)?;
-            let (outcome, taken) = replaces(
-                alloc,
-                automaton,
-                self.replacements,
-                reader,
-                writer,
-                way,
-            )?;
+            let writer = Sink::new(on.alloc, AMPLE, &tally)?;
+            let (outcome, taken) = replaces(on, list, reader, writer, way)?;
             assert_eq!(rt; outcome, Outcome::Read(ErrorKind::Interrupted), "{way:?}");
             assert_eq!(rt; Some(taken.as_slice()), self.written.get(..*due), "{way:?}");
         }
@@ -546,13 +483,8 @@ impl Written {
     }
 
     /// Asserts that a writer without room for all takes a front of the text.
-    fn is_cut<T: Abort, A: Search>(
-        &self,
-        rt: &T,
-        alloc: Global,
-        automaton: &A,
-        way: Way,
-    ) -> Result<(), Fail> {
+    fn is_cut<T: Abort, A: Search>(&self, on: &Trial<'_, T, A>, way: Way) -> Result<(), Fail> {
+        let (rt, list) = (on.rt, self.replacements);
         for bytes in 0..self.written.len() {
             let tally = Tally::new();
             let reader = Source::new(Given::Whole(self.text), 3, &[], &tally);
@@ -561,15 +493,8 @@ impl Written {
                 fails: true,
                 ..AMPLE
             };
-            let writer = Sink::new(alloc, room, &tally)?;
-            let (outcome, taken) = replaces(
-                alloc,
-                automaton,
-                self.replacements,
-                reader,
-                writer,
-                way,
-            )?;
+            let writer = Sink::new(on.alloc, room, &tally)?;
+            let (outcome, taken) = replaces(on, list, reader, writer, way)?;
             assert_eq!(rt; outcome, Outcome::Write(ErrorKind::Interrupted), "{way:?}");
             assert_eq!(rt;
                 Some(taken.as_slice()),
@@ -615,30 +540,20 @@ fn take_out<A: Search>(
 
 impl Case for Written {
     fn asked(&self) -> Asked<'_> {
-        Asked {
-            patterns: self.patterns,
-            kind: self.kind,
-            letters: Cased,
-        }
+        Asked::of(self.patterns, self.kind, Cased)
     }
 
-    fn check<T: Abort, A: Search>(
-        &self,
-        rt: &T,
-        alloc: Global,
-        automaton: &A,
-        starts: StartKind,
-    ) -> Result<(), Fail> {
-        if !serves(starts, Anchored::No) {
+    fn check<T: Abort, A: Search>(&self, on: &Trial<'_, T, A>) -> Result<(), Fail> {
+        if !on.searches() {
             return Ok(());
         }
         for way in WAYS {
-            self.is_written(rt, alloc, automaton, way)?;
-            self.stops(rt, alloc, automaton, way)?;
-            self.is_cut(rt, alloc, automaton, way)?;
+            self.is_written(on, way)?;
+            self.stops(on, way)?;
+            self.is_cut(on, way)?;
         }
         for most in [1, 2, 3, 7, 100] {
-            self.is_handed_out(rt, alloc, automaton, most)?;
+            self.hands_out(on, most)?;
         }
         Ok(())
     }
@@ -676,48 +591,24 @@ const WRITTEN: &[Written] = &[
 /// An automaton that can't search a stream, and why. Where it has no start for a search that isn't anchored, that is the reason.
 struct Refused(MatchKind);
 
-/// Makes a search of a stream, and drops it.
-fn try_stream<'a, A: Search, R: Read>(
-    alloc: Global,
-    automaton: &'a A,
-    reader: &'a mut Watched<R>,
-) -> Result<(), StreamError>
-    requires { reader.old.ended ≡ false }
-{
-    automaton.try_stream_find_iter_any_kind(alloc, reader)?;
-    Ok(())
-}
+const WITH_NONE: &[&[u8]] = &[b"ab", b""];
 
 impl Case for Refused {
     fn asked(&self) -> Asked<'_> {
-        Asked {
-            patterns: &[b"ab", b""],
-            kind: self.0,
-            letters: Cased,
-        }
+        Asked::of(WITH_NONE, self.0, Cased)
     }
 
-    fn check<T: Abort, A: Search>(
-        &self,
-        rt: &T,
-        alloc: Global,
-        automaton: &A,
-        starts: StartKind,
-    ) -> Result<(), Fail> {
-        let why = if serves(starts, Anchored::No) {
-            MatchErrorKind::UnsupportedEmpty
-        } else {
-            MatchErrorKind::InvalidInputUnanchored
-        };
+    fn check<T: Abort, A: Search>(&self, on: &Trial<'_, T, A>) -> Result<(), Fail> {
+        let rt = on.rt;
+        let want = Outcome::Config(on.refusal(MatchErrorKind::UnsupportedEmpty));
         let tally = Tally::new();
-        let mut reader = Watched::new(Source::new(Given::Whole(b"ab"), 1, &[], &tally));
-        let searched = Outcome::of(&try_stream(alloc, automaton, &mut reader));
-        assert_eq!(rt; searched, Outcome::Config(why));
+        let searched = search_outcome(on.alloc, on.automaton, &tally, Sought::MatchesOfAnyKind);
+        assert_eq!(rt; searched, want);
         for way in WAYS {
             let reader = Source::new(Given::Whole(b"ab"), 1, &[], &tally);
-            let writer = Sink::new(alloc, AMPLE, &tally)?;
-            let (outcome, _) = replaces(alloc, automaton, &[b"-", b"+"], reader, writer, way)?;
-            assert_eq!(rt; outcome, Outcome::Config(why), "{way:?}");
+            let writer = Sink::new(on.alloc, AMPLE, &tally)?;
+            let (outcome, _) = replaces(on, &[b"-", b"+"], reader, writer, way)?;
+            assert_eq!(rt; outcome, want, "{way:?}");
         }
         assert_eq!(rt; (tally.reads.get(), tally.writes.get()), (0, 0));
         Ok(())
@@ -743,10 +634,11 @@ fn streams_of_any_kind(rt: HostRuntime) -> Result<(), Fail> {
 
 // ---- compared
 
-/// A text, and its matches by the plain program, cut at every place.
+/// A text, and its matches by the plain program, cut at every place; or its occurrences.
 #[derive(Clone, Copy)]
 struct Alike<'a> {
     asked: Asked<'a>,
+    asks: Asks,
     text: &'a [u8],
     gives: &'a [Pick],
 }
@@ -756,36 +648,41 @@ impl Case for Alike<'_> {
         self.asked
     }
 
-    fn check<T: Abort, A: Search>(
-        &self,
-        rt: &T,
-        alloc: Global,
-        automaton: &A,
-        starts: StartKind,
-    ) -> Result<(), Fail> {
-        if !serves(starts, Anchored::No) {
+    fn check<T: Abort, A: Search>(&self, on: &Trial<'_, T, A>) -> Result<(), Fail> {
+        if !on.searches() {
             return Ok(());
         }
-        for most in 1..=self.text.len() {
-            are_found(rt, alloc, automaton, self.text, most, self.gives)?;
+        let Alike {
+            asked,
+            text,
+            gives,
+            ..
+        } = *self;
+        if let List = self.asks {
+            return Listed { asked, text, gives }.check(on);
+        }
+        for most in 1..=text.len() {
+            are_found(on, text, most, gives)?;
         }
         Ok(())
     }
 }
 
-/// Compares the matches of a stream, cut at every place, with those of the plain program, where no pattern is empty.
-pub fn is_alike<T: Abort>(
+/// Compares what a stream gives with what the plain program does, where no pattern is empty.
+pub fn stream_is_alike<T: Abort>(
     rt: &T,
     alloc: Global,
     asked: Asked<'_>,
+    asks: Asks,
     text: &[u8],
 ) -> Result<(), Fail> {
     if asked.patterns.iter().any(|it| it.is_empty()) {
         return Ok(());
     }
-    let gives = by_plain(alloc, asked, Walk, &input(&Whole(text))?)?;
+    let gives = by_plain(alloc, asked, asks, &input(&Whole(text))?)?;
     let alike = Alike {
         asked,
+        asks,
         text,
         gives: &gives,
     };

@@ -24,23 +24,14 @@ pub enum Leads {
     All(usize, &'static [(u8, usize)]),
 }
 
-/// A state by its number: how many bytes lead to it, to which state it fails, which patterns match there, and where its bytes lead.
-pub struct State {
-    pub number: usize,
-    pub depth: usize,
-    pub fails_to: usize,
-    pub matches: &'static [usize],
-    pub leads: Leads,
-}
-
-/// How many states there are, and the numbers that stand between their parts.
-pub struct Bounds {
-    pub last_match: usize,
-    pub last_special: usize,
-    pub start: usize,
-    pub anchored_start: usize,
-    pub states: usize,
-}
+/// A state: its number, how many bytes lead to it, to which state it fails, which patterns match there, and where its bytes lead.
+pub struct State(
+    pub usize,
+    pub usize,
+    pub usize,
+    pub &'static [usize],
+    pub Leads,
+);
 
 /// Some patterns, and what the automaton keeps of them.
 pub struct Kept {
@@ -50,13 +41,26 @@ pub struct Kept {
     pub letters: Letters,
     /// Whether a prefilter is wanted, and whether there is one.
     pub prefilter: (Prefiltering, bool),
-    pub bounds: Bounds,
+    /// The last state that matches, the last special one, the two starts, and how many states there are.
+    pub bounds: [usize; 5],
     pub states: &'static [State],
-    /// The classes of some bytes.
-    pub classes: &'static [(u8, u8)],
+    /// Some bytes, and the class of each.
+    pub classes: (&'static [u8], &'static [u8]),
 }
 
-/// How many states there are, and the numbers that stand between their parts.
+/// Standard matches, byte for byte, and no prefilter.
+pub const PLAIN: Kept = Kept {
+    shows: "",
+    patterns: &[],
+    kind: MatchKind::Standard,
+    letters: Letters::Cased,
+    prefilter: (Prefiltering::Off, false),
+    bounds: [0; 5],
+    states: &[],
+    classes: (b"", b""),
+};
+
+/// The last state that matches, the last special one, the two starts, and how many states there are.
 fn bounds_of(nfa: &NFA) -> [usize; 5] {
     let special = nfa.special();
     [
@@ -65,17 +69,6 @@ fn bounds_of(nfa: &NFA) -> [usize; 5] {
         special.start_unanchored_id.as_usize(),
         special.start_anchored_id.as_usize(),
         nfa.state_len(),
-    ]
-}
-
-/// The same numbers.
-fn listed(bounds: &Bounds) -> [usize; 5] {
-    [
-        bounds.last_match,
-        bounds.last_special,
-        bounds.start,
-        bounds.anchored_start,
-        bounds.states,
     ]
 }
 
@@ -152,20 +145,22 @@ fn state_is<T: Abort>(
     state: &State,
     shows: &str,
 ) -> Result<(), Fail> {
-    let sid = StateID::new(state.number)?;
+    let State(number, depth, fails_to, matches, leads) = state;
+    let sid = StateID::new(*number)?;
     if sid.as_usize() >= nfa.state_len() {
         return Err("no such state".into());
     }
     let found = [nfa.depth(sid), nfa.fail(sid).as_usize()];
-    same(rt, &found, &[state.depth, state.fails_to], shows);
-    state_leads(rt, alloc, nfa, sid, state.leads, shows)?;
-    state_lists(rt, alloc, nfa, sid, state.matches, shows)?;
+    same(rt, &found, &[*depth, *fails_to], shows);
+    state_leads(rt, alloc, nfa, sid, *leads, shows)?;
+    state_lists(rt, alloc, nfa, sid, *matches, shows)?;
     Ok(())
 }
 
 /// Asserts the classes of some bytes.
-fn classes_so<T: Abort>(rt: &T, classes: &ByteClasses, want: &[(u8, u8)]) {
-    for (byte, class) in want {
+fn classes_so<T: Abort>(rt: &T, classes: &ByteClasses, bytes: &[u8], want: &[u8]) {
+    assert_eq!(rt; bytes.len(), want.len());
+    for (byte, class) in bytes.iter().zip(want) {
         assert_eq!(rt; classes.get(*byte), *class, "of {byte}");
     }
 }
@@ -173,9 +168,9 @@ fn classes_so<T: Abort>(rt: &T, classes: &ByteClasses, want: &[(u8, u8)]) {
 /// Asserts what is kept.
 fn is_kept<T: Abort>(rt: &T, alloc: Global, nfa: &NFA, kept: &Kept) -> Result<(), Fail> {
     let shows = kept.shows;
-    same(rt, &bounds_of(nfa), &listed(&kept.bounds), shows);
+    same(rt, &bounds_of(nfa), &kept.bounds, shows);
     same(rt, &[nfa.prefilter().is_some()], &[kept.prefilter.1], shows);
-    classes_so(rt, nfa.byte_classes(), kept.classes);
+    classes_so(rt, nfa.byte_classes(), kept.classes.0, kept.classes.1);
     for state in kept.states {
         state_is(rt, alloc, nfa, state, shows)?;
     }

@@ -3,9 +3,9 @@ ghost use Rattle.std.specs.Prelude.{IfSome};
 ghost use Rattle.ac_automaton.specs.Automaton.{IsState};
 
 use crate::answers::same;
-use crate::engines::{Asked, Case, Letters, all, serves};
+use crate::engines::{Asked, Case, Letters, Trial, all, serves};
 use ac_input::primitives::{PatternID, StateID};
-use ac_input::search::{Anchored, MatchKind, StartKind};
+use ac_input::search::{Anchored, MatchKind};
 use ac_noncontiguous::Search;
 use std::alloc::{AllocError, Global};
 use std::process::Abort;
@@ -73,26 +73,17 @@ fn says<T: Abort, A: Search>(rt: &T, automaton: &A, sid: StateID, row: &Row)
 
 impl Case for Row {
     fn asked(&self) -> Asked<'_> {
-        Asked {
-            patterns: self.patterns,
-            kind: self.kind,
-            letters: Letters::Cased,
-        }
+        Asked::of(self.patterns, self.kind, Letters::Cased)
     }
 
-    fn check<T: Abort, A: Search>(
-        &self,
-        rt: &T,
-        alloc: Global,
-        automaton: &A,
-        starts: StartKind,
-    ) -> Result<(), Fail> {
-        if !serves(starts, self.anchored) {
+    fn check<T: Abort, A: Search>(&self, on: &Trial<'_, T, A>) -> Result<(), Fail> {
+        if !serves(on.starts, self.anchored) {
             return Ok(());
         }
+        let (rt, automaton) = (on.rt, on.automaton);
         let sid = reached(automaton, self.anchored, self.text).ok_or("no start")?;
         says(rt, automaton, sid, self);
-        let matches = matches_at(alloc, automaton, sid)?;
+        let matches = matches_at(on.alloc, automaton, sid)?;
         same(rt, &matches, self.matches, self.shows);
         Ok(())
     }
@@ -220,8 +211,7 @@ struct Lengths {
     kind: MatchKind,
     letters: Letters,
     each: &'static [usize],
-    shortest: usize,
-    longest: usize,
+    shortest_and_longest: (usize, usize),
 }
 
 /// How many bytes the pattern of this number has.
@@ -243,29 +233,21 @@ fn each_length<A: Search>(alloc: Global, automaton: &A) -> Result<Vec<usize>, Al
 
 impl Case for Lengths {
     fn asked(&self) -> Asked<'_> {
-        Asked {
-            patterns: self.patterns,
-            kind: self.kind,
-            letters: self.letters,
-        }
+        Asked::of(self.patterns, self.kind, self.letters)
     }
 
-    fn check<T: Abort, A: Search>(
-        &self,
-        rt: &T,
-        alloc: Global,
-        automaton: &A,
-        _starts: StartKind,
-    ) -> Result<(), Fail> {
+    fn check<T: Abort, A: Search>(&self, on: &Trial<'_, T, A>) -> Result<(), Fail> {
+        let (rt, automaton) = (on.rt, on.automaton);
         let found = [
             automaton.patterns_len(),
             automaton.min_pattern_len(),
             automaton.max_pattern_len(),
         ];
-        let want = [self.each.len(), self.shortest, self.longest];
+        let (shortest, longest) = self.shortest_and_longest;
+        let want = [self.each.len(), shortest, longest];
         same(rt, &found, &want, self.shows);
         same(rt, &[automaton.match_kind()], &[self.kind], self.shows);
-        let lengths = each_length(alloc, automaton)?;
+        let lengths = each_length(on.alloc, automaton)?;
         same(rt, &lengths, self.each, self.shows);
         Ok(())
     }
@@ -278,8 +260,7 @@ const LENGTHS: &[Lengths] = &[
         kind: MatchKind::Standard,
         letters: Letters::Cased,
         each: &[3, 3, 4, 3],
-        shortest: 3,
-        longest: 4,
+        shortest_and_longest: (3, 4),
     },
     Lengths {
         shows: "an empty pattern is the shortest",
@@ -287,8 +268,7 @@ const LENGTHS: &[Lengths] = &[
         kind: MatchKind::LeftmostLongest,
         letters: Letters::Cased,
         each: &[3, 0, 4, 3],
-        shortest: 0,
-        longest: 4,
+        shortest_and_longest: (0, 4),
     },
     Lengths {
         shows: "no pattern is the shortest",
@@ -296,8 +276,7 @@ const LENGTHS: &[Lengths] = &[
         kind: MatchKind::Standard,
         letters: Letters::Cased,
         each: &[],
-        shortest: usize::MAX,
-        longest: 0,
+        shortest_and_longest: (usize::MAX, 0),
     },
     Lengths {
         shows: "a pattern that is kept out has its number and its length",
@@ -305,8 +284,7 @@ const LENGTHS: &[Lengths] = &[
         kind: MatchKind::LeftmostFirst,
         letters: Letters::Cased,
         each: &[3, 7],
-        shortest: 3,
-        longest: 7,
+        shortest_and_longest: (3, 7),
     },
     Lengths {
         shows: "so has one that only a pair keeps out",
@@ -314,8 +292,7 @@ const LENGTHS: &[Lengths] = &[
         kind: MatchKind::LeftmostFirst,
         letters: Letters::Paired(&[(0x30, 0x31)]),
         each: &[1, 2],
-        shortest: 1,
-        longest: 2,
+        shortest_and_longest: (1, 2),
     },
 ];
 

@@ -4,10 +4,10 @@
 use crate::answers::Asks::{self, List, Walk};
 use crate::answers::Text::{self, Bound, BoundEarliest, BoundPart, Earliest, Part, Whole};
 use crate::answers::{by_plain, input};
+use crate::any_kind::stream_is_alike;
 use crate::engines::{Asked, ENGINES, Letters, Pick, each, pick};
 use crate::prefilters::built;
 use crate::rows::{Row, packed_table_holds, table_of};
-use crate::{any_kind, listed};
 use ac_input::search::{Candidate, MatchKind, Span};
 use ac_literal::prefilter::Prefilter;
 use std::alloc::{AllocError, Global};
@@ -168,10 +168,10 @@ fn each_is_alike<'a, T: Abort>(
             let drawn = Drawn { asked, text };
             prefilter_is_lawful(rt, alloc, drawn)?;
             searches_are_alike(rt, alloc, drawn, Walk)?;
-            any_kind::is_alike(rt, alloc, asked, text)?;
+            stream_is_alike(rt, alloc, asked, Walk, text)?;
             if kind == MatchKind::Standard {
                 searches_are_alike(rt, alloc, drawn, List)?;
-                listed::is_alike(rt, alloc, asked, text)?;
+                stream_is_alike(rt, alloc, asked, List, text)?;
             }
         }
     }

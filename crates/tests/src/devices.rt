@@ -52,6 +52,27 @@ pub enum Given<'a> {
     Fails(&'a [u8], &'a [u8]),
 }
 
+impl<'a> Given<'a> {
+    /// These bytes, then an error or an empty read; and if it is read again, those.
+    pub fn ended(bytes: &'a [u8], after: &'a [u8], fails: bool) -> Given<'a> {
+        if fails {
+            Given::Fails(bytes, after)
+        } else {
+            Given::Pauses(bytes, after)
+        }
+    }
+
+    /// The bytes that come first.
+    pub fn bytes(self) -> &'a [u8] {
+        match self {
+            Given::Whole(bytes) => bytes,
+            Given::Repeated(bytes, _) => bytes,
+            Given::Pauses(bytes, _) => bytes,
+            Given::Fails(bytes, _) => bytes,
+        }
+    }
+}
+
 /// A reader that gives its bytes, once or more often, and then ends or fails.
 #[derive(Drop)]
 pub struct Source<'a> {

@@ -14,7 +14,7 @@ use ac_input::search::StartKind::{Both, Unanchored};
 use ac_input::search::{Anchored, Match, MatchKind, StartKind};
 use ac_noncontiguous::builder::Builder;
 use ac_noncontiguous::nfa::NFA;
-use ac_noncontiguous::{BuildError, BuildErrorKind, Search};
+use ac_noncontiguous::{BuildError, BuildErrorKind, MatchErrorKind, Search};
 use ac_tables::contiguous::builder::ROW_MEMORY;
 use ac_tables::{contiguous, dfa};
 use aho_corasick::AhoCorasickKind::{ContiguousNFA, DFA, NoncontiguousNFA};
@@ -40,6 +40,17 @@ pub struct Asked<'a> {
     pub patterns: &'a [&'a [u8]],
     pub kind: MatchKind,
     pub letters: Letters,
+}
+
+impl<'a> Asked<'a> {
+    /// These patterns, of this kind, by these letters.
+    pub fn of(patterns: &'a [&'a [u8]], kind: MatchKind, letters: Letters) -> Asked<'a> {
+        Asked {
+            patterns,
+            kind,
+            letters,
+        }
+    }
 }
 
 /// Whether an automaton may hold a prefilter.
@@ -132,14 +143,43 @@ pub trait Case {
         false
     }
 
-    /// Asserts what the row says of an automaton that has these starts.
-    fn check<T: Abort, A: Search>(
-        &self,
-        rt: &T,
-        alloc: Global,
-        automaton: &A,
-        starts: StartKind,
-    ) -> Result<(), Fail>;
+    /// Asserts what the row says of an automaton.
+    fn check<T: Abort, A: Search>(&self, on: &Trial<'_, T, A>) -> Result<(), Fail>;
+}
+
+/// What a row is checked on: an automaton that was built of what it asks, and the starts that this has.
+#[derive(Drop)]
+pub struct Trial<'a, T, A> {
+    pub rt: &'a T,
+    pub alloc: Global,
+    pub automaton: &'a A,
+    pub starts: StartKind,
+}
+
+impl<'a, T, A> Trial<'a, T, A> {
+    /// This automaton, which has these starts.
+    pub fn new(rt: &'a T, alloc: Global, automaton: &'a A, starts: StartKind) -> Trial<'a, T, A> {
+        Trial {
+            rt,
+            alloc,
+            automaton,
+            starts,
+        }
+    }
+
+    /// Whether there is a start for searches that aren't anchored.
+    pub fn searches(&self) -> bool {
+        serves(self.starts, Anchored::No)
+    }
+
+    /// Why a search that isn't anchored is refused: for want of a start, which counts before any other reason, or for this one.
+    pub fn refusal(&self, why: MatchErrorKind) -> MatchErrorKind {
+        if self.searches() {
+            why
+        } else {
+            MatchErrorKind::InvalidInputUnanchored
+        }
+    }
 }
 
 /// Whether there is a start for this anchoring among these.
@@ -210,7 +250,7 @@ fn by_noncontiguous<T: Abort, C: Case>(
 ) -> Result<(), Fail> {
     let asked = case.asked();
     match builder(asked, prefilter, depth)?.build(alloc, asked.patterns) {
-        Ok(nfa) => case.check(rt, alloc, &nfa, Both),
+        Ok(nfa) => case.check(&Trial::new(rt, alloc, &nfa, Both)),
         Err(error) => unbuilt(case, error),
     }
 }
@@ -247,7 +287,7 @@ fn by_contiguous<T: Abort, C: Case>(
     let asked = case.asked();
     let builder = contiguous_builder(asked, prefilter, depth, alphabet, row_memory)?;
     match builder.build(alloc, asked.patterns) {
-        Ok(nfa) => case.check(rt, alloc, &nfa, Both),
+        Ok(nfa) => case.check(&Trial::new(rt, alloc, &nfa, Both)),
         Err(error) => unbuilt(case, error),
     }
 }
@@ -280,7 +320,7 @@ fn by_dfa<T: Abort, C: Case>(
 ) -> Result<(), Fail> {
     let asked = case.asked();
     match dfa_builder(asked, prefilter, alphabet, starts)?.build(alloc, asked.patterns) {
-        Ok(dfa) => case.check(rt, alloc, &dfa, starts),
+        Ok(dfa) => case.check(&Trial::new(rt, alloc, &dfa, starts)),
         Err(error) => unbuilt(case, error),
     }
 }
@@ -309,7 +349,7 @@ fn by_front<T: Abort, C: Case>(
     starts: StartKind,
 ) -> Result<(), Fail> {
     match builder.build(alloc, case.asked().patterns) {
-        Ok(ac) => case.check(rt, alloc, &ac, starts),
+        Ok(ac) => case.check(&Trial::new(rt, alloc, &ac, starts)),
         Err(error) => unbuilt(case, error),
     }
 }

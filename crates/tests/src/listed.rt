@@ -1,20 +1,16 @@
 //! Streams of every occurrence: what is listed, by which read, and what is refused.
-ghost use Rattle.std.specs.Prelude.{◌≡◌, false};
-
-use crate::answers::Asks::List;
-use crate::answers::Text::Whole;
-use crate::answers::{by_plain, input};
 use crate::devices::{Given, Outcome, Source, Tally};
 use crate::engines::Letters::Cased;
-use crate::engines::{Asked, Case, FEW, Pick, all, each, pick, serves};
-use ac_automaton::error::{MatchErrorKind, StreamError};
+use crate::engines::{Asked, Case, Pick, Trial, all, pick};
+use crate::rows::words::{APPEND, LISTED, SENTENCE};
+use crate::streams::{Sought, picked, search_outcome};
+use ac_automaton::error::MatchErrorKind;
 use ac_automaton::stream::overlapping::StreamFindOverlappingIter;
 use ac_automaton::watched::Watched;
+use ac_input::search::MatchKind;
 use ac_input::search::MatchKind::{LeftmostFirst, LeftmostLongest, Standard};
-use ac_input::search::{Anchored, MatchKind, StartKind};
 use ac_input::steps::Steps;
 use ac_noncontiguous::Search;
-use std::alloc::Global;
 use std::io::{ErrorKind, Read};
 use std::process::Abort;
 use std::test::Fail;
@@ -28,19 +24,15 @@ fn next_listed<A: Search, R: Read>(
     if found.is_some() {
         return Ok(pick(found));
     }
-    match listed.next() {
-        Some(Err(error)) => Err(Outcome::of(&Err(error))),
-        Some(Ok(found)) => Ok(pick(Some(found))),
-        None => Ok(None),
-    }
+    picked(listed.next())
 }
 
 /// A text, and all occurrences in it.
 #[derive(Clone, Copy)]
-struct Listed<'a> {
-    asked: Asked<'a>,
-    text: &'a [u8],
-    gives: &'a [Pick],
+pub struct Listed<'a> {
+    pub asked: Asked<'a>,
+    pub text: &'a [u8],
+    pub gives: &'a [Pick],
 }
 
 impl Listed<'_> {
@@ -48,22 +40,19 @@ impl Listed<'_> {
     /// there, the error comes first.
     fn lists<T: Abort, A: Search>(
         &self,
-        rt: &T,
-        alloc: Global,
-        automaton: &A,
+        on: &Trial<'_, T, A>,
         len: usize,
         most: usize,
         fails: bool,
     ) -> Result<(), Fail> {
         let front = self.text.get(..len).ok_or("a front of the text")?;
-        let given = if fails {
-            Given::Fails(front, b"x")
-        } else {
-            Given::Pauses(front, b"x")
-        };
+        let given = Given::ended(front, b"x", fails);
+        let rt = on.rt;
         let tally = Tally::new();
         let mut reader = Watched::new(Source::new(given, most, &[], &tally));
-        let mut listed = automaton.try_stream_find_overlapping_iter(alloc, &mut reader)?;
+        let mut listed = on
+            .automaton
+            .try_stream_find_overlapping_iter(on.alloc, &mut reader)?;
         for want in self.gives {
             if want.2 > len {
                 break;
@@ -86,21 +75,15 @@ impl Case for Listed<'_> {
         self.asked
     }
 
-    fn check<T: Abort, A: Search>(
-        &self,
-        rt: &T,
-        alloc: Global,
-        automaton: &A,
-        starts: StartKind,
-    ) -> Result<(), Fail> {
-        if !serves(starts, Anchored::No) {
+    fn check<T: Abort, A: Search>(&self, on: &Trial<'_, T, A>) -> Result<(), Fail> {
+        if !on.searches() {
             return Ok(());
         }
         for most in [1, 2, 3, 7, 100] {
-            self.lists(rt, alloc, automaton, self.text.len(), most, false)?;
+            self.lists(on, self.text.len(), most, false)?;
         }
         for len in 0..=self.text.len() {
-            self.lists(rt, alloc, automaton, len, 2, true)?;
+            self.lists(on, len, 2, true)?;
         }
         Ok(())
     }
@@ -109,19 +92,12 @@ impl Case for Listed<'_> {
 const ROWS: &[Listed<'static>] = &[
     Listed {
         asked: Asked {
-            patterns: &[b"append", b"appendage", b"app"],
+            patterns: APPEND,
             kind: Standard,
             letters: Cased,
         },
-        text: b"append the app to the appendage",
-        gives: &[
-            (2, 0, 3),
-            (0, 0, 6),
-            (2, 11, 14),
-            (2, 22, 25),
-            (0, 22, 28),
-            (1, 22, 31),
-        ],
+        text: SENTENCE,
+        gives: LISTED,
     },
     Listed {
         asked: Asked {
@@ -146,43 +122,16 @@ const ROWS: &[Listed<'static>] = &[
 /// An automaton that can't list a stream, and why.
 struct Refused(MatchKind, &'static [&'static [u8]], MatchErrorKind);
 
-/// Makes a search of a stream, and drops it.
-fn try_list<'a, A: Search, R: Read>(
-    alloc: Global,
-    automaton: &'a A,
-    reader: &'a mut Watched<R>,
-) -> Result<(), StreamError>
-    requires { reader.old.ended ≡ false }
-{
-    automaton.try_stream_find_overlapping_iter(alloc, reader)?;
-    Ok(())
-}
-
 impl Case for Refused {
     fn asked(&self) -> Asked<'_> {
-        Asked {
-            patterns: self.1,
-            kind: self.0,
-            letters: Cased,
-        }
+        Asked::of(self.1, self.0, Cased)
     }
 
-    fn check<T: Abort, A: Search>(
-        &self,
-        rt: &T,
-        alloc: Global,
-        automaton: &A,
-        starts: StartKind,
-    ) -> Result<(), Fail> {
-        let why = if serves(starts, Anchored::No) {
-            self.2
-        } else {
-            MatchErrorKind::InvalidInputUnanchored
-        };
+    fn check<T: Abort, A: Search>(&self, on: &Trial<'_, T, A>) -> Result<(), Fail> {
+        let rt = on.rt;
         let tally = Tally::new();
-        let mut reader = Watched::new(Source::new(Given::Whole(b"ab"), 1, &[], &tally));
-        let listed = Outcome::of(&try_list(alloc, automaton, &mut reader));
-        assert_eq!(rt; listed, Outcome::Config(why));
+        let outcome = search_outcome(on.alloc, on.automaton, &tally, Sought::Occurrences);
+        assert_eq!(rt; outcome, Outcome::Config(on.refusal(self.2)));
         assert_eq!(rt; tally.reads.get(), 0);
         Ok(())
     }
@@ -208,23 +157,4 @@ const REFUSED: &[Refused] = &[
 fn streams_of_every_occurrence(rt: HostRuntime) -> Result<(), Fail> {
     all(&rt, rt.alloc(), ROWS)?;
     all(&rt, rt.alloc(), REFUSED)
-}
-
-/// Compares the occurrences in a stream with those of the plain program, where no pattern is empty.
-pub fn is_alike<T: Abort>(
-    rt: &T,
-    alloc: Global,
-    asked: Asked<'_>,
-    text: &[u8],
-) -> Result<(), Fail> {
-    if asked.patterns.iter().any(|it| it.is_empty()) {
-        return Ok(());
-    }
-    let gives = by_plain(alloc, asked, List, &input(&Whole(text))?)?;
-    let alike = Listed {
-        asked,
-        text,
-        gives: &gives,
-    };
-    each(rt, alloc, &alike, FEW)
 }

@@ -1,7 +1,7 @@
 //! Builds that run out of memory. `rt try --test --fail-alloc N -- in_memory_that_may_end` fails the Nth allocation: the call
 //! returns an error and makes nothing. If no allocation fails, the result is complete.
 use crate::answers::searcher;
-use crate::engines::{Asked, Case, FEW, Letters, Pick, each, pick};
+use crate::engines::{Asked, Case, FEW, Letters, Pick, Trial, each, pick};
 use crate::prefilters::made;
 use crate::repeated::KINDS;
 use ac_input::pairing::Pairing;
@@ -102,30 +102,21 @@ struct Built(MatchKind);
 
 impl Case for Built {
     fn asked(&self) -> Asked<'_> {
-        Asked {
-            patterns: PATTERNS,
-            kind: self.0,
-            letters: Letters::Folded,
-        }
+        Asked::of(PATTERNS, self.0, Letters::Folded)
     }
 
     fn in_little_memory(&self) -> bool {
         true
     }
 
-    fn check<T: Abort, A: Search>(
-        &self,
-        rt: &T,
-        _alloc: Global,
-        automaton: &A,
-        _starts: StartKind,
-    ) -> Result<(), Fail> {
+    fn check<T: Abort, A: Search>(&self, on: &Trial<'_, T, A>) -> Result<(), Fail> {
+        let rt = on.rt;
         let want = match self.0 {
             MatchKind::Standard => (0, 2, 3),
             MatchKind::LeftmostFirst => (1, 1, 4),
             MatchKind::LeftmostLongest => (2, 1, 5),
         };
-        let found = automaton.try_find(&Input::new(b"xABCD"))?;
+        let found = on.automaton.try_find(&Input::new(b"xABCD"))?;
         assert_eq!(rt; pick(found), Some(want));
         Ok(())
     }

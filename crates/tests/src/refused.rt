@@ -1,6 +1,6 @@
 //! Searches that return an error, in which order the reasons count, and that nothing else is an error.
 use crate::answers::same;
-use crate::engines::{Asked, Case, Letters, all};
+use crate::engines::{Asked, Case, Letters, Trial, all};
 use crate::front::{OwnCase, each_own};
 use ac_input::search::{Anchored, Input, MatchKind, StartKind};
 use ac_noncontiguous::{MatchError, MatchErrorKind, OverlappingState, ReplaceError, Search};
@@ -17,6 +17,9 @@ struct Refusals {
     overlap: Option<MatchErrorKind>,
     list: Option<MatchErrorKind>,
 }
+
+/// The one pattern.
+const PATTERNS: &[&[u8]] = &[b"a"];
 
 /// A search of a text by an automaton with these starts, and its error.
 struct Row {
@@ -126,24 +129,14 @@ fn is_refused<T: Abort, A: Search>(
 
 impl Case for Row {
     fn asked(&self) -> Asked<'_> {
-        Asked {
-            patterns: &[b"a"],
-            kind: self.kind,
-            letters: Letters::Cased,
-        }
+        Asked::of(PATTERNS, self.kind, Letters::Cased)
     }
 
-    fn check<T: Abort, A: Search>(
-        &self,
-        rt: &T,
-        alloc: Global,
-        automaton: &A,
-        starts: StartKind,
-    ) -> Result<(), Fail> {
-        if starts != self.starts {
+    fn check<T: Abort, A: Search>(&self, on: &Trial<'_, T, A>) -> Result<(), Fail> {
+        if on.starts != self.starts {
             return Ok(());
         }
-        is_refused(rt, alloc, automaton, self)
+        is_refused(on.rt, on.alloc, on.automaton, self)
     }
 }
 

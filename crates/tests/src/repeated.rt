@@ -4,9 +4,9 @@
 use crate::answers::Asks::{self, List, Walk};
 use crate::answers::Text::{self, Bound, Whole};
 use crate::engines::Letters::{self, Cased, Folded};
-use crate::engines::{Asked, Case, ENGINES, Engine, FEW, FIRST, Pick, each};
+use crate::engines::{Asked, Case, ENGINES, Engine, FEW, FIRST, Pick, Trial, each};
 use crate::rows::{Row, hold, table_of};
-use ac_input::search::{Input, MatchKind, StartKind};
+use ac_input::search::{Input, MatchKind};
 use ac_noncontiguous::Search;
 use std::alloc::{AllocError, Global};
 use std::process::Abort;
@@ -292,21 +292,12 @@ struct Endless<'a> {
 
 impl Case for Endless<'_> {
     fn asked(&self) -> Asked<'_> {
-        Asked {
-            patterns: self.patterns,
-            kind: self.kind,
-            letters: Folded,
-        }
+        Asked::of(self.patterns, self.kind, Folded)
     }
 
-    fn check<T: Abort, A: Search>(
-        &self,
-        rt: &T,
-        _alloc: Global,
-        automaton: &A,
-        _starts: StartKind,
-    ) -> Result<(), Fail> {
-        let found = automaton.try_find(&Input::new(self.text))?;
+    fn check<T: Abort, A: Search>(&self, on: &Trial<'_, T, A>) -> Result<(), Fail> {
+        let rt = on.rt;
+        let found = on.automaton.try_find(&Input::new(self.text))?;
         assert!(rt; found.is_none());
         Ok(())
     }

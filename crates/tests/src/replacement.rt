@@ -4,11 +4,11 @@
 ghost use Rattle.aho_corasick.specs.AhoCorasick.{supported_by};
 
 use crate::engines::Letters::{Cased, Folded, Paired};
-use crate::engines::{Asked, Case, Letters, all, serves};
+use crate::engines::{Asked, Case, Letters, Trial, all, serves};
 use crate::front::{OwnCase, all_own};
 use ac_automaton::error::ReplaceError;
 use ac_input::search::MatchKind::{LeftmostFirst, LeftmostLongest, Standard};
-use ac_input::search::{Anchored, Match, MatchKind, StartKind};
+use ac_input::search::{Anchored, Match, MatchKind};
 use ac_noncontiguous::Search;
 use aho_corasick::AhoCorasick;
 use std::alloc::{AllocError, Global};
@@ -104,12 +104,8 @@ pub fn append_bytes<A: Search>(
 
 impl Row {
     /// Asserts what is made by a list.
-    fn is_made<T: Abort, A: Search>(
-        &self,
-        rt: &T,
-        alloc: Global,
-        automaton: &A,
-    ) -> Result<(), Fail> {
+    fn is_made<T: Abort, A: Search>(&self, on: &Trial<'_, T, A>) -> Result<(), Fail> {
+        let (rt, alloc, automaton) = (on.rt, on.alloc, on.automaton);
         let shows = self.shows;
         assert_eq!(rt;
             automaton.patterns_len(),
@@ -127,12 +123,8 @@ impl Row {
     }
 
     /// Asserts what is made by a closure.
-    fn is_appended<T: Abort, A: Search>(
-        &self,
-        rt: &T,
-        alloc: Global,
-        automaton: &A,
-    ) -> Result<(), Fail> {
+    fn is_appended<T: Abort, A: Search>(&self, on: &Trial<'_, T, A>) -> Result<(), Fail> {
+        let (rt, alloc, automaton) = (on.rt, on.alloc, on.automaton);
         let shows = self.shows;
         let fails = matches!(self.until, Some(At::Fails(_)));
         let mut made = String::new(alloc);
@@ -166,27 +158,17 @@ impl Row {
 
 impl Case for Row {
     fn asked(&self) -> Asked<'_> {
-        Asked {
-            patterns: self.patterns,
-            kind: self.kind,
-            letters: self.letters,
-        }
+        Asked::of(self.patterns, self.kind, self.letters)
     }
 
-    fn check<T: Abort, A: Search>(
-        &self,
-        rt: &T,
-        alloc: Global,
-        automaton: &A,
-        starts: StartKind,
-    ) -> Result<(), Fail> {
-        if !serves(starts, Anchored::No) {
+    fn check<T: Abort, A: Search>(&self, on: &Trial<'_, T, A>) -> Result<(), Fail> {
+        if !on.searches() {
             return Ok(());
         }
         if self.until.is_none() {
-            self.is_made(rt, alloc, automaton)?;
+            self.is_made(on)?;
         }
-        self.is_appended(rt, alloc, automaton)
+        self.is_appended(on)
     }
 }
 

@@ -5,8 +5,8 @@
 use crate::answers::{
     Asks, Text, by_plain, collected, input, same, searcher, shows_in_turn, walks_on,
 };
-use crate::engines::{Asked, Case, ENGINES, Engine, Letters, Pick, each, pick, serves};
-use ac_input::search::{Input, MatchKind, Span, StartKind};
+use crate::engines::{Asked, Case, ENGINES, Engine, Letters, Pick, Trial, each, pick, serves};
+use ac_input::search::{Input, MatchKind, Span};
 use ac_literal::packed::{self, Searcher};
 use ac_noncontiguous::{OverlappingState, Search};
 use std::alloc::Global;
@@ -19,7 +19,7 @@ mod inside;
 mod layouts;
 mod several;
 mod vectors;
-mod words;
+pub mod words;
 
 /// Some patterns, and what searches for them give.
 #[derive(Drop)]
@@ -92,19 +92,16 @@ fn row_holds<T: Abort, A: Search>(
     }
 }
 
-/// Asserts what the row says of an automaton, and of a reference to it, if there is a start for it among these.
+/// Asserts what the row says of an automaton, and of a reference to it, if it has a start for the row.
 pub fn row_holds_of_each<T: Abort, A: Search>(
-    rt: &T,
-    alloc: Global,
-    automaton: &A,
-    starts: StartKind,
+    on: &Trial<'_, T, A>,
     row: &Row<'_>,
 ) -> Result<(), Fail> {
-    if !serves(starts, input(&row.text)?.get_anchored()) {
+    if !serves(on.starts, input(&row.text)?.get_anchored()) {
         return Ok(());
     }
-    row_holds(rt, alloc, automaton, row)?;
-    row_holds(rt, alloc, &automaton, row)
+    row_holds(on.rt, on.alloc, on.automaton, row)?;
+    row_holds(on.rt, on.alloc, &on.automaton, row)
 }
 
 /// The table of these rows for what automata are built of.
@@ -119,22 +116,12 @@ pub fn table_of<'a>(asked: Asked<'a>, rows: &'a [Row<'a>]) -> Table<'a> {
 
 impl Case for Table<'_> {
     fn asked(&self) -> Asked<'_> {
-        Asked {
-            patterns: self.patterns,
-            kind: self.kind,
-            letters: self.letters,
-        }
+        Asked::of(self.patterns, self.kind, self.letters)
     }
 
-    fn check<T: Abort, A: Search>(
-        &self,
-        rt: &T,
-        alloc: Global,
-        automaton: &A,
-        starts: StartKind,
-    ) -> Result<(), Fail> {
+    fn check<T: Abort, A: Search>(&self, on: &Trial<'_, T, A>) -> Result<(), Fail> {
         for row in self.rows {
-            row_holds_of_each(rt, alloc, automaton, starts, row)?;
+            row_holds_of_each(on, row)?;
         }
         Ok(())
     }

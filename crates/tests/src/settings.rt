@@ -1,7 +1,7 @@
 //! How automata are built: what is set at first, and that the last setting decides.
 use crate::answers::Asks;
 use crate::answers::Text::Whole;
-use crate::engines::Pick;
+use crate::engines::{Pick, Trial};
 use crate::rows::{Row, row_holds_of_each};
 use ac_input::pairing::Pairing;
 use ac_input::search::{MatchKind, StartKind};
@@ -30,7 +30,10 @@ fn is_built<T: Abort, A: Search>(
         text: Whole(b"A0 a1"),
         gives: want,
     };
-    row_holds_of_each(rt, alloc, automaton, StartKind::Unanchored, &row)
+    row_holds_of_each(
+        &Trial::new(rt, alloc, automaton, StartKind::Unanchored),
+        &row,
+    )
 }
 
 /// Asserts the same of what the builder builds.

@@ -3,13 +3,13 @@
 //! `rt try --test --fail-alloc N` fails the Nth allocation. If a call runs out of memory, nothing was read or written by then;
 //! what was appended to a text stays.
 use crate::devices::{AMPLE, Given, Outcome, Sink, Source, Tally};
-use crate::engines::{Asked, Case, FIRST, Letters, each};
+use crate::engines::{Asked, Case, FIRST, Letters, Trial, each};
 use crate::replacement::{append, append_bytes};
 use crate::stream_replacement::write_by_closure;
-use crate::streams::search_outcome;
+use crate::streams::{Sought, search_outcome};
 use ac_automaton::error::ReplaceError;
 use ac_automaton::watched::Watched;
-use ac_input::search::{MatchKind, StartKind};
+use ac_input::search::MatchKind;
 use ac_input::steps::Steps;
 use ac_noncontiguous::{Automaton, Search};
 use std::alloc::{AllocError, Global};
@@ -18,6 +18,9 @@ use std::test::Fail;
 
 /// Streams and replacement of one word.
 struct InMemory;
+
+/// The word.
+const FOX: &[&[u8]] = &[b"fox"];
 
 /// What replaces the word.
 pub const SLOTH: &[&str] = &["sloth"];
@@ -106,26 +109,17 @@ fn is_made<T: Abort, A: Search>(rt: &T, alloc: Global, automaton: &A) {
 
 impl Case for InMemory {
     fn asked(&self) -> Asked<'_> {
-        Asked {
-            patterns: &[b"fox"],
-            kind: MatchKind::Standard,
-            letters: Letters::Cased,
-        }
+        Asked::of(FOX, MatchKind::Standard, Letters::Cased)
     }
 
     fn in_little_memory(&self) -> bool {
         true
     }
 
-    fn check<T: Abort, A: Search>(
-        &self,
-        rt: &T,
-        alloc: Global,
-        automaton: &A,
-        _starts: StartKind,
-    ) -> Result<(), Fail> {
+    fn check<T: Abort, A: Search>(&self, on: &Trial<'_, T, A>) -> Result<(), Fail> {
+        let (rt, alloc, automaton) = (on.rt, on.alloc, on.automaton);
         let tally = Tally::new();
-        let outcome = search_outcome(alloc, automaton, &tally);
+        let outcome = search_outcome(alloc, automaton, &tally, Sought::Matches);
         assert!(rt; outcome == Outcome::Done || outcome == Outcome::Memory);
         assert_eq!(rt; tally.reads.get(), 0);
         for of_any_kind in [false, true] {

@@ -7,11 +7,11 @@ ghost use Rattle.std.specs.Prelude.{◌≡◌, false};
 
 use crate::devices::{AMPLE, Given, Outcome, Room, Sink, Source, Tally};
 use crate::engines::Letters::{Cased, Folded, Paired};
-use crate::engines::{Asked, Case, FIRST, Letters, all, each, serves};
+use crate::engines::{Asked, Case, FIRST, Letters, Trial, all, each};
 use ac_automaton::error::{MatchErrorKind, StreamError};
 use ac_automaton::watched::{Watched, write_whole};
+use ac_input::search::Match;
 use ac_input::search::MatchKind::Standard;
-use ac_input::search::{Anchored, Match, StartKind};
 use ac_noncontiguous::Search;
 use std::alloc::Global;
 use std::io::{ErrorKind, Read, Write};
@@ -132,13 +132,12 @@ impl Row {
     /// Asserts what the row says, by this many bytes a read, where the writer has this room, and one of these was written.
     fn writes<T: Abort, A: Search>(
         &self,
-        rt: &T,
-        alloc: Global,
-        automaton: &A,
+        on: &Trial<'_, T, A>,
         by: By,
         room: Room,
         written: &[&[u8]],
     ) -> Result<(), Fail> {
+        let (rt, alloc, automaton) = (on.rt, on.alloc, on.automaton);
         let ways: &[bool] = if self.closure_fails.is_some() {
             &[true]
         } else {
@@ -176,25 +175,15 @@ impl Row {
 
 impl Case for Row {
     fn asked(&self) -> Asked<'_> {
-        Asked {
-            patterns: self.patterns,
-            kind: Standard,
-            letters: self.letters,
-        }
+        Asked::of(self.patterns, Standard, self.letters)
     }
 
-    fn check<T: Abort, A: Search>(
-        &self,
-        rt: &T,
-        alloc: Global,
-        automaton: &A,
-        starts: StartKind,
-    ) -> Result<(), Fail> {
-        if !serves(starts, Anchored::No) {
+    fn check<T: Abort, A: Search>(&self, on: &Trial<'_, T, A>) -> Result<(), Fail> {
+        if !on.searches() {
             return Ok(());
         }
         for by in self.by {
-            self.writes(rt, alloc, automaton, *by, self.room, self.written)?;
+            self.writes(on, *by, self.room, self.written)?;
         }
         Ok(())
     }
@@ -538,18 +527,12 @@ impl Case for Stops {
         self.row.asked()
     }
 
-    fn check<T: Abort, A: Search>(
-        &self,
-        rt: &T,
-        alloc: Global,
-        automaton: &A,
-        starts: StartKind,
-    ) -> Result<(), Fail> {
-        if !serves(starts, Anchored::No) {
+    fn check<T: Abort, A: Search>(&self, on: &Trial<'_, T, A>) -> Result<(), Fail> {
+        if !on.searches() {
             return Ok(());
         }
         for (len, written) in self.written.iter().enumerate() {
-            stops_there(rt, alloc, automaton, &self.row, len, written)?;
+            stops_there(on, &self.row, len, written)?;
         }
         Ok(())
     }
@@ -557,9 +540,7 @@ impl Case for Stops {
 
 /// Asserts what was written when the read after this many bytes fails, by one, two and seven bytes a read.
 fn stops_there<T: Abort, A: Search>(
-    rt: &T,
-    alloc: Global,
-    automaton: &A,
+    on: &Trial<'_, T, A>,
     row: &Row,
     len: usize,
     written: &[&[u8]],
@@ -573,7 +554,7 @@ fn stops_there<T: Abort, A: Search>(
     for most in [1, 2, 7] {
         let reads = len.div_ceil(most.max(1)).saturating_add(1);
         let by = By { most, reads };
-        stopped.writes(rt, alloc, automaton, by, AMPLE, written)?;
+        stopped.writes(on, by, AMPLE, written)?;
     }
     Ok(())
 }
@@ -614,14 +595,8 @@ impl Case for Fronts {
         self.row.asked()
     }
 
-    fn check<T: Abort, A: Search>(
-        &self,
-        rt: &T,
-        alloc: Global,
-        automaton: &A,
-        starts: StartKind,
-    ) -> Result<(), Fail> {
-        if !serves(starts, Anchored::No) {
+    fn check<T: Abort, A: Search>(&self, on: &Trial<'_, T, A>) -> Result<(), Fail> {
+        if !on.searches() {
             return Ok(());
         }
         let whole = self.row.written.first().ok_or("a text")?;
@@ -636,7 +611,7 @@ impl Case for Fronts {
                 most,
                 reads: *reads,
             };
-            self.row.writes(rt, alloc, automaton, by, room, &[front])?;
+            self.row.writes(on, by, room, &[front])?;
         }
         Ok(())
     }

@@ -6,17 +6,26 @@ ghost use Rattle.std.specs.Prelude.{◌≡◌, false};
 
 use crate::devices::{AMPLE, Given, Outcome, Sink, Source, Tally};
 use crate::engines::Letters::{Cased, Folded, Paired};
-use crate::engines::{Asked, Case, FIRST, Letters, Pick, all, each, pick, serves};
+use crate::engines::{Asked, Case, FIRST, Letters, Pick, Trial, all, each, pick};
 use ac_automaton::error::{MatchErrorKind, StreamError};
 use ac_automaton::stream::StreamFindIter;
 use ac_automaton::watched::Watched;
-use ac_input::search::{Anchored, MatchKind, StartKind};
+use ac_input::search::{Match, MatchKind};
 use ac_input::steps::Steps;
 use ac_noncontiguous::Search;
 use std::alloc::Global;
 use std::io::{ErrorKind, Read};
 use std::process::Abort;
 use std::test::Fail;
+
+/// What a search of a stream returned, without the error itself.
+pub fn picked(next: Option<Result<Match, StreamError>>) -> Result<Option<Pick>, Outcome> {
+    match next {
+        Some(Err(error)) => Err(Outcome::of(&Err(error))),
+        Some(Ok(found)) => Ok(pick(Some(found))),
+        None => Ok(None),
+    }
+}
 
 /// The next match of a stream; or where that is asked, the next one that is held, and after the last of these the next one.
 pub fn next_pick<A: Search, R: Read>(
@@ -30,11 +39,23 @@ pub fn next_pick<A: Search, R: Read>(
             return Ok(pick(found));
         }
     }
-    match matches.next() {
-        Some(Err(error)) => Err(Outcome::of(&Err(error))),
-        Some(Ok(found)) => Ok(pick(Some(found))),
-        None => Ok(None),
+    picked(matches.next())
+}
+
+/// Asserts that a stream is over: it returns the error of a failed read, if it fails, and then nothing for good.
+pub fn is_over<T: Abort, A: Search, R: Read>(
+    rt: &T,
+    matches: &mut StreamFindIter<'_, A, R>,
+    fails: bool,
+    held: bool,
+    shows: &str,
+) {
+    if fails {
+        let failed = Err(Outcome::Read(ErrorKind::Interrupted));
+        assert_eq!(rt; next_pick(matches, held), failed, "{shows}");
     }
+    assert_eq!(rt; next_pick(matches, !held), Ok(None), "{shows}");
+    assert_eq!(rt; next_pick(matches, held), Ok(None), "{shows}");
 }
 
 /// A text, by this many bytes a read, and its matches.
@@ -58,33 +79,23 @@ impl Row<'_> {
     /// read, and nothing for good. There is one read more than the text needs.
     fn gives<T: Abort, A: Search>(
         &self,
-        rt: &T,
-        alloc: Global,
-        automaton: &A,
+        on: &Trial<'_, T, A>,
         text: &[u8],
         most: usize,
         held: bool,
     ) -> Result<(), Fail> {
+        let rt = on.rt;
         let shows = self.shows;
-        let given = if self.fails {
-            Given::Fails(text, self.after)
-        } else {
-            Given::Pauses(text, self.after)
-        };
+        let given = Given::ended(text, self.after, self.fails);
         let tally = Tally::new();
         let mut reader = Watched::new(Source::new(given, most, &[], &tally));
-        let mut matches = automaton.try_stream_find_iter(alloc, &mut reader)?;
+        let mut matches = on.automaton.try_stream_find_iter(on.alloc, &mut reader)?;
         for want in self.finds {
             assert_eq!(rt; next_pick(&mut matches, held), Ok(Some(*want)), "{shows}");
             let reads = want.2.div_ceil(most.max(1));
             assert_eq!(rt; tally.reads.get(), reads, "{shows}");
         }
-        if self.fails {
-            let failed = Err(Outcome::Read(ErrorKind::Interrupted));
-            assert_eq!(rt; next_pick(&mut matches, held), failed, "{shows}");
-        }
-        assert_eq!(rt; next_pick(&mut matches, held), Ok(None), "{shows}");
-        assert_eq!(rt; next_pick(&mut matches, held), Ok(None), "{shows}");
+        is_over(rt, &mut matches, self.fails, held, shows);
         let reads = text.len().div_ceil(most.max(1)).saturating_add(1);
         assert_eq!(rt; tally.reads.get(), reads, "{shows}");
         Ok(())
@@ -93,14 +104,12 @@ impl Row<'_> {
     /// Asserts the same by so many bytes a read as the row says, also with the matches that are held.
     fn gives_each<T: Abort, A: Search>(
         &self,
-        rt: &T,
-        alloc: Global,
-        automaton: &A,
+        on: &Trial<'_, T, A>,
         text: &[u8],
     ) -> Result<(), Fail> {
         for most in self.most {
-            self.gives(rt, alloc, automaton, text, *most, false)?;
-            self.gives(rt, alloc, automaton, text, *most, true)?;
+            self.gives(on, text, *most, false)?;
+            self.gives(on, text, *most, true)?;
         }
         Ok(())
     }
@@ -108,25 +117,15 @@ impl Row<'_> {
 
 impl Case for Row<'_> {
     fn asked(&self) -> Asked<'_> {
-        Asked {
-            patterns: self.patterns,
-            kind: MatchKind::Standard,
-            letters: self.letters,
-        }
+        Asked::of(self.patterns, MatchKind::Standard, self.letters)
     }
 
-    fn check<T: Abort, A: Search>(
-        &self,
-        rt: &T,
-        alloc: Global,
-        automaton: &A,
-        starts: StartKind,
-    ) -> Result<(), Fail> {
-        if !serves(starts, Anchored::No) {
+    fn check<T: Abort, A: Search>(&self, on: &Trial<'_, T, A>) -> Result<(), Fail> {
+        if !on.searches() {
             return Ok(());
         }
-        let text = self.text.concat(alloc)?;
-        self.gives_each(rt, alloc, automaton, &text)
+        let text = self.text.concat(on.alloc)?;
+        self.gives_each(on, &text)
     }
 }
 
@@ -149,24 +148,18 @@ impl Case for Stops {
         self.0.asked()
     }
 
-    fn check<T: Abort, A: Search>(
-        &self,
-        rt: &T,
-        alloc: Global,
-        automaton: &A,
-        starts: StartKind,
-    ) -> Result<(), Fail> {
-        if !serves(starts, Anchored::No) {
+    fn check<T: Abort, A: Search>(&self, on: &Trial<'_, T, A>) -> Result<(), Fail> {
+        if !on.searches() {
             return Ok(());
         }
-        let text = self.0.text.concat(alloc)?;
+        let text = self.0.text.concat(on.alloc)?;
         for len in 0..=text.len() {
             let front = text.as_slice().get(..len).ok_or("a front of the text")?;
             let row = Row {
                 finds: ended_by(self.0.finds, len),
                 ..self.0
             };
-            row.gives_each(rt, alloc, automaton, front)?;
+            row.gives_each(on, front)?;
         }
         Ok(())
     }
@@ -491,22 +484,46 @@ fn streams(rt: HostRuntime) -> Result<(), Fail> {
     each(&rt, rt.alloc(), &LONG, FIRST)
 }
 
+/// What is sought in a stream: matches under standard, or under any kind, or occurrences.
+#[derive(Clone, Copy)]
+pub enum Sought {
+    Matches,
+    MatchesOfAnyKind,
+    Occurrences,
+}
+
 /// Makes a search of a stream, and drops it.
 fn try_stream<'a, A: Search, R: Read>(
     alloc: Global,
     automaton: &'a A,
     reader: &'a mut Watched<R>,
+    sought: Sought,
 ) -> Result<(), StreamError>
     requires { reader.old.ended ≡ false }
 {
-    automaton.try_stream_find_iter(alloc, reader)?;
+    match sought {
+        Sought::Matches => {
+            automaton.try_stream_find_iter(alloc, reader)?;
+        }
+        Sought::MatchesOfAnyKind => {
+            automaton.try_stream_find_iter_any_kind(alloc, reader)?;
+        }
+        Sought::Occurrences => {
+            automaton.try_stream_find_overlapping_iter(alloc, reader)?;
+        }
+    }
     Ok(())
 }
 
 /// The result of a search of a stream that takes no match.
-pub fn search_outcome<A: Search>(alloc: Global, automaton: &A, tally: &Tally) -> Outcome {
+pub fn search_outcome<A: Search>(
+    alloc: Global,
+    automaton: &A,
+    tally: &Tally,
+    sought: Sought,
+) -> Outcome {
     let mut reader = Watched::new(Source::new(Given::Whole(b"ab"), 1, &[], tally));
-    Outcome::of(&try_stream(alloc, automaton, &mut reader))
+    Outcome::of(&try_stream(alloc, automaton, &mut reader, sought))
 }
 
 /// What replacement over a stream comes to, for two patterns.
@@ -524,28 +541,6 @@ fn replacement_outcome<A: Search>(
     Ok(Outcome::of(&answer))
 }
 
-/// Asserts that a search of a stream returns this error, and that nothing was read or written.
-fn is_refused<T: Abort, A: Search>(
-    rt: &T,
-    alloc: Global,
-    automaton: &A,
-    why: MatchErrorKind,
-    shows: &str,
-) -> Result<(), Fail> {
-    let tally = Tally::new();
-    let outcomes = (
-        search_outcome(alloc, automaton, &tally),
-        replacement_outcome(alloc, automaton, &tally)?,
-    );
-    assert_eq!(rt;
-        outcomes,
-        (Outcome::Config(why), Outcome::Config(why)),
-        "{shows}"
-    );
-    assert_eq!(rt; (tally.reads.get(), tally.writes.get()), (0, 0), "{shows}");
-    Ok(())
-}
-
 /// An automaton of two patterns that can't search a stream, and why. Where it has no start for a search that isn't anchored, that is
 /// the reason, before any other.
 struct Refused {
@@ -557,26 +552,20 @@ struct Refused {
 
 impl Case for Refused {
     fn asked(&self) -> Asked<'_> {
-        Asked {
-            patterns: &self.patterns,
-            kind: self.kind,
-            letters: Cased,
-        }
+        Asked::of(&self.patterns, self.kind, Cased)
     }
 
-    fn check<T: Abort, A: Search>(
-        &self,
-        rt: &T,
-        alloc: Global,
-        automaton: &A,
-        starts: StartKind,
-    ) -> Result<(), Fail> {
-        let why = if serves(starts, Anchored::No) {
-            self.why
-        } else {
-            MatchErrorKind::InvalidInputUnanchored
-        };
-        is_refused(rt, alloc, automaton, why, self.shows)
+    fn check<T: Abort, A: Search>(&self, on: &Trial<'_, T, A>) -> Result<(), Fail> {
+        let (rt, shows) = (on.rt, self.shows);
+        let want = Outcome::Config(on.refusal(self.why));
+        let tally = Tally::new();
+        let outcomes = (
+            search_outcome(on.alloc, on.automaton, &tally, Sought::Matches),
+            replacement_outcome(on.alloc, on.automaton, &tally)?,
+        );
+        assert_eq!(rt; outcomes, (want, want), "{shows}");
+        assert_eq!(rt; (tally.reads.get(), tally.writes.get()), (0, 0), "{shows}");
+        Ok(())
     }
 }
 

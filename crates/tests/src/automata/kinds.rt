@@ -1,9 +1,8 @@
 //! What the kind of an automaton, and an empty pattern, change of its states.
 use super::Leads::{All, Only};
-use super::{Bounds, Kept, State};
-use crate::engines::Letters::Cased;
-use crate::engines::Prefiltering::{Off, On};
-use ac_input::search::MatchKind::{LeftmostFirst, LeftmostLongest, Standard};
+use super::{Kept, PLAIN, State};
+use crate::engines::Prefiltering::On;
+use ac_input::search::MatchKind::{LeftmostFirst, LeftmostLongest};
 
 const INSIDE: &[&[u8]] = &[b"b", b"abc", b"abcd"];
 
@@ -12,273 +11,91 @@ pub const KEPT: &[Kept] = &[
         shows: "a leftmost state that matches fails to the dead one, and starts are special beside a prefilter",
         patterns: INSIDE,
         kind: LeftmostLongest,
-        letters: Cased,
         prefilter: (On, true),
-        bounds: Bounds {
-            last_match: 5,
-            last_special: 7,
-            start: 6,
-            anchored_start: 7,
-            states: 9,
-        },
+        bounds: [5, 7, 6, 7, 9],
         states: &[
-            State {
-                number: 2,
-                depth: 1,
-                fails_to: 0,
-                matches: &[0],
-                leads: Only(&[]),
-            },
-            State {
-                number: 3,
-                depth: 2,
-                fails_to: 2,
-                matches: &[0],
-                leads: Only(&[(b'c', 4)]),
-            },
-            State {
-                number: 4,
-                depth: 3,
-                fails_to: 0,
-                matches: &[1],
-                leads: Only(&[(b'd', 5)]),
-            },
-            State {
-                number: 5,
-                depth: 4,
-                fails_to: 0,
-                matches: &[2],
-                leads: Only(&[]),
-            },
-            State {
-                number: 8,
-                depth: 1,
-                fails_to: 6,
-                matches: &[],
-                leads: Only(&[(b'b', 3)]),
-            },
+            State(2, 1, 0, &[0], Only(&[])),
+            State(3, 2, 2, &[0], Only(&[(b'c', 4)])),
+            State(4, 3, 0, &[1], Only(&[(b'd', 5)])),
+            State(5, 4, 0, &[2], Only(&[])),
+            State(8, 1, 6, &[], Only(&[(b'b', 3)])),
         ],
-        classes: &[],
+        ..PLAIN
     },
     Kept {
         shows: "without a prefilter the last state that matches is the last special one",
         patterns: INSIDE,
         kind: LeftmostLongest,
-        letters: Cased,
-        prefilter: (Off, false),
-        bounds: Bounds {
-            last_match: 5,
-            last_special: 5,
-            start: 6,
-            anchored_start: 7,
-            states: 9,
-        },
-        states: &[],
-        classes: &[],
+        bounds: [5, 5, 6, 7, 9],
+        ..PLAIN
     },
     Kept {
         shows: "an empty pattern stands in a list once, both starts match, and there is no prefilter",
         patterns: &[b"", b"ab"],
-        kind: Standard,
-        letters: Cased,
         prefilter: (On, false),
-        bounds: Bounds {
-            last_match: 5,
-            last_special: 5,
-            start: 4,
-            anchored_start: 5,
-            states: 6,
-        },
+        bounds: [5, 5, 4, 5, 6],
         states: &[
-            State {
-                number: 2,
-                depth: 1,
-                fails_to: 4,
-                matches: &[0],
-                leads: Only(&[(b'b', 3)]),
-            },
-            State {
-                number: 3,
-                depth: 2,
-                fails_to: 4,
-                matches: &[1, 0],
-                leads: Only(&[]),
-            },
-            State {
-                number: 4,
-                depth: 0,
-                fails_to: 0,
-                matches: &[0],
-                leads: All(4, &[(b'a', 2)]),
-            },
-            State {
-                number: 5,
-                depth: 0,
-                fails_to: 0,
-                matches: &[0],
-                leads: All(1, &[(b'a', 2)]),
-            },
+            State(2, 1, 4, &[0], Only(&[(b'b', 3)])),
+            State(3, 2, 4, &[1, 0], Only(&[])),
+            State(4, 0, 0, &[0], All(4, &[(b'a', 2)])),
+            State(5, 0, 0, &[0], All(1, &[(b'a', 2)])),
         ],
-        classes: &[],
+        ..PLAIN
     },
     Kept {
         shows: "under a leftmost kind with an empty pattern every state fails to the dead one, and other bytes lead there",
         patterns: &[b"ab", b""],
         kind: LeftmostLongest,
-        letters: Cased,
         prefilter: (On, false),
-        bounds: Bounds {
-            last_match: 4,
-            last_special: 4,
-            start: 3,
-            anchored_start: 4,
-            states: 6,
-        },
+        bounds: [4, 4, 3, 4, 6],
         states: &[
-            State {
-                number: 2,
-                depth: 2,
-                fails_to: 0,
-                matches: &[0],
-                leads: Only(&[]),
-            },
-            State {
-                number: 3,
-                depth: 0,
-                fails_to: 0,
-                matches: &[1],
-                leads: All(0, &[(b'a', 5)]),
-            },
-            State {
-                number: 4,
-                depth: 0,
-                fails_to: 0,
-                matches: &[1],
-                leads: All(1, &[(b'a', 5)]),
-            },
-            State {
-                number: 5,
-                depth: 1,
-                fails_to: 0,
-                matches: &[],
-                leads: Only(&[(b'b', 2)]),
-            },
+            State(2, 2, 0, &[0], Only(&[])),
+            State(3, 0, 0, &[1], All(0, &[(b'a', 5)])),
+            State(4, 0, 0, &[1], All(1, &[(b'a', 5)])),
+            State(5, 1, 0, &[], Only(&[(b'b', 2)])),
         ],
-        classes: &[],
+        ..PLAIN
     },
     Kept {
         shows: "under leftmost-first an empty pattern that comes first keeps out all others",
         patterns: &[b"", b"ab"],
         kind: LeftmostFirst,
-        letters: Cased,
         prefilter: (On, false),
-        bounds: Bounds {
-            last_match: 3,
-            last_special: 3,
-            start: 2,
-            anchored_start: 3,
-            states: 4,
-        },
-        states: &[State {
-            number: 2,
-            depth: 0,
-            fails_to: 0,
-            matches: &[0],
-            leads: All(0, &[]),
-        }],
-        classes: &[],
+        bounds: [3, 3, 2, 3, 4],
+        states: &[State(2, 0, 0, &[0], All(0, &[]))],
+        ..PLAIN
     },
     Kept {
         shows: "a pattern that an earlier one begins is not entered (Sam, S, Sa)",
         patterns: &[b"Sam", b"Samwise"],
         kind: LeftmostFirst,
-        letters: Cased,
-        prefilter: (Off, false),
-        bounds: Bounds {
-            last_match: 2,
-            last_special: 2,
-            start: 3,
-            anchored_start: 4,
-            states: 7,
-        },
+        bounds: [2, 2, 3, 4, 7],
         states: &[
-            State {
-                number: 2,
-                depth: 3,
-                fails_to: 0,
-                matches: &[0],
-                leads: Only(&[]),
-            },
-            State {
-                number: 6,
-                depth: 2,
-                fails_to: 3,
-                matches: &[],
-                leads: Only(&[(b'm', 2)]),
-            },
+            State(2, 3, 0, &[0], Only(&[])),
+            State(6, 2, 3, &[], Only(&[(b'm', 2)])),
         ],
-        classes: &[(b'm', 5), (b'w', 6)],
+        classes: (b"mw", &[5, 6]),
+        ..PLAIN
     },
     Kept {
         shows: "a list has the state's own patterns by number, then those of the state to which it fails",
         patterns: &[b"a", b"a", b"aa"],
-        kind: Standard,
-        letters: Cased,
-        prefilter: (Off, false),
-        bounds: Bounds {
-            last_match: 3,
-            last_special: 3,
-            start: 4,
-            anchored_start: 5,
-            states: 6,
-        },
+        bounds: [3, 3, 4, 5, 6],
         states: &[
-            State {
-                number: 2,
-                depth: 1,
-                fails_to: 4,
-                matches: &[0, 1],
-                leads: Only(&[(b'a', 3)]),
-            },
-            State {
-                number: 3,
-                depth: 2,
-                fails_to: 2,
-                matches: &[2, 0, 1],
-                leads: Only(&[]),
-            },
+            State(2, 1, 4, &[0, 1], Only(&[(b'a', 3)])),
+            State(3, 2, 2, &[2, 0, 1], Only(&[])),
         ],
-        classes: &[],
+        ..PLAIN
     },
     Kept {
         shows: "under a leftmost kind the list is the state's own, where it matches from its beginning",
         patterns: &[b"a", b"a", b"aa"],
         kind: LeftmostLongest,
-        letters: Cased,
-        prefilter: (Off, false),
-        bounds: Bounds {
-            last_match: 3,
-            last_special: 3,
-            start: 4,
-            anchored_start: 5,
-            states: 6,
-        },
+        bounds: [3, 3, 4, 5, 6],
         states: &[
-            State {
-                number: 2,
-                depth: 1,
-                fails_to: 0,
-                matches: &[0, 1],
-                leads: Only(&[(b'a', 3)]),
-            },
-            State {
-                number: 3,
-                depth: 2,
-                fails_to: 0,
-                matches: &[2],
-                leads: Only(&[]),
-            },
+            State(2, 1, 0, &[0, 1], Only(&[(b'a', 3)])),
+            State(3, 2, 0, &[2], Only(&[])),
         ],
-        classes: &[],
+        ..PLAIN
     },
 ];

@@ -1,214 +1,59 @@
 //! Automata of a few patterns, state by state: the order of the states, their transitions and their failure links.
 use super::Leads::{All, Only};
-use super::{Bounds, Kept, State};
-use crate::engines::Letters::Cased;
-use crate::engines::Prefiltering::{Off, On};
-use ac_input::search::MatchKind::Standard;
+use super::{Kept, PLAIN, State};
+use crate::engines::Prefiltering::On;
 
 const INSIDE: &[&[u8]] = &[b"b", b"abc", b"abcd"];
 
 /// The state that nothing leads out of, and the one that stands for no state.
-const DEAD: State = State {
-    number: 0,
-    depth: 0,
-    fails_to: 0,
-    matches: &[],
-    leads: All(0, &[]),
-};
+const DEAD: State = State(0, 0, 0, &[], All(0, &[]));
 
-const FAIL: State = State {
-    number: 1,
-    depth: 0,
-    fails_to: 0,
-    matches: &[],
-    leads: Only(&[]),
-};
+const FAIL: State = State(1, 0, 0, &[], Only(&[]));
 
 pub const KEPT: &[Kept] = &[
     Kept {
         shows: "the order of the states: those that match (b, ab, abc, abcd), the starts, the rest (a)",
         patterns: INSIDE,
-        kind: Standard,
-        letters: Cased,
-        prefilter: (Off, false),
-        bounds: Bounds {
-            last_match: 5,
-            last_special: 5,
-            start: 6,
-            anchored_start: 7,
-            states: 9,
-        },
+        bounds: [5, 5, 6, 7, 9],
         states: &[
             DEAD,
             FAIL,
-            State {
-                number: 2,
-                depth: 1,
-                fails_to: 6,
-                matches: &[0],
-                leads: Only(&[]),
-            },
-            State {
-                number: 3,
-                depth: 2,
-                fails_to: 2,
-                matches: &[0],
-                leads: Only(&[(b'c', 4)]),
-            },
-            State {
-                number: 4,
-                depth: 3,
-                fails_to: 6,
-                matches: &[1],
-                leads: Only(&[(b'd', 5)]),
-            },
-            State {
-                number: 5,
-                depth: 4,
-                fails_to: 6,
-                matches: &[2],
-                leads: Only(&[]),
-            },
-            State {
-                number: 6,
-                depth: 0,
-                fails_to: 0,
-                matches: &[],
-                leads: All(6, &[(b'a', 8), (b'b', 2)]),
-            },
-            State {
-                number: 7,
-                depth: 0,
-                fails_to: 0,
-                matches: &[],
-                leads: All(1, &[(b'a', 8), (b'b', 2)]),
-            },
-            State {
-                number: 8,
-                depth: 1,
-                fails_to: 6,
-                matches: &[],
-                leads: Only(&[(b'b', 3)]),
-            },
+            State(2, 1, 6, &[0], Only(&[])),
+            State(3, 2, 2, &[0], Only(&[(b'c', 4)])),
+            State(4, 3, 6, &[1], Only(&[(b'd', 5)])),
+            State(5, 4, 6, &[2], Only(&[])),
+            State(6, 0, 0, &[], All(6, &[(b'a', 8), (b'b', 2)])),
+            State(7, 0, 0, &[], All(1, &[(b'a', 8), (b'b', 2)])),
+            State(8, 1, 6, &[], Only(&[(b'b', 3)])),
         ],
-        classes: &[
-            (0, 0),
-            (b'`', 0),
-            (b'a', 1),
-            (b'b', 2),
-            (b'c', 3),
-            (b'd', 4),
-            (b'e', 5),
-            (255, 5),
-        ],
+        classes: (b"\x00`abcde\xff", &[0, 0, 1, 2, 3, 4, 5, 5]),
+        ..PLAIN
     },
     Kept {
         shows: "each state fails to the longest suffix that begins a pattern (he, she, his, hers; h, s, sh, hi, her)",
         patterns: &[b"he", b"she", b"his", b"hers"],
-        kind: Standard,
-        letters: Cased,
-        prefilter: (Off, false),
-        bounds: Bounds {
-            last_match: 5,
-            last_special: 5,
-            start: 6,
-            anchored_start: 7,
-            states: 13,
-        },
+        bounds: [5, 5, 6, 7, 13],
         states: &[
-            State {
-                number: 2,
-                depth: 2,
-                fails_to: 6,
-                matches: &[0],
-                leads: Only(&[(b'r', 12)]),
-            },
-            State {
-                number: 3,
-                depth: 3,
-                fails_to: 2,
-                matches: &[1, 0],
-                leads: Only(&[]),
-            },
-            State {
-                number: 4,
-                depth: 3,
-                fails_to: 9,
-                matches: &[2],
-                leads: Only(&[]),
-            },
-            State {
-                number: 5,
-                depth: 4,
-                fails_to: 9,
-                matches: &[3],
-                leads: Only(&[]),
-            },
-            State {
-                number: 6,
-                depth: 0,
-                fails_to: 0,
-                matches: &[],
-                leads: All(6, &[(b'h', 8), (b's', 9)]),
-            },
-            State {
-                number: 8,
-                depth: 1,
-                fails_to: 6,
-                matches: &[],
-                leads: Only(&[(b'e', 2), (b'i', 11)]),
-            },
-            State {
-                number: 9,
-                depth: 1,
-                fails_to: 6,
-                matches: &[],
-                leads: Only(&[(b'h', 10)]),
-            },
-            State {
-                number: 10,
-                depth: 2,
-                fails_to: 8,
-                matches: &[],
-                leads: Only(&[(b'e', 3)]),
-            },
-            State {
-                number: 11,
-                depth: 2,
-                fails_to: 6,
-                matches: &[],
-                leads: Only(&[(b's', 4)]),
-            },
-            State {
-                number: 12,
-                depth: 3,
-                fails_to: 6,
-                matches: &[],
-                leads: Only(&[(b's', 5)]),
-            },
+            State(2, 2, 6, &[0], Only(&[(b'r', 12)])),
+            State(3, 3, 2, &[1, 0], Only(&[])),
+            State(4, 3, 9, &[2], Only(&[])),
+            State(5, 4, 9, &[3], Only(&[])),
+            State(6, 0, 0, &[], All(6, &[(b'h', 8), (b's', 9)])),
+            State(8, 1, 6, &[], Only(&[(b'e', 2), (b'i', 11)])),
+            State(9, 1, 6, &[], Only(&[(b'h', 10)])),
+            State(10, 2, 8, &[], Only(&[(b'e', 3)])),
+            State(11, 2, 6, &[], Only(&[(b's', 4)])),
+            State(12, 3, 6, &[], Only(&[(b's', 5)])),
         ],
-        classes: &[],
+        ..PLAIN
     },
     Kept {
         shows: "no patterns: no state matches",
         patterns: &[],
-        kind: Standard,
-        letters: Cased,
         prefilter: (On, false),
-        bounds: Bounds {
-            last_match: 1,
-            last_special: 1,
-            start: 2,
-            anchored_start: 3,
-            states: 4,
-        },
-        states: &[State {
-            number: 2,
-            depth: 0,
-            fails_to: 0,
-            matches: &[],
-            leads: All(2, &[]),
-        }],
-        classes: &[(0, 0), (255, 0)],
+        bounds: [1, 1, 2, 3, 4],
+        states: &[State(2, 0, 0, &[], All(2, &[]))],
+        classes: (b"\x00\xff", &[0, 0]),
+        ..PLAIN
     },
 ];

@@ -3,11 +3,22 @@ use super::{Row, Table};
 use crate::answers::Asks::{List, Walk};
 use crate::answers::Text::{Bound, Whole};
 use crate::engines::Letters::{Cased, Folded};
+use crate::engines::Pick;
 use ac_input::search::MatchKind::{LeftmostFirst, LeftmostLongest, Standard};
 
-const APPEND: &[&[u8]] = &[b"append", b"appendage", b"app"];
+/// Words that begin one another, a sentence of them, and all of their occurrences in it.
+pub const APPEND: &[&[u8]] = &[b"append", b"appendage", b"app"];
 
-const SENTENCE: &[u8] = b"append the app to the appendage";
+pub const SENTENCE: &[u8] = b"append the app to the appendage";
+
+pub const LISTED: &[Pick] = &[
+    (2, 0, 3),
+    (0, 0, 6),
+    (2, 11, 14),
+    (2, 22, 25),
+    (0, 22, 28),
+    (1, 22, 31),
+];
 
 const APPLES: &[u8] = b"Nobody likes maple in their apple flavored Snapple.";
 
@@ -46,14 +57,7 @@ pub const TABLES: &[Table<'static>] = &[
                 shows: "all of the words that begin one another occur",
                 asks: List,
                 text: Whole(SENTENCE),
-                gives: &[
-                    (2, 0, 3),
-                    (0, 0, 6),
-                    (2, 11, 14),
-                    (2, 22, 25),
-                    (0, 22, 28),
-                    (1, 22, 31),
-                ],
+                gives: LISTED,
             },
             Row {
                 shows: "anchored, those that begin the sentence occur",

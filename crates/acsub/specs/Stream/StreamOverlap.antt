@@ -7,7 +7,7 @@ use Rattle.ac_automaton.specs.Devices.Buffer.{least_room}
 use Rattle.ac_automaton.specs.Devices.Moved.{AreFilled, HasGiven, HasTaken}
 use Rattle.ac_automaton.specs.Stream.{CanBeCounted}
 use Rattle.ac_automaton.specs.Stream.StreamListing.{IsAllListed, IsOnListing, ListingProgress, all_read, occurrences_in}
-use Rattle.ac_automaton.specs.Stream.StreamOverlappingIter.{listing_of_stream, reader_listed}
+use Rattle.ac_automaton.specs.Stream.StreamOverlappingIter.{stream_listed, reader_listed}
 use Rattle.ac_automaton.specs.declared.error.StreamError.{StreamError}
 use Rattle.ac_automaton.specs.declared.stream.overlapping.StreamFindOverlappingIter.{StreamFindOverlappingIter}
 use Rattle.ac_automaton.specs.declared.watched.Watched.{Watched}
@@ -29,11 +29,11 @@ ListsEvery remaining contents b reader_before reader_after writer_before writer_
 module _ {R : Type 0} where
   -- what was read and written while the iterator went from one state to the other
   abbrev pub ListsEveryOn : {W : Type 0} → (R → Option (List ℕ)) → (W → Option (List ℕ)) → StreamFindOverlappingIter AhoCorasick R → StreamFindOverlappingIter AhoCorasick R → Watched W → Watched W → Result (Unit {0}) StreamError → Type 0
-  ListsEveryOn remaining contents from to before after result = ListsEvery remaining contents (listing_of_stream from).built (reader_listed from) (reader_listed to) before after result
+  ListsEveryOn remaining contents from to before after result = ListsEvery remaining contents (stream_listed from).built (reader_listed from) (reader_listed to) before after result
 
   -- what the steps between the iterator's two states cost
   abbrev pub CostsEveryOn : {E : Type 0} → StreamFindOverlappingIter AhoCorasick R → StreamFindOverlappingIter AhoCorasick R → Steps → Steps → Result (Unit {0}) E → Type 0
-  CostsEveryOn from to before after result = CostsSearch (listing_of_stream from).built (reader_listed from) (reader_listed to) before after result
+  CostsEveryOn from to before after result = CostsSearch (stream_listed from).built (reader_listed from) (reader_listed to) before after result
 
 -- ---- what holds at each point of a list
 

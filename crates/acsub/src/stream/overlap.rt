@@ -9,7 +9,7 @@ ghost use Rattle.std.specs.Prelude.{◌≡◌, [], false, IfErr, OnOk};
 ghost use Rattle.ac_automaton.specs.Devices.Moved.{NoneTouched};
 ghost use Rattle.ac_automaton.specs.Stream.{CanBeCounted, CanStream};
 ghost use Rattle.ac_automaton.specs.Stream.StreamListing.{IsAllListed, IsOnListing, ListingStays, ListsOnCourse, all_read, fresh_listing};
-ghost use Rattle.ac_automaton.specs.Stream.StreamOverlappingIter.{KeepsListedReader, listing_of_stream, reader_listed, reader_listed_name};
+ghost use Rattle.ac_automaton.specs.Stream.StreamOverlappingIter.{KeepsListedReader, stream_listed, reader_listed, reader_listed_name};
 ghost use Rattle.ac_automaton.specs.Stream.StreamReplace.{IsBegun};
 ghost use Rattle.ac_automaton.specs.declared.stream.StreamKinds.TheVariants.{OnlyStandard};
 ghost use Rattle.aho_corasick.specs.AhoCorasick.{as_built, supported_by};
@@ -36,17 +36,17 @@ fn write_each<R: Read, W: Write>(
     writer: &mut Watched<W>,
     steps: &mut Steps,
 ) -> Result<(), StreamError>
-    requires countable { CanBeCounted (all_read (listing_of_stream iter.old)) }
-    requires course { IsOnListing (listing_of_stream iter.old) }
+    requires countable { CanBeCounted (all_read (stream_listed iter.old)) }
+    requires course { IsOnListing (stream_listed iter.old) }
     requires empty { output.old ≡ [] }
-    ensures writes { WritesLines W.contents found.now (listing_of_stream iter.old).given
-        (listing_of_stream iter.new).given writer.old writer.new [] result }
-    ensures unread { ListingStays (listing_of_stream iter.old) (listing_of_stream iter.new) }
-    ensures all { OnOk result (IsAllListed (listing_of_stream iter.new)) }
+    ensures writes { WritesLines W.contents found.now (stream_listed iter.old).given
+        (stream_listed iter.new).given writer.old writer.new [] result }
+    ensures unread { ListingStays (stream_listed iter.old) (stream_listed iter.new) }
+    ensures all { OnOk result (IsAllListed (stream_listed iter.new)) }
     ensures none { output.new ≡ [] }
     ensures reader { KeepsListedReader iter.old iter.new }
-    ensures goes { ListsOnCourse (listing_of_stream iter.old)
-        (listing_of_stream iter.new) steps.old steps.new }
+    ensures goes { ListsOnCourse (stream_listed iter.old)
+        (stream_listed iter.new) steps.old steps.new }
 {
     output.send(writer, Line::new(found).as_bytes())?;
     while let Some(next) = iter.next_held_counted(steps) {
@@ -62,8 +62,8 @@ fn list_each<R: Read, W: Write>(
     writer: &mut Watched<W>,
     steps: &mut Steps,
 ) -> Result<(), StreamError>
-    requires fresh { listing_of_stream iter.old ≡ fresh_listing (listing_of_stream iter.old).built }
-    requires course { IsOnListing (listing_of_stream iter.old) }
+    requires fresh { stream_listed iter.old ≡ fresh_listing (stream_listed iter.old).built }
+    requires course { IsOnListing (stream_listed iter.old) }
     requires empty { output.old ≡ [] }
     requires unended { (reader_listed iter.old).ended ≡ false }
     ensures lists { ListsEveryOn R.remaining W.contents iter.old iter.new

@@ -139,9 +139,9 @@ pub record IsFindCost (b : Built) (asked : Asked) (before after : Steps) (r : Op
   pub counted : HasCounted (prefilter_for b asked.anchored) (come_at_least (searched b asked) r - asked.span.start) before after
 
 -- the result is the match that the search finds, if any, or an error if its anchoring has no start
-abbrev pub AnswersFind : Dictionary → (Anchored → Type 0) → Asked → Result (Option Occurrence) MatchErrorKind → Type 0
-AnswersFind m supports asked (Ok r) = supports asked.anchored × IsBest (asked_kind m.kind asked.earliest) (search_of m asked.anchored asked.haystack asked.span) r
-AnswersFind m supports asked (Err error) = (¬ supports asked.anchored × (error ≡ refusal_of asked.anchored))
+abbrev pub Finds : Dictionary → (Anchored → Type 0) → Asked → Result (Option Occurrence) MatchErrorKind → Type 0
+Finds m supports asked (Ok r) = supports asked.anchored × IsBest (asked_kind m.kind asked.earliest) (search_of m asked.anchored asked.haystack asked.span) r
+Finds m supports asked (Err error) = (¬ supports asked.anchored × (error ≡ refusal_of asked.anchored))
 
 -- what a find may cost; an error costs nothing
 abbrev pub CostsFind : Built → Asked → Steps → Steps → Result (Option Occurrence) MatchErrorKind → Type 0

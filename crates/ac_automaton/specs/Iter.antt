@@ -7,7 +7,7 @@ use Rattle.ac_input.specs.declared.search.MatchKind.TheVariants.{Standard}
 use Rattle.ac_input.specs.declared.steps.Steps.{Steps}
 use Rattle.ac_input.specs.Computed.{walk_after}
 use Rattle.ac_input.specs.Input.{Asked}
-use Rattle.ac_input.specs.Occurrence.{Search, Occurrence, starting_at}
+use Rattle.ac_input.specs.Occurrence.{Search, Occurrence}
 use Rattle.ac_input.specs.Steps.{Done}
 use Rattle.ac_input.specs.Walk.{IsPick}
 use Rattle.ac_input.specs.Work.{CountsBytes, HasCounted, bytes_counted, come_at_least, lookups_per_byte, longest, shortest, over_at}
@@ -97,10 +97,6 @@ pub record IsNextWork (w : Walk) (r : Option Occurrence) (before after : Steps) 
   pub pick : IsPickWork (walk_kind w) w.built.deterministic (searched w.built w.asked) w.at r before after
   pub idle : w.asked.span.end < w.at → after ≡ before
 
--- the next pick costs no more than one pick may, and the walk counts what it costs
-abbrev pub CostsPick : Walk → Walk → Steps → Steps → Option Occurrence → Type 0
-CostsPick w v before after r = WalkCounts w v before after × IsNextWork w r before after
-
 -- how many bytes of the span a walk has passed
 abbrev pub passed : Walk → ℕ
 passed w = min w.at w.asked.span.end - w.asked.span.start
@@ -112,11 +108,11 @@ pub record IsWithinBudget (w : Walk) : Type 0 where
   pub scanned : w.scanned ≤ 256 * passed w
   pub moved : w.moved ≡ 0
 
--- If no pattern is empty, the next pick of a walk that stands at a place counts each byte that it passes.
-abbrev pub PickCounts : Built → Asked → ℕ → Option Occurrence → Steps → Steps → Type 0
-PickCounts b asked at r before after =
+-- If no pattern is empty, the next pick of a search that stands at the start of its span counts each byte that it passes.
+abbrev pub PickCounts : Built → Asked → Option Occurrence → Steps → Steps → Type 0
+PickCounts b asked r before after =
     1 ≤ shortest b.dictionary.patterns
-    → HasCounted (prefilter_for b asked.anchored) (come_at_least (starting_at (searched b asked) at) r - at) before after
+    → HasCounted (prefilter_for b asked.anchored) (come_at_least (searched b asked) r - asked.span.start) before after
 
 -- If a walk isn't anchored and no pattern is empty, it has counted each byte of the span that it has passed.
 abbrev pub CountsWalk : Walk → Type 0
@@ -126,8 +122,12 @@ CountsWalk w =
 
 -- the next pick counts each byte that it passes, and the walk after it has counted each byte that it has passed
 pub record CountsPick (w v : Walk) (before after : Steps) (r : Option Occurrence) : Type 0 where
-  pub pick : PickCounts w.built w.asked w.at r before after
+  pub pick : PickCounts w.built (record w.asked { span = record w.asked.span { start = w.at } }) r before after
   pub walk : CountsWalk v
+
+-- the next pick costs no more than one pick may, the walk counts what it costs, and each byte that is passed is counted
+abbrev pub CostsPick : Walk → Walk → Steps → Steps → Option Occurrence → Type 0
+CostsPick w v before after r = WalkCounts w v before after × IsNextWork w r before after × CountsPick w v before after r
 
 -- what holds of a walk wherever it stands
 pub record IsOnItsWay (w : Walk) : Type 0 where

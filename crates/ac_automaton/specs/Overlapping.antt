@@ -167,21 +167,16 @@ CameFrom b Reaches matches asked state =
     ⊎ ((place : Position) × (state.place ≡ Some place) × StandsAt (Reaches asked.anchored) matches b.dictionary b.deterministic (searched b asked) place state.shown.value state.sums
     × IsCountedTo b asked (stands_at_least (searched b asked) place) state.sums)
 
--- a call showed the next occurrence of the listing, if there was one
-pub record ShowsNext (b : Built) (asked : Asked) (before after : OverlappingState) : Type 0 where
-  pub found : after.found ≡ slice_get (listing_in b asked) before.shown.value
-  pub shown : after.shown.value ≡ and_one after.found before.shown.value
-
 -- All calls with a state together counted each byte of the span up to the end of the last occurrence shown. If nothing was left and
 -- the search isn't anchored, they counted every byte of the span.
 abbrev pub CountsShown : Built → Asked → OverlappingState → Type 0
 CountsShown b asked state = IsCountedTo b asked (come_at_least (searched b asked) state.found) state.sums
 
--- as much was done between the first two counts as between the other two
-pub record DoneAlike (before after one another : Steps) : Type 0 where
-  pub looked : after.looked.value + one.looked.value ≡ before.looked.value + another.looked.value
-  pub scanned : after.scanned.value + one.scanned.value ≡ before.scanned.value + another.scanned.value
-  pub moved : after.moved.value + one.moved.value ≡ before.moved.value + another.moved.value
+-- A call showed the next occurrence of the listing, if there was one, and each byte up to its end was counted.
+pub record ShowsNext (b : Built) (asked : Asked) (before after : OverlappingState) : Type 0 where
+  pub found : after.found ≡ slice_get (listing_in b asked) before.shown.value
+  pub shown : after.shown.value ≡ and_one after.found before.shown.value
+  pub counted : CountsShown b asked after
 
 -- an overlapping search of this input is supported: there is a start for its anchoring, and the kind is the standard one
 abbrev pub CanOverlap : Built → (Anchored → Type 0) → Asked → Type 0
@@ -197,8 +192,3 @@ IsOverlappingRefusal b supports asked error =
 abbrev pub AnswersOverlapping : Built → (Anchored → Type 0) → Asked → OverlappingState → OverlappingState → Result (Unit {0}) MatchErrorKind → Type 0
 AnswersOverlapping b supports asked before after (Ok done) = CanOverlap b supports asked × ShowsNext b asked before after
 AnswersOverlapping b supports asked before after (Err error) = IsOverlappingRefusal b supports asked error × (after ≡ before)
-
--- What a call costs: all calls with a state cost no more than one search, and the state counts what the call did.
-abbrev pub CostsOverlapping : Built → Asked → OverlappingState → OverlappingState → Steps → Steps → Result (Unit {0}) MatchErrorKind → Type 0
-CostsOverlapping b asked from to before after (Ok done) = IsOverlappingCost b asked to.sums × DoneAlike from.sums to.sums before after
-CostsOverlapping b asked from to before after (Err error) = IsOverlappingCost b asked to.sums × (after ≡ before)

@@ -16,14 +16,14 @@ pub mod reference;
 
 use crate::ahead::Note;
 use crate::error::{MatchError, ReplaceError, StreamError};
-use crate::iter::ahead::{self, FindIterAhead};
+use crate::iter::ahead::FindIterAhead;
 use crate::iter::{FindIter, WalkPlace};
 use crate::overlapping::{FindOverlappingIter, OverlappingState};
 use crate::search::Search;
 use crate::stream::overlapping::{self as stream_overlapping, StreamFindOverlappingIter};
 use crate::stream::{self, StreamFindIter, StreamKinds, StreamReplacer, StreamSearch};
 use crate::watched::Watched;
-use crate::{iter, overlapping, replace};
+use crate::{overlapping, replace};
 use ac_input::primitives::{PatternID, StateID};
 use ac_input::search::{Anchored, Input, Match, MatchKind};
 use ac_input::steps::Steps;
@@ -42,7 +42,7 @@ pub struct Advance {
 
 /// An automaton that finds patterns in a text.
 pub trait Automaton {
-    ghost use Rattle.std.specs.Prelude.{◌≡◌, ◌≢◌, ℕ, ◌<◌, ◌≤◌, ◌↔◌, Bool, false, List, [], ◌∷◌, length, map, take, IsTrue, IfOk, OnOk, get_or, Option, slice_get, option_map, ◌+◌};
+    ghost use Rattle.std.specs.Prelude.{◌≡◌, ◌≢◌, ℕ, ◌<◌, ◌≤◌, ◌↔◌, Bool, false, List, [], ◌∷◌, length, map, take, IsTrue, IfOk, get_or, Option, slice_get, option_map, ◌+◌};
     ghost use Rattle.ac_input.specs.declared.search.Anchored.{Anchored};
     ghost use Rattle.ac_input.specs.Number.{StateID};
     ghost use Rattle.ac_input.specs.Input.{is_anchored};
@@ -50,16 +50,16 @@ pub trait Automaton {
     ghost use Rattle.ac_input.specs.Dictionary.{IsLive};
     ghost use Rattle.ac_input.specs.Tells.{Tells};
     ghost use Rattle.ac_input.specs.Work.{longest, shortest};
-    ghost use Rattle.ac_automaton.specs.Automaton.{Built, IsReached, IsState, AtEach, Leads, IsReadCost, TellsDead, TellsStart, IsSpecial, Advances, AdvancesToMatch, OwnsPrefilter, AnswersStart, AnswersFind, CostsFind};
+    ghost use Rattle.ac_automaton.specs.Automaton.{Built, IsReached, IsState, AtEach, Leads, IsReadCost, TellsDead, TellsStart, IsSpecial, Advances, AdvancesToMatch, OwnsPrefilter, AnswersStart, Finds, CostsFind};
     ghost use Rattle.ac_automaton.specs.Ahead.{AreNotes};
     ghost use Rattle.ac_automaton.specs.Iter.{AnswersFindIter, AnswersFindIterFrom, IsPlaceIn, left_of};
-    ghost use Rattle.ac_automaton.specs.Overlapping.{CameFrom, CountsShown, IsOverlappingCost, AnswersOverlapping};
-    ghost use Rattle.ac_automaton.specs.Overlapping.OverlappingIter.{AnswersOverlappingIter, rest_of};
+    ghost use Rattle.ac_automaton.specs.Overlapping.{CameFrom, IsOverlappingCost, AnswersOverlapping};
+    ghost use Rattle.ac_automaton.specs.Overlapping.OverlappingIter.{AnswersListing, rest_of};
     ghost use Rattle.ac_automaton.specs.Items.{AreFewForEach, MatchesAreInOrder, EachLiesWithin, FindsWithin};
     ghost use Rattle.ac_automaton.specs.Stream.{AnswersNew};
-    ghost use Rattle.ac_automaton.specs.Stream.StreamIter.{AnswersStreamIter};
+    ghost use Rattle.ac_automaton.specs.Stream.StreamIter.{FindsStream};
     ghost use Rattle.ac_automaton.specs.Stream.StreamOverlappingIter.{AnswersStreamListing};
-    ghost use Rattle.ac_automaton.specs.Stream.StreamReplace.{AcceptsReplacing, CostsStream, ReplacesStream};
+    ghost use Rattle.ac_automaton.specs.Stream.StreamReplace.{AcceptsStream, CostsStream, ReplacesStream};
     ghost use Rattle.ac_automaton.specs.Stream.StreamReplaceWith.{ReplacesStreamWith};
     ghost use Rattle.ac_automaton.specs.Stream.StreamReplacer.{AnswersReplacer};
     ghost use Rattle.ac_automaton.specs.declared.stream.StreamKinds.TheVariants.{AnyKind, OnlyStandard};
@@ -284,7 +284,7 @@ pub trait Automaton {
     final fn try_find(&self, input: &Input<'_>) -> Result<Option<Match>, MatchError>
     where
         Self: Search,
-        ensures answer { AnswersFind (built self.now).dictionary (supports self.now) input.now result }
+        ensures answer { Finds (built self.now).dictionary (supports self.now) input.now result }
         ensures within { FindsWithin (built self.now).dictionary input.now result }
     {
         let mut steps = Steps::new();
@@ -299,7 +299,7 @@ pub trait Automaton {
     ) -> Result<Option<Match>, MatchError>
     where
         Self: Search,
-        ensures answer { AnswersFind (built self.now).dictionary (supports self.now) input.now result }
+        ensures answer { Finds (built self.now).dictionary (supports self.now) input.now result }
         ensures within { FindsWithin (built self.now).dictionary input.now result }
         ensures cost { CostsFind (built self.now) input.now steps.old steps.new result }
     {
@@ -317,7 +317,8 @@ pub trait Automaton {
         ensures few { IfOk result (λ w. length (left_of w) ≤ length input.entry.haystack + 1) }
         ensures lie { IfOk result (MatchesAreInOrder (built self.now) input.entry) }
     {
-        iter::find_iter(self, input)
+        let start = input.start();
+        self.try_find_iter_from(input, WalkPlace { start, last: None })
     }
 
     /// The matches of the input from a place on at which a walk over it stands, as [`FindIter::place`] returned it. Returns an error
@@ -332,7 +333,8 @@ pub trait Automaton {
         requires { IsPlaceIn input place }
         ensures { AnswersFindIterFrom (built self.now) (supports self.now) input.entry place result }
     {
-        iter::find_iter_from(self, input, place)
+        self.start_state(input.get_anchored())?;
+        Ok(FindIter::from_place(self, input, place))
     }
 
     /// The same matches from a place on, for many of them in a long text: see [`FindIterAhead`].
@@ -346,7 +348,8 @@ pub trait Automaton {
         requires { IsPlaceIn input place }
         ensures { AnswersFindIterFrom (built self.now) (supports self.now) input.entry place result }
     {
-        ahead::find_iter_ahead_from(self, input, place)
+        let start = self.start_state(input.get_anchored())?;
+        Ok(FindIterAhead::from_place(self, input, place, start))
     }
 
     /// The same matches, for many of them in a long text with hundreds of patterns and more: see [`FindIterAhead`].
@@ -360,7 +363,8 @@ pub trait Automaton {
         ensures few { IfOk result (λ w. length (left_of w) ≤ length input.entry.haystack + 1) }
         ensures lie { IfOk result (MatchesAreInOrder (built self.now) input.entry) }
     {
-        ahead::find_iter_ahead(self, input)
+        let start = input.start();
+        self.try_find_iter_ahead_from(input, WalkPlace { start, last: None })
     }
 
     /// Finds the next occurrence of the search of the input, in the order of end, start and number, and stores it in the state;
@@ -383,10 +387,8 @@ pub trait Automaton {
         ensures answer { AnswersOverlapping (built self.now) (supports self.now) input.now
             state.old state.new result }
         ensures cost { IsOverlappingCost (built self.now) input.now state.new.sums }
-        ensures counted { OnOk result (CountsShown (built self.now) input.now state.new) }
     {
-        let mut steps = Steps::new();
-        overlapping::find_overlapping(self, input, state, &mut steps)
+        overlapping::find_overlapping(self, input, state)
     }
 
     /// All occurrences in the input, one after another; see [`FindOverlappingIter`].
@@ -398,7 +400,7 @@ pub trait Automaton {
     ) -> Result<FindOverlappingIter<'a, 'h, Self>, MatchError>
     where
         Self: Sized + Search,
-        ensures answer { AnswersOverlappingIter (built self.now) (supports self.now) input.entry
+        ensures answer { AnswersListing (built self.now) (supports self.now) input.entry
             result }
         ensures few { IfOk result (AreFewForEach (built self.now) input.entry) }
         ensures lie { IfOk result (EachLiesWithin rest_of (built self.now) input.entry) }
@@ -420,10 +422,10 @@ pub trait Automaton {
     where
         Self: Sized + Search,
         requires { reader.old.ended ≡ false }
-        ensures { AnswersStreamIter OnlyStandard (built self.now) (supports self.now) reader.entry
+        ensures { FindsStream OnlyStandard (built self.now) (supports self.now) reader.entry
             result }
     {
-        stream::stream_find_iter(reader, self, alloc)
+        stream::stream_find_iter(reader, self, StreamKinds::OnlyStandard, alloc)
     }
 
     /// The same under any kind: under a leftmost one each match is returned once it is decided, so that no byte that follows can
@@ -443,10 +445,10 @@ pub trait Automaton {
     where
         Self: Sized + Search,
         requires { reader.old.ended ≡ false }
-        ensures { AnswersStreamIter AnyKind (built self.now) (supports self.now) reader.entry
+        ensures { FindsStream AnyKind (built self.now) (supports self.now) reader.entry
             result }
     {
-        stream::stream_find_iter_any_kind(reader, self, alloc)
+        stream::stream_find_iter(reader, self, StreamKinds::AnyKind, alloc)
     }
 
     /// A search of a stream whose pieces are pushed when they come: see [`StreamSearch`]. It searches under any kind, as
@@ -596,8 +598,7 @@ pub trait Automaton {
             ≡ length (built self.now).dictionary.patterns }
         ensures replaced { ReplacesStream R.remaining W.contents (built self.now)
             (map (λ r. r.now) replacements.now) reader.old reader.new writer.old writer.new result }
-        ensures accepted { AcceptsReplacing OnlyStandard (built self.now) (supports self.now)
-            reader.old reader.new writer.old writer.new result }
+        ensures accepted { AcceptsStream OnlyStandard (built self.now) (supports self.now) result }
     {
         let mut steps = Steps::new();
         self.try_stream_replace_all_counted(alloc, reader, writer, replacements, &mut steps)
@@ -620,8 +621,7 @@ pub trait Automaton {
             ≡ length (built self.now).dictionary.patterns }
         ensures replaced { ReplacesStream R.remaining W.contents (built self.now)
             (map (λ r. r.now) replacements.now) reader.old reader.new writer.old writer.new result }
-        ensures accepted { AcceptsReplacing OnlyStandard (built self.now) (supports self.now)
-            reader.old reader.new writer.old writer.new result }
+        ensures accepted { AcceptsStream OnlyStandard (built self.now) (supports self.now) result }
         ensures cost { CostsStream (built self.now) reader.old reader.new
             steps.old steps.new result }
     {
@@ -688,8 +688,7 @@ pub trait Automaton {
             ≡ length (built self.now).dictionary.patterns }
         ensures replaced { ReplacesStream R.remaining W.contents (built self.now)
             (map (λ r. r.now) replacements.now) reader.old reader.new writer.old writer.new result }
-        ensures accepted { AcceptsReplacing AnyKind (built self.now) (supports self.now)
-            reader.old reader.new writer.old writer.new result }
+        ensures accepted { AcceptsStream AnyKind (built self.now) (supports self.now) result }
     {
         let mut steps = Steps::new();
         self.try_stream_replace_all_any_kind_counted(
@@ -718,8 +717,7 @@ pub trait Automaton {
             ≡ length (built self.now).dictionary.patterns }
         ensures replaced { ReplacesStream R.remaining W.contents (built self.now)
             (map (λ r. r.now) replacements.now) reader.old reader.new writer.old writer.new result }
-        ensures accepted { AcceptsReplacing AnyKind (built self.now) (supports self.now)
-            reader.old reader.new writer.old writer.new result }
+        ensures accepted { AcceptsStream AnyKind (built self.now) (supports self.now) result }
         ensures cost { CostsStream (built self.now) reader.old reader.new
             steps.old steps.new result }
     {

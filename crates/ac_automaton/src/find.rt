@@ -14,7 +14,7 @@
 //! A prefilter may return the match itself. It is the best of the automaton's kind, so an earliest search, which stops at the
 //! first end, uses only its place and walks from there.
 ghost use Rattle.std.specs.Prelude.{◌≡◌, ◌≢◌, ◌↔◌, ℕ, ◌<◌, ◌≤◌, List, [], IfSome, IsTrue, Some};
-ghost use Rattle.ac_automaton.specs.Automaton.{AnswersFind, CostsFind, IsFindCost, IsFound, IsState, kind_asked};
+ghost use Rattle.ac_automaton.specs.Automaton.{Finds, CostsFind, IsFindCost, IsFound, IsState, kind_asked};
 ghost use Rattle.ac_automaton.specs.Cursor.{IsFirstAt, IsReachedWithin, IsTaken, IsWholeTaken, ReadsFurther, StandsIn};
 ghost use Rattle.ac_automaton.specs.Find.{BackIsEmpty, CandidateCounts, CandidateEnds, IsCandidateCost, IsSearchCost, IsUsable, IsWalkCost, SearchCounts, WalkLooks, WalkSays};
 ghost use Rattle.ac_automaton.specs.Items.{FindsWithin};
@@ -290,7 +290,7 @@ pub fn find<A: Automaton>(
     input: &Input<'_>,
     steps: &mut Steps,
 ) -> Result<Option<Match>, MatchError>
-    ensures answer { AnswersFind (A.built automaton.now).dictionary (A.supports automaton.now) input.now result }
+    ensures answer { Finds (A.built automaton.now).dictionary (A.supports automaton.now) input.now result }
     ensures within { FindsWithin (A.built automaton.now).dictionary input.now result }
     ensures cost { CostsFind (A.built automaton.now) input.now steps.old steps.new result }
 {

@@ -9,18 +9,16 @@
 //! a match, by as much as the longest pattern, before it knows that it is the one; it reads those bytes again.
 //!
 //! Where a walk stands is two numbers, a [`WalkPlace`]. A caller who can't keep an iterator keeps the place, and goes on from there
-//! by [`find_iter_from`].
-ghost use Rattle.std.specs.Prelude.{◌≡◌, ◌↔◌, ◌≤◌, IfOk, IfSome, IsTrue, length, ◌+◌};
+//! by [`Automaton::try_find_iter_from`].
+ghost use Rattle.std.specs.Prelude.{◌≡◌, ◌↔◌, ◌≤◌, IfSome, IsTrue};
 ghost use Rattle.std.specs.Iterator.{YieldsFirst, item_count};
 ghost use Rattle.ac_input.specs.Walk.{Repeats};
 ghost use Rattle.ac_automaton.specs.Automaton.{IsFound, IsFindCost};
-ghost use Rattle.ac_automaton.specs.Iter.{AnswersFindIter, AnswersFindIterFrom, GivesPick, CostsPick, left_of, IsPickOf, IsPickCost, IsPlaceIn, IsRestOf, IsOnItsWay, CountsPick, PickCounts};
-ghost use Rattle.ac_automaton.specs.Items.{MatchesAreInOrder};
+ghost use Rattle.ac_automaton.specs.Iter.{GivesPick, CostsPick, left_of, IsPickOf, IsPickCost, IsPlaceIn, IsRestOf, IsOnItsWay, PickCounts, walk_from_place};
 
 pub mod ahead;
 
 use crate::automaton::Automaton;
-use crate::error::MatchError;
 use crate::search::Search;
 use ac_input::history::Count;
 use ac_input::search::{Input, Match};
@@ -62,44 +60,6 @@ pub struct WalkPlace {
     pub last: Option<usize>,
 }
 
-/// The matches of the input from a place on at which a walk over it stands: those that are left of that walk. What it does is counted
-/// from there.
-pub fn find_iter_from<'a, 'h, A: Search>(
-    automaton: &'a A,
-    input: Input<'h>,
-    place: WalkPlace,
-) -> Result<FindIter<'a, 'h, A>, MatchError>
-    requires { IsPlaceIn input place }
-    ensures { AnswersFindIterFrom (A.built automaton.now) (A.supports automaton.now) input.entry place
-        result }
-{
-    automaton.start_state(input.get_anchored())?;
-    let mut input = input;
-    input.set_start(place.start);
-    let first = Count::zero().more(&place.start);
-    Ok(FindIter {
-        automaton,
-        input,
-        last: place.last,
-        first,
-        sums: Steps::new(),
-    })
-}
-
-/// All matches of the input, one after another.
-pub fn find_iter<'a, 'h, A: Search>(
-    automaton: &'a A,
-    input: Input<'h>,
-) -> Result<FindIter<'a, 'h, A>, MatchError>
-    ensures answer { AnswersFindIter (A.built automaton.now) (A.supports automaton.now) input.entry
-        result }
-    ensures few { IfOk result (λ w. length (left_of w) ≤ length input.entry.haystack + 1) }
-    ensures lie { IfOk result (MatchesAreInOrder (A.built automaton.now) input.entry) }
-{
-    let start = input.start();
-    find_iter_from(automaton, input, WalkPlace { start, last: None })
-}
-
 /// The match of an input that the automaton supports.
 fn best<A: Search>(automaton: &A, input: &Input<'_>, steps: &mut Steps) -> Option<Match>
     requires { A.supports automaton.now input.now.anchored }
@@ -132,8 +92,7 @@ pub(crate) fn next_pick<A: Search>(
     ensures pick { IsPickOf (A.built automaton.now) input.old last result }
     ensures asked { IsRestOf input.old input.new }
     ensures work { IsPickCost (A.built automaton.now) input.old steps.old steps.new result }
-    ensures counts { PickCounts (A.built automaton.now) input.old input.old.span.start result
-        steps.old steps.new }
+    ensures counts { PickCounts (A.built automaton.now) input.old result steps.old steps.new }
 {
     let found = best(automaton, input, steps);
     if !repeats(last, &found) {
@@ -147,7 +106,30 @@ pub(crate) fn next_pick<A: Search>(
 }
 
 impl<'a, 'h, A: Search> FindIter<'a, 'h, A> {
-    /// Where the walk stands. [`find_iter_from`] goes on from there.
+    /// The matches of the input from a place on at which a walk over it stands: those that are left of that walk. What it does is
+    /// counted from there.
+    pub(crate) fn from_place(
+        automaton: &'a A,
+        input: Input<'h>,
+        place: WalkPlace,
+    ) -> FindIter<'a, 'h, A>
+        requires supported { A.supports automaton.now input.anchored }
+        requires place { IsPlaceIn input place }
+        ensures { result ≡ walk_from_place (A.built automaton.now) input.entry place }
+    {
+        let mut input = input;
+        input.set_start(place.start);
+        let first = Count::zero().more(&place.start);
+        FindIter {
+            automaton,
+            input,
+            last: place.last,
+            first,
+            sums: Steps::new(),
+        }
+    }
+
+    /// Where the walk stands. [`Automaton::try_find_iter_from`] goes on from there.
     pub fn place(&self) -> WalkPlace
         ensures value { result ≡ (record { start = self.now.at; last = self.now.last }) }
         ensures within { IsPlaceIn self.now.asked result }
@@ -163,7 +145,6 @@ impl<'a, 'h, A: Search> FindIter<'a, 'h, A> {
         ensures gives { GivesPick self.old result self.new }
         ensures cost { CostsPick self.old self.new steps.old steps.new result }
         ensures kept { IsOnItsWay self.new }
-        ensures counted { CountsPick self.old self.new steps.old steps.new result }
     {
         if self.input.is_done() {
             return None;

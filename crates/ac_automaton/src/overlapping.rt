@@ -11,9 +11,9 @@
 //!
 //! The caller keeps the place of a search between two calls, in an [`OverlappingState`]. It belongs to one automaton and one input
 //! from its first search on. [`FindOverlappingIter`] keeps all three together, and what it read ahead.
-ghost use Rattle.std.specs.Prelude.{◌≡◌, ⊤, None, OnOk, Some};
+ghost use Rattle.std.specs.Prelude.{◌≡◌, ⊤, None, Some};
 ghost use Rattle.ac_input.specs.Steps.{Added};
-ghost use Rattle.ac_automaton.specs.Overlapping.{IsFreshState, CostsOverlapping, CountsShown, and_one};
+ghost use Rattle.ac_automaton.specs.Overlapping.{IsFreshState, IsOverlappingCost, and_one};
 ghost use Rattle.ac_automaton.specs.Overlapping.OverlappingSearch.{AnswersCall, CameFromCalls};
 
 mod ahead;
@@ -141,28 +141,24 @@ pub(crate) fn with_found(shown: &Count, found: &Option<Match>) -> Count
     }
 }
 
-/// Finds the next occurrence of the search of the input, if there is one more, stores it in the state, and counts what it does.
+/// Finds the next occurrence of the search of the input, if there is one more, and stores it in the state.
 ///
 /// All calls with one state together look at the states of one walk over the span. Returns an error if the automaton has no start
 /// for the input's anchoring, or isn't of the standard kind; the state is then unchanged.
-pub fn find_overlapping<A: Search>(
+pub(crate) fn find_overlapping<A: Search>(
     automaton: &A,
     input: &Input<'_>,
     state: &mut OverlappingState,
-    steps: &mut Steps,
 ) -> Result<(), MatchError>
     requires { CameFromCalls A.Automaton automaton.now input.now state.old }
     ensures came { CameFromCalls A.Automaton automaton.now input.now state.new }
     ensures answer { AnswersCall A.Automaton automaton.now input.now state.old state.new result }
-    ensures cost { CostsOverlapping (A.built automaton.now) input.now state.old state.new
-        steps.old steps.new result }
-    ensures counted { OnOk result (CountsShown (A.built automaton.now) input.now state.new) }
+    ensures cost { IsOverlappingCost (A.built automaton.now) input.now state.new.sums }
 {
     let beginning = begin(automaton, input)?;
     let place = state.place.unwrap_or(beginning.place);
     let mut done = Steps::new();
     let shown = automaton.search_overlapping(input, beginning.start, place, &mut done);
     state.keep(shown, &done);
-    steps.add(&done);
     Ok(())
 }

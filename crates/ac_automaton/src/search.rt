@@ -23,7 +23,7 @@ pub trait Search: Automaton {
     ghost use Rattle.ac_input.specs.declared.search.Anchored.TheVariants.{No};
     ghost use Rattle.ac_input.specs.declared.search.MatchKind.TheVariants.{Standard};
     ghost use Rattle.ac_automaton.specs.Ahead.{AreNotes};
-    ghost use Rattle.ac_automaton.specs.Automaton.{AnswersFind, CostsFind, IsFindCost, IsFound};
+    ghost use Rattle.ac_automaton.specs.Automaton.{Finds, CostsFind, IsFindCost, IsFound};
     ghost use Rattle.ac_automaton.specs.FindAhead.{AreNotesOf, MayReadAhead};
     ghost use Rattle.ac_automaton.specs.Items.{FindsWithin};
     ghost use Rattle.ac_automaton.specs.Overlapping.OverlappingSearch.{CountsOn, HasLeft, KeepsPaying, ShowsNextAt};
@@ -32,7 +32,7 @@ pub trait Search: Automaton {
 
     /// The match of the input, if it has one, as [`Automaton::try_find_counted`] returns it; counts what it does.
     fn search(&self, input: &Input<'_>, steps: &mut Steps) -> Result<Option<Match>, MatchError>
-        ensures answer { AnswersFind (Self.built self.now).dictionary (Self.supports self.now) input.now result }
+        ensures answer { Finds (Self.built self.now).dictionary (Self.supports self.now) input.now result }
         ensures within { FindsWithin (Self.built self.now).dictionary input.now result }
         ensures cost { CostsFind (Self.built self.now) input.now steps.old steps.new result }
     {

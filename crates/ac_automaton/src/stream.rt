@@ -18,8 +18,7 @@
 ghost use Rattle.std.specs.Prelude.{◌≡◌, false};
 ghost use Rattle.std.specs.Borrow.{sem};
 ghost use Rattle.ac_automaton.specs.Stream.{FindsHeld, GoesOn};
-ghost use Rattle.ac_automaton.specs.Stream.StreamIter.{AnswersStreamIter, GivesItem, KeepsReader, RestsIfRefused, TurnGives, progress_of, reader_name, reader_of};
-ghost use Rattle.ac_automaton.specs.declared.stream.StreamKinds.TheVariants.{AnyKind, OnlyStandard};
+ghost use Rattle.ac_automaton.specs.Stream.StreamIter.{FindsStream, GivesItem, KeepsReader, RestsIfRefused, TurnGives, progress_of, reader_name, reader_of};
 
 pub mod overlapping;
 pub(crate) mod replace;
@@ -41,7 +40,8 @@ use std::io::Read;
 /// How much room a buffer for the bytes of a stream has at least: 64 KiB.
 pub const LEAST_ROOM: usize = 65536;
 
-/// The kinds that a search of a stream accepts. No public call takes it: a call for any kind has a name of its own. Clauses cite it.
+/// The kinds that a search of a stream accepts. [`stream_find_iter`] takes it; of the other calls, one for any kind has a name of its
+/// own. Clauses cite it.
 #[derive(Clone, Copy, PartialEq, Eq)]
 pub enum StreamKinds {
     /// The standard kind alone, under which a match is decided with its last byte.
@@ -77,40 +77,12 @@ enum Turn {
     Failed(StreamError),
 }
 
-/// The matches of a stream, one after another: as [`try_stream_find_iter`](crate::automaton::Automaton::try_stream_find_iter), but
-/// the reader is the first parameter. Call this one where your own contract speaks of the reader: it says that the reader is
-/// unchanged if the search returns an error. A contract can say what becomes of a borrowed value only for the first parameter.
-pub fn stream_find_iter<'a, A: Search, R>(
-    reader: &'a mut Watched<R>,
-    automaton: &'a A,
-    alloc: Global,
-) -> Result<StreamFindIter<'a, A, R>, StreamError>
-    requires { reader.old.ended ≡ false }
-    ensures* rests { sem 𝓛 (RestsIfRefused R.row reader.entry result) }
-    ensures answer { AnswersStreamIter OnlyStandard (A.built automaton.now)
-        (A.supports automaton.now) reader.entry result }
-{
-    find_iter_of_kinds(reader, automaton, StreamKinds::OnlyStandard, alloc)
-}
-
-/// The same under any kind: as
+/// The matches of a stream, one after another, of an automaton of one of these kinds: as
+/// [`try_stream_find_iter`](crate::automaton::Automaton::try_stream_find_iter) and
 /// [`try_stream_find_iter_any_kind`](crate::automaton::Automaton::try_stream_find_iter_any_kind), but the reader is the first
-/// parameter.
-pub fn stream_find_iter_any_kind<'a, A: Search, R>(
-    reader: &'a mut Watched<R>,
-    automaton: &'a A,
-    alloc: Global,
-) -> Result<StreamFindIter<'a, A, R>, StreamError>
-    requires { reader.old.ended ≡ false }
-    ensures* rests { sem 𝓛 (RestsIfRefused R.row reader.entry result) }
-    ensures answer { AnswersStreamIter AnyKind (A.built automaton.now) (A.supports automaton.now)
-        reader.entry result }
-{
-    find_iter_of_kinds(reader, automaton, StreamKinds::AnyKind, alloc)
-}
-
-/// The matches of a stream, one after another, under one of these kinds.
-fn find_iter_of_kinds<'a, A: Search, R>(
+/// parameter. Call this one where your own contract speaks of the reader: it says that the reader is unchanged if the search returns
+/// an error. A contract can say what becomes of a borrowed value only for the first parameter.
+pub fn stream_find_iter<'a, A: Search, R>(
     reader: &'a mut Watched<R>,
     automaton: &'a A,
     kinds: StreamKinds,
@@ -118,7 +90,7 @@ fn find_iter_of_kinds<'a, A: Search, R>(
 ) -> Result<StreamFindIter<'a, A, R>, StreamError>
     requires { reader.old.ended ≡ false }
     ensures* rests { sem 𝓛 (RestsIfRefused R.row reader.entry result) }
-    ensures answer { AnswersStreamIter kinds (A.built automaton.now) (A.supports automaton.now)
+    ensures answer { FindsStream kinds (A.built automaton.now) (A.supports automaton.now)
         reader.entry result }
 {
     let stream = StreamSearch::new(automaton, kinds, alloc)?;

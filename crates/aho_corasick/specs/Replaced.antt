@@ -13,8 +13,8 @@ use Rattle.aho_corasick.specs.AhoCorasick.{as_built}
 abbrev pub IsReplacedText : AhoCorasick → List ℕ → List (List ℕ) → String Global → Type 0
 IsReplacedText ac haystack replacements text = string_bytes text ≡ replaced_from 0 haystack replacements (text_matches_in (as_built ac) haystack)
 
-abbrev pub AreReplacedBytes : AhoCorasick → List ℕ → List (List ℕ) → Vec ℕ → Type 0
-AreReplacedBytes ac haystack replacements bytes = bytes.items ≡ replaced_from 0 haystack replacements (matches_in (as_built ac) haystack)
+abbrev pub IsReplacedBytes : AhoCorasick → List ℕ → List (List ℕ) → Vec ℕ → Type 0
+IsReplacedBytes ac haystack replacements bytes = bytes.items ≡ replaced_from 0 haystack replacements (matches_in (as_built ac) haystack)
 
 -- The destination holds what the closure makes of these matches of the haystack, or what it had made of them when memory ran out.
 abbrev pub Appends : {F D : Type 0} → (D → List ℕ) → MemoryReplacer F D → List ℕ → List Occurrence → F → D → D → Result (Unit {0}) AllocError → Type 0

@@ -1,6 +1,6 @@
 -- Which automaton serves under the settings of a builder, what is built, and why a build fails.
 use Rattle.std.specs.Prelude.{◌≡◌, ◌≢◌, ◌⊎◌, ℕ, ◌<◌, ◌≤◌, length, List, Option, None, Some, Result, Ok, Err}
-use Rattle.ac_input.specs.declared.search.StartKind.TheVariants.{Both}
+use Rattle.ac_input.specs.declared.search.StartKind.TheVariants.{Both, Unanchored}
 use Rattle.ac_input.specs.Dfa.{IsDfaTooLarge}
 use Rattle.ac_input.specs.Dictionary.{Dictionary}
 use Rattle.ac_input.specs.Limits.{IsWithinLimits}
@@ -22,7 +22,7 @@ use Rattle.aho_corasick.specs.declared.ahocorasick.AhoCorasickKind.{AhoCorasickK
 use Rattle.aho_corasick.specs.declared.ahocorasick.AhoCorasickKind.TheVariants.{NoncontiguousNFA, ContiguousNFA, DFA}
 use Rattle.aho_corasick.specs.declared.ahocorasick.builder.AhoCorasickBuilder.{AhoCorasickBuilder}
 use Rattle.aho_corasick.specs.declared.engine.Engine.{Engine}
-use Rattle.aho_corasick.specs.AhoCorasick.{as_built, serving_engine, settings_of}
+use Rattle.aho_corasick.specs.AhoCorasick.{as_built, serving_engine, settings_of, start_kind_of}
 use Rattle.aho_corasick.specs.Builder.{AreFrontDefaults, front_dictionary}
 use Rattle.aho_corasick.specs.Engine.{kind_served}
 use Rattle.aho_corasick.specs.Made.{IsMadeBy}
@@ -86,9 +86,12 @@ IsDictionaryRefused b m error = IsBuildRefused m error ⊎ IsNamedTooLarge b m e
 abbrev pub IsFrontBuildRefused : AhoCorasickBuilder → List (List ℕ) → BuildErrorKind → Type 0
 IsFrontBuildRefused b patterns error = IsDictionaryRefused b (front_dictionary b.settings patterns) error
 
--- an automaton that is built under the default settings, and why none is
-abbrev pub IsFrontBuiltByDefault : List (List ℕ) → AhoCorasick → Type 0
-IsFrontBuiltByDefault patterns ac = (b : AhoCorasickBuilder) × AreFrontDefaults b × IsFrontBuilt b patterns ac
+-- an automaton that is built under the default settings, which are for searches that aren't anchored; and why none is
+pub record IsFrontBuiltByDefault (patterns : List (List ℕ)) (ac : AhoCorasick) : Type 0 where
+  pub builder : AhoCorasickBuilder
+  pub defaults : AreFrontDefaults builder
+  pub built : IsFrontBuilt builder patterns ac
+  pub starts : start_kind_of ac ≡ Unanchored
 
 abbrev pub IsFrontRefusedByDefault : List (List ℕ) → BuildErrorKind → Type 0
 IsFrontRefusedByDefault patterns error = (b : AhoCorasickBuilder) × AreFrontDefaults b × IsFrontBuildRefused b patterns error

@@ -1,5 +1,5 @@
 -- The next pick of a walk, what it costs, and what it leaves of the walk.
-use Rattle.std.proofs.Common.{◌≡◌, ℕ, ◌+◌, ◌-◌, ◌*◌, ◌<◌, ◌≤◌, Bool, List, [], ◌∷◌, length, Option, None, Some, IfSome, add-zero, if◌then◌else◌, slice_get, zero, suc, refl, sym, ap, subst, ◌∙◌, arith}
+use Rattle.std.proofs.Common.{◌≡◌, ℕ, ◌+◌, ◌-◌, ◌*◌, ◌<◌, ◌≤◌, Bool, true, false, List, [], ◌∷◌, length, Option, None, Some, IfSome, add-zero, if◌then◌else◌, slice_get, zero, suc, refl, sym, ap, subst, ◌∙◌, arith}
 use Rattle.std.proofs.Math.Nat.{mul-le-mul_left}
 use Rattle.std.proofs.lemmas.Option.{same_Some, none-some}
 use Rattle.std.specs.Iterator.{YieldsFirst, MakesProgress, item_count}
@@ -7,6 +7,7 @@ use Rattle.ac_input.specs.declared.search.MatchKind.{MatchKind}
 use Rattle.ac_input.specs.declared.search.MatchKind.TheVariants.{Standard}
 use Rattle.ac_input.specs.declared.steps.Steps.{Steps}
 use Rattle.ac_input.specs.Best.{IsBest, asked_kind}
+use Rattle.ac_input.specs.Candidate.{Filter}
 use Rattle.ac_input.specs.Input.{Asked, is_anchored, search_of}
 use Rattle.ac_input.specs.declared.search.Anchored.{Anchored}
 use Rattle.ac_input.specs.Occurrence.{Search, Occurrence, Occurs, starting_at}
@@ -112,24 +113,34 @@ yields-progress w v (Some o) h = let longer = ap length h in record { on = λ _.
 
 -- ---- what is counted
 
+-- past the span no byte is left to pass, whether the search is anchored or not
+none-left : (anchored : Bool) (at end : ℕ) → end < at → (if anchored then at else end) - at ≡ 0
+none-left true at end past = omega arith
+none-left false at end past = omega arith
+
+-- no byte is counted
+none-counted : (filter : Option Filter) (n : ℕ) (x : Steps) → n ≡ 0 → HasCounted filter n x x
+none-counted filter n x none = record { least = λ counts. omega arith }
+
 -- past the span a pick costs nothing
-pub idle-cost : (w : Walk) (x : Steps) → w.asked.span.end < w.at → CostsPick w w x x None
-idle-cost w x past = (
+pub idle-cost : (w : Walk) (x : Steps) → w.asked.span.end < w.at → CountsWalk w → CostsPick w w x x None
+idle-cost w x past had = (
   (0, 0, 0, record { looked = sym (add-zero _); scanned = sym (add-zero _); moved = sym (add-zero _) }, sym (add-zero _), sym (add-zero _), sym (add-zero _)),
   record {
     pick = record { looked = omega arith; standard = λ k. omega arith; leftmost = λ some o e. absurd (none-some o e); scanned = omega arith; moved = refl };
     idle = λ _. refl;
   },
+  record { pick = λ some. none-counted (prefilter_for w.built w.asked.anchored) _ x (none-left (is_anchored w.asked.anchored) w.at w.asked.span.end past); walk = had },
 )
 
 -- after its next pick, a walk has counted each byte that lies before it
 walk-counts-on : (w v : Walk) (r : Option Occurrence) (start done : Steps) → (v ≡ record (walk_after_pick w r) { looked = v.looked; scanned = v.scanned; moved = v.moved }) → w.asked.span.start ≤ w.at → w.at ≤ w.asked.span.end
     → AreNone start → v.looked ≡ w.looked + done.looked.value → v.scanned ≡ w.scanned + done.scanned.value
-    → PickCounts w.built w.asked w.at r start done → CountsWalk w → CountsWalk v
+    → PickCounts w.built (record w.asked { span = record w.asked.span { start = w.at } }) r start done → CountsWalk w → CountsWalk v
 walk-counts-on w v r start done after begun within none looked scanned counts had =
     subst CountsWalk (sym after) (by r counts)
   where
-    by : (r : Option Occurrence) → PickCounts w.built w.asked w.at r start done → CountsWalk (record (walk_after_pick w r) { looked = v.looked; scanned = v.scanned; moved = v.moved })
+    by : (r : Option Occurrence) → PickCounts w.built (record w.asked { span = record w.asked.span { start = w.at } }) r start done → CountsWalk (record (walk_after_pick w r) { looked = v.looked; scanned = v.scanned; moved = v.moved })
     by None counts = λ free some bytes.
         let more : HasCounted w.built.prefilter (w.asked.span.end - w.at) start done =
         subst (λ (a : Anchored). HasCounted (prefilter_for w.built a) ((if is_anchored a then w.at else w.asked.span.end) - w.at) start done) free (counts some) in
@@ -142,10 +153,37 @@ walk-counts-on w v r start done after begun within none looked scanned counts ha
         sums-more w.built.prefilter (passed w) (o.end - w.at) _ w.looked w.scanned v.looked v.scanned start done (omega arith) none looked scanned before (λ _. more) bytes
 
 -- The next pick, added from fresh steps, is counted in the walk and in the steps.
-pub pick-counted : (w v : Walk) (r : Option Occurrence) (start done before after : Steps) → (v ≡ record (walk_after_pick w r) { looked = v.looked; scanned = v.scanned; moved = v.moved }) → w.asked.span.start ≤ w.at → w.at ≤ w.asked.span.end
+pick-counted : (w v : Walk) (r : Option Occurrence) (start done before after : Steps) → (v ≡ record (walk_after_pick w r) { looked = v.looked; scanned = v.scanned; moved = v.moved }) → w.asked.span.start ≤ w.at → w.at ≤ w.asked.span.end
     → AreNone start → Added done before after → v.looked ≡ w.looked + done.looked.value → v.scanned ≡ w.scanned + done.scanned.value
-    → PickCounts w.built w.asked w.at r start done → CountsWalk w → CountsPick w v before after r
+    → PickCounts w.built (record w.asked { span = record w.asked.span { start = w.at } }) r start done → CountsWalk w → CountsPick w v before after r
 pick-counted w v r start done before after goes begun within none added looked scanned counts had = record {
   pick = λ some. counted-moved (prefilter_for w.built w.asked.anchored) _ start done before after none added (counts some);
   walk = walk-counts-on w v r start done goes begun within none looked scanned counts had;
 }
+
+-- the work of a pick, added from fresh steps
+work-added : (kind : MatchKind) (deterministic : Bool) (s : Search) (at : ℕ) (r : Option Occurrence) (start done before after : Steps) → AreNone start → Added done before after
+    → IsPickWork kind deterministic (starting_at s at) at r start done → IsPickWork kind deterministic s at r before after
+work-added kind deterministic s at r start done before after none added work =
+    let same = over-wherever s at r in
+    record {
+      looked = omega (arith, work.looked, none.looked, added.looked);
+      standard = λ k. let a = subst (λ (over : ℕ). done.looked.value ≤ start.looked.value + lookups_per_byte deterministic * (over - at)) same (work.standard k) in omega (arith, none.looked, added.looked);
+      leftmost = λ some o is. omega (arith, work.leftmost some o is, none.looked, added.looked);
+      scanned = let a = subst (λ (over : ℕ). done.scanned.value ≤ start.scanned.value + 256 * (over - at)) same work.scanned in omega (arith, none.scanned, added.scanned);
+      moved = omega (arith, work.moved, none.moved, added.moved);
+    }
+
+-- A pick from fresh steps, which are added to the walk's and to those of the caller, costs no more than the next pick may.
+pub pick-costs : (w v : Walk) (r : Option Occurrence) (start done before after : Steps) → (v ≡ record (walk_after_pick w r) { looked = v.looked; scanned = v.scanned; moved = v.moved }) → w.asked.span.start ≤ w.at → w.at ≤ w.asked.span.end
+    → AreNone start → Added done before after → v.looked ≡ w.looked + done.looked.value → v.scanned ≡ w.scanned + done.scanned.value → v.moved ≡ w.moved + done.moved.value
+    → IsPickWork (walk_kind w) w.built.deterministic (starting_at (searched w.built w.asked) w.at) w.at r start done
+    → PickCounts w.built (record w.asked { span = record w.asked.span { start = w.at } }) r start done → CountsWalk w → CostsPick w v before after r
+pick-costs w v r start done before after goes begun within none added looked scanned moved work counts had = (
+  (done.looked.value, done.scanned.value, done.moved.value, added, looked, scanned, moved),
+  record {
+    pick = work-added (walk_kind w) w.built.deterministic (searched w.built w.asked) w.at r start done before after none added work;
+    idle = λ past. absurd (omega arith);
+  },
+  pick-counted w v r start done before after goes begun within none added looked scanned counts had,
+)

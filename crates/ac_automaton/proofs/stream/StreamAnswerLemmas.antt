@@ -13,7 +13,7 @@ use Rattle.ac_input.specs.Work.{longest, lookups_per_byte}
 use Rattle.ac_automaton.specs.Replace.{matches_in}
 use Rattle.ac_automaton.specs.Automaton.{Built}
 use Rattle.ac_automaton.specs.Stream.{CanStream, IsStreamRefusal, StreamProgress, again_for, fresh_progress, read_again, read_by, read_in_all}
-use Rattle.ac_automaton.specs.Stream.StreamReplace.{AcceptsReplacing, CostsStream, HasSearched, IsStreamCost, IsBegun, ReplacesStream}
+use Rattle.ac_automaton.specs.Stream.StreamReplace.{AcceptsStream, CostsStream, HasSearched, IsStreamCost, IsBegun, ReplacesStream}
 use Rattle.ac_automaton.specs.declared.error.StreamError.{StreamError}
 use Rattle.ac_automaton.specs.declared.error.StreamError.TheVariants.{Config, Read, Write, WriteZero, Memory, Position}
 use Rattle.ac_automaton.specs.declared.stream.StreamKinds.{StreamKinds}
@@ -24,31 +24,31 @@ use Rattle.ac_automaton.proofs.stream.StreamReplaceLemmas.{given-none, taken-non
 pub nothing-moved : {R W : Type 0} (remaining : R → Option (List ℕ)) (contents : W → Option (List ℕ)) (kinds : StreamKinds) (b : Built) (supports : Anchored → Type 0) (replacements : List (List ℕ)) (reader : Watched R) (writer : Watched W) (error : StreamError)
     → IsStreamRefusal kinds b supports error → ReplacesStream remaining contents b replacements reader reader writer writer (Err error)
 nothing-moved remaining contents kinds b supports replacements reader writer (Config error) refused =
-    (record { pieces = []; failed_reads = 0; taken = []; failed_writes = 0; stalled_writes = 0 }, record { reader = given-none remaining reader; writer = taken-none contents writer }, λ k d lt. absurd (omega arith), record { pieces = refl; taken = refl; failed = (refl, refl, refl) })
+    (record { pieces = []; failed_reads = 0; taken = []; failed_writes = 0; stalled_writes = 0 }, record { reader = given-none remaining reader; writer = taken-none contents writer }, λ k d lt. absurd (omega arith), record { pieces = refl; taken = refl; failed = (refl, refl, refl) }, inr (refl, refl))
 nothing-moved remaining contents kinds b supports replacements reader writer (Read error) refused = absurd refused
 nothing-moved remaining contents kinds b supports replacements reader writer (Write error) refused = absurd refused
 nothing-moved remaining contents kinds b supports replacements reader writer WriteZero refused = absurd refused
 nothing-moved remaining contents kinds b supports replacements reader writer Memory refused =
-    (record { pieces = []; failed_reads = 0; taken = []; failed_writes = 0; stalled_writes = 0 }, record { reader = given-none remaining reader; writer = taken-none contents writer }, λ k d lt. absurd (omega arith), record { pieces = refl; taken = refl; failed = (refl, refl, refl) })
+    (record { pieces = []; failed_reads = 0; taken = []; failed_writes = 0; stalled_writes = 0 }, record { reader = given-none remaining reader; writer = taken-none contents writer }, λ k d lt. absurd (omega arith), record { pieces = refl; taken = refl; failed = (refl, refl, refl) }, inr (refl, refl))
 nothing-moved remaining contents kinds b supports replacements reader writer Position refused = absurd refused
 
 -- why it did not begin
-pub not-begun : {R W : Type 0} (kinds : StreamKinds) (b : Built) (supports : Anchored → Type 0) (reader : Watched R) (writer : Watched W) (error : StreamError) → IsStreamRefusal kinds b supports error → AcceptsReplacing kinds b supports reader reader writer writer (Err error)
-not-begun kinds b supports reader writer (Config error) refused = (refused, (refl, refl))
-not-begun kinds b supports reader writer (Read error) refused = absurd refused
-not-begun kinds b supports reader writer (Write error) refused = absurd refused
-not-begun kinds b supports reader writer WriteZero refused = absurd refused
-not-begun kinds b supports reader writer Memory refused = (refused, (refl, refl))
-not-begun kinds b supports reader writer Position refused = absurd refused
+pub not-begun : (kinds : StreamKinds) (b : Built) (supports : Anchored → Type 0) (error : StreamError) → IsStreamRefusal kinds b supports error → AcceptsStream kinds b supports (Err error)
+not-begun kinds b supports (Config error) refused = refused
+not-begun kinds b supports (Read error) refused = absurd refused
+not-begun kinds b supports (Write error) refused = absurd refused
+not-begun kinds b supports WriteZero refused = absurd refused
+not-begun kinds b supports Memory refused = refused
+not-begun kinds b supports Position refused = absurd refused
 
 -- an error that came later
-pub begun-later : {R W : Type 0} (kinds : StreamKinds) (b : Built) (supports : Anchored → Type 0) (r0 r1 : Watched R) (w0 w1 : Watched W) (error : StreamError) → CanStream kinds b supports → IsBegun error → AcceptsReplacing kinds b supports r0 r1 w0 w1 (Err error)
-begun-later kinds b supports r0 r1 w0 w1 (Config error) can begun = absurd begun
-begun-later kinds b supports r0 r1 w0 w1 (Read error) can begun = can
-begun-later kinds b supports r0 r1 w0 w1 (Write error) can begun = can
-begun-later kinds b supports r0 r1 w0 w1 WriteZero can begun = can
-begun-later kinds b supports r0 r1 w0 w1 Memory can begun = absurd begun
-begun-later kinds b supports r0 r1 w0 w1 Position can begun = can
+begun-later : (kinds : StreamKinds) (b : Built) (supports : Anchored → Type 0) (error : StreamError) → CanStream kinds b supports → IsBegun error → AcceptsStream kinds b supports (Err error)
+begun-later kinds b supports (Config error) can begun = absurd begun
+begun-later kinds b supports (Read error) can begun = can
+begun-later kinds b supports (Write error) can begun = can
+begun-later kinds b supports WriteZero can begun = can
+begun-later kinds b supports Memory can begun = absurd begun
+begun-later kinds b supports Position can begun = can
 
 -- a replacement that did not begin cost nothing
 pub cost-none : {R : Type 0} (b : Built) (reader : Watched R) (steps : Steps) (error : StreamError) → CostsStream b reader reader steps steps (Err error)
@@ -101,7 +101,7 @@ cost-read b s t r0 r1 before after result fresh begun h =
     let cost = cost-pieces b s t r0 r1 before after result fresh h in
     (cost.0, cost.1, cost.2, cost.3, came-later result before after begun)
 
--- the same for a result
-pub accepted-later : {R W : Type 0} (kinds : StreamKinds) (b : Built) (supports : Anchored → Type 0) (r0 r1 : Watched R) (w0 w1 : Watched W) (result : Result (Unit {0}) StreamError) → CanStream kinds b supports → IfErr result IsBegun → AcceptsReplacing kinds b supports r0 r1 w0 w1 result
-accepted-later kinds b supports r0 r1 w0 w1 (Ok done) can begun = can
-accepted-later kinds b supports r0 r1 w0 w1 (Err error) can begun = begun-later kinds b supports r0 r1 w0 w1 error can begun
+-- a result that came later
+pub accepted-later : (kinds : StreamKinds) (b : Built) (supports : Anchored → Type 0) (result : Result (Unit {0}) StreamError) → CanStream kinds b supports → IfErr result IsBegun → AcceptsStream kinds b supports result
+accepted-later kinds b supports (Ok done) can begun = can
+accepted-later kinds b supports (Err error) can begun = begun-later kinds b supports error can begun

@@ -17,7 +17,7 @@ use Rattle.ac_automaton.specs.Devices.Moved.{AreFilled, AreInTurn, AreWhole, but
 use Rattle.ac_automaton.specs.Overlapping.OverlappingIter.{fresh_run}
 use Rattle.ac_automaton.specs.Stream.{CanBeCounted}
 use Rattle.ac_automaton.specs.Stream.StreamListing.{IsAllListed, IsOnListing, ListingCounts, ListingProgress, ListingReads, ListingReadsMore, ListingStays, ListsHeld, all_read, occurrences_in, searched_by}
-use Rattle.ac_automaton.specs.Stream.StreamOverlappingIter.{HadListed, IsListingStopped, ListingGained, ListsItem, NextLists, StaysListed, listing_of_stream, most_listed, occurrences_left, read_before}
+use Rattle.ac_automaton.specs.Stream.StreamOverlappingIter.{HadListed, IsListingStopped, ListingGained, ListsItem, NextLists, StaysListed, stream_listed, most_listed, occurrences_left, read_before}
 use Rattle.ac_automaton.specs.declared.error.StreamError.{StreamError}
 use Rattle.ac_automaton.specs.declared.error.StreamError.TheVariants.{Config, Read, Write, WriteZero, Memory, Position}
 use Rattle.ac_automaton.specs.declared.stream.overlapping.StreamFindOverlappingIter.{StreamFindOverlappingIter}
@@ -442,7 +442,7 @@ failed-leaves remaining s t before after Position next goes =
     by (g ∷ gs) turns some = turns.0
 
 -- each call that returns an item leaves fewer
-pub occurrences-fewer : {A R : Type 0} (remaining : R → Option (List ℕ)) (i j : StreamFindOverlappingIter A R) (r : Option (Result Occurrence StreamError)) → ListsItem remaining i j r → IsOnListing (listing_of_stream j) → MakesProgress (λ _. Unit {0}) (λ k. at_most (most_listed k)) i r j
+pub occurrences-fewer : {A R : Type 0} (remaining : R → Option (List ℕ)) (i j : StreamFindOverlappingIter A R) (r : Option (Result Occurrence StreamError)) → ListsItem remaining i j r → IsOnListing (stream_listed j) → MakesProgress (λ _. Unit {0}) (λ k. at_most (most_listed k)) i r j
 occurrences-fewer remaining i j None lists course = record { on = λ _. tt; keeps = tt; rests = λ _. tt }
 occurrences-fewer remaining i j (Some (Ok o)) lists course = record { on = λ _. (tt, tt, found-leaves remaining i.stream j.stream i.reader.now j.reader.now o lists.0 course); keeps = tt; rests = λ _. tt }
 occurrences-fewer remaining i j (Some (Err error)) lists course = record { on = λ _. (tt, tt, failed-leaves remaining i.stream j.stream i.reader.now j.reader.now error lists.0 goes); keeps = tt; rests = λ _. tt }

@@ -15,7 +15,7 @@ use Rattle.ac_input.specs.Work.{shortest, longest}
 use Rattle.ac_input.proofs.lemmas.TextLemmas.{pick-occurs}
 use Rattle.ac_input.proofs.lemmas.WalkLemmas.{pick-within}
 use Rattle.ac_automaton.specs.Automaton.{Built}
-use Rattle.ac_automaton.specs.Devices.Moved.{AllFit, AreFilled, AreWhole, HasGiven, HasMoved, HasTaken, Moved, but_last}
+use Rattle.ac_automaton.specs.Devices.Moved.{AllFit, AreFilled, AreWhole, HasGiven, HasMoved, HasTaken, Moved, NoneTouched, but_last}
 use Rattle.ac_automaton.specs.Devices.Output.{Sends, Sent, Stopped}
 use Rattle.ac_automaton.specs.Replace.{LieInOrder, matches_in}
 use Rattle.ac_automaton.specs.Stream.{AreAllGiven, CanBeCounted, Decides, HasRead, ReadsNothing, closed_by, may_wait, IsNear, IsOnCourse, ReadsMore, StreamProgress, cut_of, fresh_progress, read_by, room_of, IsFront}
@@ -237,6 +237,7 @@ module _ {R W : Type 0} (remaining : R → Option (List ℕ)) (contents : W → 
             written = subst (λ (x : List ℕ). IsFront b.dictionary (replaced_in b replacements) x (text_to s replacements at)) (sym same) (front-at_cut b replacements s at h.built h.place h.unclosed);
             failed = (fails, refl, refl);
           },
+          inl tt,
         )
 
     -- the input is too long
@@ -252,6 +253,7 @@ module _ {R W : Type 0} (remaining : R → Option (List ℕ)) (contents : W → 
             written = subst (λ (x : List ℕ). IsBeginning x (replaced_in b replacements (read_by t))) same-text of_built;
             failed = (fails, refl, refl);
           },
+          inl tt,
         )
 
   module _ (t : StreamProgress) (at : ℕ) (r0 r1 : Watched R) (w0 w w1 : Watched W) (h : IsReading contents replacements b t at w0 w) (given : HasGiven remaining r0 r1 t.pieces 0) where
@@ -288,6 +290,7 @@ module _ {R W : Type 0} (remaining : R → Option (List ℕ)) (contents : W → 
     -- what holds after a write that failed
     failed-write : (bytes : List ℕ) (stalls : ℕ) → IsBeginning (text_to t replacements at ++ bytes) (replaced_in t.built replacements (read_by t)) → (stopped : Stopped contents w w1 [] bytes) → w1.stalls.value ≡ w.stalls.value + stalls
         → (m : Moved) × HasMoved remaining contents r0 r1 w0 w1 m × AllFit (room_of b) m.pieces × WroteToFailedWrite (replaced_in b replacements) (IsFront b.dictionary (replaced_in b replacements)) m stalls
+        × (Unit {0} ⊎ NoneTouched r0 r1 w0 w1)
     failed-write bytes stalls begin stopped stalled =
         let front = text_to t replacements at in
         let order : stopped.gained ++ stopped.lost ≡ bytes = stopped.order in
@@ -301,6 +304,7 @@ module _ {R W : Type 0} (remaining : R → Option (List ℕ)) (contents : W → 
           record { reader = given; writer = taken-stopped contents w0 w w1 front bytes stalls stopped h.written stalled },
           pieces-fit b t h.built h.placed.course,
           record { at_least = (h.front.0, h.front.1, (h.front.2.0 ++ stopped.gained, ap (λ (x : List ℕ). x ++ stopped.gained) h.front.2.1 ∙ append_assoc h.front.0 h.front.2.0 stopped.gained)); at_most = (stopped.lost ++ begin.0, split); failed = (refl, refl, refl) },
+          inl tt,
         )
 
     -- a write failed
@@ -335,6 +339,7 @@ module _ {R W : Type 0} (remaining : R → Option (List ℕ)) (contents : W → 
             written = rest-text all ∙ ap (λ (c : Built). replaced_in c replacements (read_by t)) h.built;
             failed = (refl, refl, refl);
           },
+          tt,
         )
 
     -- the rest of the text could not be written

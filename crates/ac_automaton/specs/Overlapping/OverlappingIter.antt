@@ -53,6 +53,6 @@ CountsRun run r =
     → come_at_least (searched run.built run.asked) r - run.asked.span.start ≤ bytes_counted (prefilter_for run.built run.asked.anchored) run.looked run.scanned
 
 -- the result is a run through all occurrences that has not begun, or an error if an unanchored one isn't supported
-abbrev pub AnswersOverlappingIter : Built → (Anchored → Type 0) → Asked → Result Run MatchErrorKind → Type 0
-AnswersOverlappingIter b supports asked (Ok run) = (CanOverlap b supports asked × (asked.anchored ≡ No)) × (run ≡ fresh_run b asked) × (rest_of run ≡ listing_in b asked)
-AnswersOverlappingIter b supports asked (Err error) = IsOverlappingRefusal b supports asked error ⊎ (CanOverlap b supports asked × (asked.anchored ≡ Yes) × (error ≡ InvalidInputAnchored))
+abbrev pub AnswersListing : Built → (Anchored → Type 0) → Asked → Result Run MatchErrorKind → Type 0
+AnswersListing b supports asked (Ok run) = (CanOverlap b supports asked × (asked.anchored ≡ No)) × (run ≡ fresh_run b asked) × (rest_of run ≡ listing_in b asked)
+AnswersListing b supports asked (Err error) = IsOverlappingRefusal b supports asked error ⊎ (CanOverlap b supports asked × (asked.anchored ≡ Yes) × (error ≡ InvalidInputAnchored))

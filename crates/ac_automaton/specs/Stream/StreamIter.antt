@@ -130,9 +130,9 @@ module _ {A R : Type 0} where
 
   -- The iterator has read nothing yet, and holds the reader that it borrowed, by the same reference; or the error says why none was
   -- made.
-  abbrev pub AnswersStreamIter : StreamKinds → Built → (Anchored → Type 0) → MutBor (Watched R) → Result (StreamFindIter A R) StreamError → Type 0
-  AnswersStreamIter kinds b supports lent (Ok i) = CanStream kinds b supports × (progress_of i ≡ fresh_progress b) × (reader_of i ≡ lent.now) × (reader_name i ≡ lent.ghost_name)
-  AnswersStreamIter kinds b supports lent (Err error) = IsStreamRefusal kinds b supports error
+  abbrev pub FindsStream : StreamKinds → Built → (Anchored → Type 0) → MutBor (Watched R) → Result (StreamFindIter A R) StreamError → Type 0
+  FindsStream kinds b supports lent (Ok i) = CanStream kinds b supports × (progress_of i ≡ fresh_progress b) × (reader_of i ≡ lent.now) × (reader_name i ≡ lent.ghost_name)
+  FindsStream kinds b supports lent (Err error) = IsStreamRefusal kinds b supports error
 
 -- If no iterator was made, the reader is unchanged. Otherwise the iterator holds the reference to it, and the reader's final value
 -- is the last one under that name.

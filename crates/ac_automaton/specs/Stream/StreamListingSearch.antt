@@ -1,5 +1,6 @@
 -- What a search of a stream for every occurrence keeps between its calls, and how it goes on over the bytes of the last read.
-use Rattle.std.specs.Prelude.{◌≡◌, ℕ, ◌+◌, ◌*◌, ◌<◌, ◌≤◌, Bool, true, false, IsTrue, List, [], ◌∷◌, ◌++◌, length, map, take, drop, Option, Result, Ok, Err}
+use Rattle.std.specs.Prelude.{◌≡◌, ℕ, ◌+◌, ◌*◌, ◌<◌, ◌≤◌, Bool, true, false, IsTrue, List, [], ◌∷◌, ◌++◌, length, map, take, drop, vec_len, Option, Result, Ok, Err}
+use Rattle.std.specs.Global.{Vec}
 use Rattle.std.specs.List.{concat}
 use Rattle.ac_input.specs.Number.{StateID}
 use Rattle.ac_input.specs.declared.steps.Steps.{Steps}
@@ -90,6 +91,6 @@ pub record FrontFilled {R : Type 0} (remaining : R → Option (List ℕ)) (items
   pub read : HasGiven remaining before after (take n items ∷ []) 0
 
 -- one read returned the first bytes of a buffer, or failed
-abbrev pub FillsFront : {R E : Type 0} → (R → Option (List ℕ)) → List ℕ → ℕ → Watched R → Watched R → Result ℕ E → Type 0
-FillsFront remaining items room before after (Ok n) = FrontFilled remaining items room before after n
-FillsFront remaining items room before after (Err error) = HasGiven remaining before after ([] ∷ []) 1
+abbrev pub FillsFront : {R E : Type 0} → (R → Option (List ℕ)) → Vec ℕ → Watched R → Watched R → Result ℕ E → Type 0
+FillsFront remaining bytes before after (Ok n) = FrontFilled remaining bytes.items (vec_len bytes) before after n
+FillsFront remaining bytes before after (Err error) = HasGiven remaining before after ([] ∷ []) 1

@@ -23,8 +23,8 @@ module _ {S : Type 0} (A : Ghosts S) (automaton : S) where
   MayGive place = ((held : List ℕ) × MayList place held) × (place.index < place.len)
 
   -- however far the search had come, it read on from here to the next state that matches, or to the last byte
-  abbrev pub ReadsOnHeld : ListPlace → List ℕ → ListPlace → Steps → Steps → Type 0
-  ReadsOnHeld place held there before after = (s : ListingProgress) → StandsListing s place held → HasReadHeld (A.Reaches automaton No) (A.matches automaton) s place there before after
+  abbrev pub ReadsHeld : ListPlace → List ℕ → ListPlace → Steps → Steps → Type 0
+  ReadsHeld place held there before after = (s : ListingProgress) → StandsListing s place held → HasReadHeld (A.Reaches automaton No) (A.matches automaton) s place there before after
 
   -- the next occurrence of the state's list is returned
   abbrev pub GivesOfState : ListPlace → Listed → Type 0

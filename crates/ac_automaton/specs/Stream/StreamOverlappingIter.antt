@@ -74,8 +74,8 @@ occurrences_left read listed given most ended =
 
 module _ {A R : Type 0} where
   -- how far its search has come
-  abbrev pub listing_of_stream : StreamFindOverlappingIter A R → ListingProgress
-  listing_of_stream i = i.stream
+  abbrev pub stream_listed : StreamFindOverlappingIter A R → ListingProgress
+  stream_listed i = i.stream
 
   -- the reader
   abbrev pub reader_listed : StreamFindOverlappingIter A R → Watched R
@@ -88,8 +88,8 @@ module _ {A R : Type 0} where
   -- how many items are left at most
   abbrev pub most_listed : StreamFindOverlappingIter A R → ℕ
   most_listed i =
-      occurrences_left (length (all_read (listing_of_stream i))) (length (occurrences_in (listing_of_stream i).built (all_read (listing_of_stream i)))) (length (listing_of_stream i).given)
-      ((length (listing_of_stream i).built.dictionary.patterns) * 18446744073709551616) (reader_listed i).ended
+      occurrences_left (length (all_read (stream_listed i))) (length (occurrences_in (stream_listed i).built (all_read (stream_listed i)))) (length (stream_listed i).given)
+      ((length (stream_listed i).built.dictionary.patterns) * 18446744073709551616) (reader_listed i).ended
 
   -- the reader is unchanged, and held by the same reference
   abbrev pub KeepsListedReader : StreamFindOverlappingIter A R → StreamFindOverlappingIter A R → Type 0
@@ -98,14 +98,14 @@ module _ {A R : Type 0} where
   -- the next item, what was read for it by the same reference, and that nothing comes after the end
   abbrev pub ListsItem : (R → Option (List ℕ)) → StreamFindOverlappingIter A R → StreamFindOverlappingIter A R → Option (Result Occurrence StreamError) → Type 0
   ListsItem remaining i j r =
-      NextLists remaining (listing_of_stream i) (listing_of_stream j) (reader_listed i) (reader_listed j) r
-      × StaysListed (listing_of_stream i) (listing_of_stream j) (reader_listed i) (reader_listed j) r
+      NextLists remaining (stream_listed i) (stream_listed j) (reader_listed i) (reader_listed j) r
+      × StaysListed (stream_listed i) (stream_listed j) (reader_listed i) (reader_listed j) r
       × (reader_listed_name j ≡ reader_listed_name i)
 
   -- The iterator has read nothing yet, and holds the reader that it borrowed, by the same reference; or the error says why none was
   -- made.
   abbrev pub AnswersStreamListing : Built → (Anchored → Type 0) → MutBor (Watched R) → Result (StreamFindOverlappingIter A R) StreamError → Type 0
-  AnswersStreamListing b supports lent (Ok i) = CanStream OnlyStandard b supports × (listing_of_stream i ≡ fresh_listing b) × (reader_listed i ≡ lent.now) × (reader_listed_name i ≡ lent.ghost_name)
+  AnswersStreamListing b supports lent (Ok i) = CanStream OnlyStandard b supports × (stream_listed i ≡ fresh_listing b) × (reader_listed i ≡ lent.now) × (reader_listed_name i ≡ lent.ghost_name)
   AnswersStreamListing b supports lent (Err error) = IsListingRefusal b supports error
 
 -- If no iterator was made, the reader is unchanged. Otherwise the iterator holds the reference to it, and the reader's final value

@@ -24,25 +24,25 @@ replaced_in b replacements x = replaced_from 0 x replacements (matches_in b x)
 
 -- ---- what each result means
 
--- What a replacement over a stream read, no piece longer than the buffer, what it wrote, and what it returned.
-abbrev pub ReplacesStream : {R W : Type 0} → (R → Option (List ℕ)) → (W → Option (List ℕ)) → Built → List (List ℕ) → Watched R → Watched R → Watched W → Watched W → Result (Unit {0}) StreamError → Type 0
-ReplacesStream remaining contents b replacements reader_before reader_after writer_before writer_after result =
-    (m : Moved) × HasMoved remaining contents reader_before reader_after writer_before writer_after m × AllFit (room_of b) m.pieces × AnswersWriting (replaced_in b replacements) (IsFront b.dictionary (replaced_in b replacements)) m result
-
--- An error of the search or of memory means that the replacement did not begin, and leaves both devices unchanged. Any result but
--- an error of the search means that the stream can be searched.
-abbrev pub AcceptsReplacing : {R W : Type 0} → StreamKinds → Built → (Anchored → Type 0) → Watched R → Watched R → Watched W → Watched W → Result (Unit {0}) StreamError → Type 0
-AcceptsReplacing kinds b supports reader_before reader_after writer_before writer_after (Err (Config error)) = IsConfigRefusal kinds b supports error × NoneTouched reader_before reader_after writer_before writer_after
-AcceptsReplacing kinds b supports reader_before reader_after writer_before writer_after (Err Memory) = CanStream kinds b supports × NoneTouched reader_before reader_after writer_before writer_after
-AcceptsReplacing kinds b supports reader_before reader_after writer_before writer_after result = CanStream kinds b supports
-
--- ---- what a replacement costs
-
 -- the error is one that comes after the first read
 abbrev pub IsBegun : StreamError → Type 0
 IsBegun (Config error) = ⊥
 IsBegun Memory = ⊥
 IsBegun other = Unit {0}
+
+-- What a replacement over a stream read, no piece longer than the buffer, what it wrote, and what it returned. An error before the
+-- first read leaves both devices unchanged.
+abbrev pub ReplacesStream : {R W : Type 0} → (R → Option (List ℕ)) → (W → Option (List ℕ)) → Built → List (List ℕ) → Watched R → Watched R → Watched W → Watched W → Result (Unit {0}) StreamError → Type 0
+ReplacesStream remaining contents b replacements reader_before reader_after writer_before writer_after result =
+    (m : Moved) × HasMoved remaining contents reader_before reader_after writer_before writer_after m × AllFit (room_of b) m.pieces × AnswersWriting (replaced_in b replacements) (IsFront b.dictionary (replaced_in b replacements)) m result
+    × IfErr result (λ error. IsBegun error ⊎ NoneTouched reader_before reader_after writer_before writer_after)
+
+-- an error of the search says why the stream can't be searched; any other result means that it can be
+abbrev pub AcceptsStream : StreamKinds → Built → (Anchored → Type 0) → Result (Unit {0}) StreamError → Type 0
+AcceptsStream kinds b supports (Err (Config error)) = IsConfigRefusal kinds b supports error
+AcceptsStream kinds b supports result = CanStream kinds b supports
+
+-- ---- what a replacement costs
 
 -- What a search of this many bytes of a stream, with so many matches, may cost. Under standard no byte is read again.
 pub record IsStreamCost (b : Built) (n matches : ℕ) (before after : Steps) : Type 0 where

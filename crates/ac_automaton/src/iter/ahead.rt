@@ -11,14 +11,12 @@
 //!
 //! Only an automaton of the standard kind with no empty pattern and no prefilter reads ahead, and only where the input isn't anchored
 //! and has 1 KiB to be searched. Elsewhere this iterator goes on as `FindIter` does.
-ghost use Rattle.std.specs.Prelude.{◌≡◌, ◌≤◌, [], length, IfOk, IfSome, ◌+◌};
+ghost use Rattle.std.specs.Prelude.{◌≡◌, ◌≤◌, [], length, IfSome};
 ghost use Rattle.std.specs.Iterator.{YieldsFirst, item_count};
 ghost use Rattle.ac_automaton.specs.FindAhead.{AreNotesOf, MayReadAhead};
-ghost use Rattle.ac_automaton.specs.Iter.{AnswersFindIter, AnswersFindIterFrom, GivesPick, CostsPick, left_of, IsPickOf, IsPickCost, IsPlaceIn, IsRestOf, IsOnItsWay, CountsPick, PickCounts};
-ghost use Rattle.ac_automaton.specs.Items.{MatchesAreInOrder};
+ghost use Rattle.ac_automaton.specs.Iter.{GivesPick, CostsPick, left_of, IsPickOf, IsPickCost, IsPlaceIn, IsRestOf, IsOnItsWay, PickCounts, walk_from_place};
 
 use crate::ahead::{Ahead, LEAST};
-use crate::error::MatchError;
 use crate::iter::{WalkPlace, next_pick};
 use crate::search::Search;
 use ac_input::history::Count;
@@ -80,46 +78,6 @@ fn reads_from<A: Search>(automaton: &A, input: &Input<'_>, start: StateID) -> Op
     }
 }
 
-/// The matches of the input from a place on at which a walk over it stands: see [`find_iter_from`](crate::iter::find_iter_from).
-pub fn find_iter_ahead_from<'a, 'h, A: Search>(
-    automaton: &'a A,
-    input: Input<'h>,
-    place: WalkPlace,
-) -> Result<FindIterAhead<'a, 'h, A>, MatchError>
-    requires { IsPlaceIn input place }
-    ensures { AnswersFindIterFrom (A.built automaton.now) (A.supports automaton.now) input.entry place
-        result }
-{
-    let start = automaton.start_state(input.get_anchored())?;
-    let mut input = input;
-    input.set_start(place.start);
-    let start = reads_from(automaton, &input, start);
-    let first = Count::zero().more(&place.start);
-    Ok(FindIterAhead {
-        automaton,
-        input,
-        last: place.last,
-        first,
-        sums: Steps::new(),
-        start,
-        ahead: Ahead::none(true),
-    })
-}
-
-/// All matches of the input, one after another.
-pub fn find_iter_ahead<'a, 'h, A: Search>(
-    automaton: &'a A,
-    input: Input<'h>,
-) -> Result<FindIterAhead<'a, 'h, A>, MatchError>
-    ensures answer { AnswersFindIter (A.built automaton.now) (A.supports automaton.now) input.entry
-        result }
-    ensures few { IfOk result (λ w. length (left_of w) ≤ length input.entry.haystack + 1) }
-    ensures lie { IfOk result (MatchesAreInOrder (A.built automaton.now) input.entry) }
-{
-    let start = input.start();
-    find_iter_ahead_from(automaton, input, WalkPlace { start, last: None })
-}
-
 /// The next pick of a walk that stands where the input starts. It may set the input's start one byte further.
 fn next_pick_ahead<A: Search>(
     automaton: &A,
@@ -138,8 +96,7 @@ fn next_pick_ahead<A: Search>(
     ensures pick { IsPickOf (A.built automaton.now) input.old last result }
     ensures asked { IsRestOf input.old input.new }
     ensures work { IsPickCost (A.built automaton.now) input.old steps.old steps.new result }
-    ensures counts { PickCounts (A.built automaton.now) input.old input.old.span.start result
-        steps.old steps.new }
+    ensures counts { PickCounts (A.built automaton.now) input.old result steps.old steps.new }
     ensures known { AreNotesOf A.Automaton automaton.now input.old ahead.new.notes }
 {
     match start {
@@ -149,7 +106,36 @@ fn next_pick_ahead<A: Search>(
 }
 
 impl<'a, 'h, A: Search> FindIterAhead<'a, 'h, A> {
-    /// Where the walk stands. [`find_iter_ahead_from`] goes on from there.
+    /// The matches of the input from a place on at which a walk over it stands, as
+    /// [`FindIter::from_place`](crate::iter::FindIter::from_place) makes them. Each search begins in this start state.
+    pub(crate) fn from_place(
+        automaton: &'a A,
+        input: Input<'h>,
+        place: WalkPlace,
+        start: StateID,
+    ) -> FindIterAhead<'a, 'h, A>
+        requires supported { A.supports automaton.now input.anchored }
+        requires starts { A.Reaches automaton.now input.anchored [] start }
+        requires place { IsPlaceIn input place }
+        ensures { result ≡ walk_from_place (A.built automaton.now) input.entry place }
+    {
+        let mut input = input;
+        input.set_start(place.start);
+        let start = reads_from(automaton, &input, start);
+        let first = Count::zero().more(&place.start);
+        FindIterAhead {
+            automaton,
+            input,
+            last: place.last,
+            first,
+            sums: Steps::new(),
+            start,
+            ahead: Ahead::none(true),
+        }
+    }
+
+    /// Where the walk stands.
+    /// [`Automaton::try_find_iter_ahead_from`](crate::automaton::Automaton::try_find_iter_ahead_from) goes on from there.
     pub fn place(&self) -> WalkPlace
         ensures value { result ≡ (record { start = self.now.at; last = self.now.last }) }
         ensures within { IsPlaceIn self.now.asked result }
@@ -165,7 +151,6 @@ impl<'a, 'h, A: Search> FindIterAhead<'a, 'h, A> {
         ensures gives { GivesPick self.old result self.new }
         ensures cost { CostsPick self.old self.new steps.old steps.new result }
         ensures kept { IsOnItsWay self.new }
-        ensures counted { CountsPick self.old self.new steps.old steps.new result }
     {
         if self.input.is_done() {
             return None;

@@ -11,7 +11,7 @@
 ghost use Rattle.std.specs.Prelude.{IfOk};
 ghost use Rattle.std.specs.Iterator.{YieldsFirst, item_count};
 ghost use Rattle.ac_automaton.specs.Items.{AreFewForEach, EachLiesWithin};
-ghost use Rattle.ac_automaton.specs.Overlapping.OverlappingIter.{AnswersOverlappingIter, CountsRun, RunCounts, IsWithinOneWalk, rest_of, IsRunAfter};
+ghost use Rattle.ac_automaton.specs.Overlapping.OverlappingIter.{AnswersListing, CountsRun, RunCounts, IsWithinOneWalk, rest_of, IsRunAfter};
 
 use crate::ahead::Ahead;
 use crate::error::MatchError;
@@ -70,7 +70,7 @@ pub fn find_overlapping_iter<'a, 'h, A: Search>(
     automaton: &'a A,
     input: Input<'h>,
 ) -> Result<FindOverlappingIter<'a, 'h, A>, MatchError>
-    ensures answer { AnswersOverlappingIter (A.built automaton.now) (A.supports automaton.now)
+    ensures answer { AnswersListing (A.built automaton.now) (A.supports automaton.now)
         input.entry result }
     ensures few { IfOk result (AreFewForEach (A.built automaton.now) input.entry) }
     ensures lie { IfOk result (EachLiesWithin rest_of (A.built automaton.now) input.entry) }
@@ -94,8 +94,7 @@ impl<'a, 'h, A: Search> FindOverlappingIter<'a, 'h, A> {
     /// The next match, as `next` returns it; counts what it does.
     pub fn next_counted(&mut self, steps: &mut Steps) -> Option<Match>
         ensures gives { YieldsFirst rest_of self.old result self.new × IsRunAfter self.old result self.new }
-        ensures sums { RunCounts self.old self.new steps.old steps.new }
-        ensures work { IsWithinOneWalk self.new }
+        ensures cost { RunCounts self.old self.new steps.old steps.new × IsWithinOneWalk self.new }
         ensures counted { CountsRun self.new result }
     {
         let mut done = Steps::new();

@@ -13,7 +13,7 @@
 ghost use Rattle.std.specs.Prelude.{◌≡◌, false};
 ghost use Rattle.std.specs.Borrow.{sem};
 ghost use Rattle.ac_automaton.specs.Stream.StreamListing.{ListsHeld, ListsOnCourse};
-ghost use Rattle.ac_automaton.specs.Stream.StreamOverlappingIter.{AnswersStreamListing, KeepsListedReader, ListsItem, RestsIfListingRefused, listing_of_stream, reader_listed, reader_listed_name};
+ghost use Rattle.ac_automaton.specs.Stream.StreamOverlappingIter.{AnswersStreamListing, KeepsListedReader, ListsItem, RestsIfListingRefused, stream_listed, reader_listed, reader_listed_name};
 
 mod search;
 
@@ -74,9 +74,9 @@ impl<'a, A: Search, R: Read> StreamFindOverlappingIter<'a, A, R> {
     /// The next occurrence in the bytes that were read, without a read; counts what it does. None means that all of them were
     /// returned.
     pub fn next_held_counted(&mut self, steps: &mut Steps) -> Option<Match>
-        ensures lists { ListsHeld (listing_of_stream self.old) result (listing_of_stream self.new) }
+        ensures lists { ListsHeld (stream_listed self.old) result (stream_listed self.new) }
         ensures reader { KeepsListedReader self.old self.new }
-        ensures goes { ListsOnCourse (listing_of_stream self.old) (listing_of_stream self.new)
+        ensures goes { ListsOnCourse (stream_listed self.old) (stream_listed self.new)
             steps.old steps.new }
     {
         self.stream.next_held(steps)
@@ -85,7 +85,7 @@ impl<'a, A: Search, R: Read> StreamFindOverlappingIter<'a, A, R> {
     /// The next item, as `next` returns it; counts what it does.
     pub fn next_counted(&mut self, steps: &mut Steps) -> Option<Result<Match, StreamError>>
         ensures lists { ListsItem R.remaining self.old self.new result }
-        ensures goes { ListsOnCourse (listing_of_stream self.old) (listing_of_stream self.new)
+        ensures goes { ListsOnCourse (stream_listed self.old) (stream_listed self.new)
             steps.old steps.new }
     {
         loop {
@@ -107,11 +107,11 @@ impl<'a, A: Search, R: Read> StreamFindOverlappingIter<'a, A, R> {
 impl<'a, A: Search, R: Read> Iterator for StreamFindOverlappingIter<'a, A, R> {
     ghost use Rattle.std.specs.Iterator.{at_most};
     ghost use Rattle.ac_automaton.specs.Stream.StreamListing.{IsOnListing};
-    ghost use Rattle.ac_automaton.specs.Stream.StreamOverlappingIter.{ListsItem, listing_of_stream, most_listed};
+    ghost use Rattle.ac_automaton.specs.Stream.StreamOverlappingIter.{ListsItem, stream_listed, most_listed};
 
     type Item = Result<Match, StreamError>;
 
-    ghost next_gives = { λ s r t. ListsItem R.remaining s t r × IsOnListing (listing_of_stream t) };
+    ghost next_gives = { λ s r t. ListsItem R.remaining s t r × IsOnListing (stream_listed t) };
 
     ghost remaining = { λ s. at_most (most_listed s) };
 

@@ -9,7 +9,7 @@
 //! Nothing is tried again, and nothing is flushed. Both buffers are allocated before the first read, and no memory after that.
 ghost use Rattle.std.specs.Prelude.{◌≡◌, ◌+◌, ◌-◌, ◌≤◌, [], drop, false, length, map, slice_range, IfErr};
 ghost use Rattle.ac_automaton.specs.Stream.{GoesOn, IsOnCourse, fresh_progress};
-ghost use Rattle.ac_automaton.specs.Stream.StreamReplace.{AcceptsReplacing, AnswersDecided, AnswersMatch, CostsStream, HasSearched, IsBegun, IsPlaced, ReplacesStream};
+ghost use Rattle.ac_automaton.specs.Stream.StreamReplace.{AcceptsStream, AnswersDecided, AnswersMatch, CostsStream, HasSearched, IsBegun, IsPlaced, ReplacesStream};
 
 use super::search::StreamSearch;
 use crate::error::StreamError;
@@ -137,8 +137,7 @@ pub fn replace_all_counted<A: Search, R: Read, W: Write>(
         ≡ length (A.built automaton.now).dictionary.patterns }
     ensures replaced { ReplacesStream R.remaining W.contents (A.built automaton.now)
         (map (λ r. r.now) replacements.now) reader.old reader.new writer.old writer.new result }
-    ensures accepted { AcceptsReplacing kinds (A.built automaton.now) (A.supports automaton.now)
-        reader.old reader.new writer.old writer.new result }
+    ensures accepted { AcceptsStream kinds (A.built automaton.now) (A.supports automaton.now) result }
     ensures cost { CostsStream (A.built automaton.now) reader.old reader.new
         steps.old steps.new result }
 {

@@ -4,8 +4,9 @@
 //! decided, in slices: of the bytes that it holds, and of the replacements. So no byte of the text is copied again, and nothing is
 //! allocated. What it keeps back between two pushes is what a match may still need: at most as many bytes as the longest pattern has,
 //! or one, and none where nothing is live.
-ghost use Rattle.std.specs.Prelude.{◌≡◌, ◌-◌, ◌<◌, None, Some, false, true, length, map};
+ghost use Rattle.std.specs.Prelude.{◌≡◌, ◌-◌, ◌<◌, None, Some, false, true, length};
 ghost use Rattle.std.specs.Borrow.{sem};
+ghost use Rattle.ac_literal.specs.Packed.{bytes_of};
 ghost use Rattle.ac_automaton.specs.Stream.{AreAllGiven, CanBeCounted, StreamCounts, cut_of, read_by, closed_by};
 ghost use Rattle.ac_automaton.specs.Stream.StreamReplacer.{FindsPart, AnswersReplacer, CanBeLent, IsReady, LooksForMatch, TakesPart, PushesText, ends_there, part_bytes, decided_to};
 
@@ -233,7 +234,7 @@ impl<A: Search> StreamReplacer<A> {
         requires one_each { length replacements.now
             ≡ length self.now.search.built.dictionary.patterns }
         ensures { result.now ≡ part_bytes (read_by self.now.search)
-            (map (λ r. r.now) replacements.now) slice }
+            (bytes_of replacements.now) slice }
     {
         match slice {
             Part::Text(start, end) => part(self.search.held(), self.search.from(), start, end),
@@ -253,7 +254,7 @@ impl<A: Search> StreamReplacer<A> {
     pub fn next<'b, 'r>(&'b mut self, replacements: &'b [&'r [u8]]) -> Option<&'b [u8]>
         requires one_each { length replacements.now
             ≡ length self.old.search.built.dictionary.patterns }
-        ensures* { sem 𝓛 (EndsGiving A.row A.Automaton self.entry (map (λ r. r.now) replacements.now)
+        ensures* { sem 𝓛 (EndsGiving A.row A.Automaton self.entry (bytes_of replacements.now)
             result) }
     {
         let mut steps = Steps::new();
@@ -268,7 +269,7 @@ impl<A: Search> StreamReplacer<A> {
     ) -> Option<&'b [u8]>
         requires one_each { length replacements.now
             ≡ length self.old.search.built.dictionary.patterns }
-        ensures* { sem 𝓛 (EndsCounted A.row A.Automaton self.entry (map (λ r. r.now) replacements.now)
+        ensures* { sem 𝓛 (EndsCounted A.row A.Automaton self.entry (bytes_of replacements.now)
             result steps.old steps.new) }
     {
         let slice = self.advance(steps)?;

@@ -10,7 +10,7 @@ use Rattle.ac_input.specs.Occurrence.{Occurrence}
 use Rattle.ac_input.specs.Work.{lookups_per_byte}
 use Rattle.ac_input.specs.declared.steps.Steps.{Steps}
 use Rattle.ac_automaton.specs.Iter.{AnswersFindIter, IsWithinBudget, Walk, WalkCounts, fresh_walk, passed, walk_after_pick}
-use Rattle.ac_automaton.specs.Overlapping.OverlappingIter.{AnswersOverlappingIter, IsRunAfter, IsWithinOneWalk, Run, RunCounts, fresh_run}
+use Rattle.ac_automaton.specs.Overlapping.OverlappingIter.{AnswersListing, IsRunAfter, IsWithinOneWalk, Run, RunCounts, fresh_run}
 use Rattle.ac_automaton.specs.Replace.{matches_in}
 use Rattle.ac_automaton.specs.Stream.{read_again}
 use Rattle.ac_automaton.specs.declared.error.MatchErrorKind.{MatchErrorKind}
@@ -113,9 +113,9 @@ walk-fresh ac inside plan input asked given walk same serves answers is over now
 
 -- a new run through all that overlap in a whole input has counted nothing
 pub listing-fresh : (ac : AhoCorasick) (inside plan : Plan) (input : List ℕ) (asked : Asked) (given : Result Run MatchErrorKind) (run : Run) → inside ≡ plan → IsServing inside.settings inside.rules ac
-    → AnswersOverlappingIter (as_built ac) (supported_by ac) asked given → given ≡ Ok run → asked ≡ whole_of input → (now : Steps) → IsListingCounted plan (length input) now now run
+    → AnswersListing (as_built ac) (supported_by ac) asked given → given ≡ Ok run → asked ≡ whole_of input → (now : Steps) → IsListingCounted plan (length input) now now run
 listing-fresh ac inside plan input asked given run same serves answers is over now =
-    let answer = subst (λ (r : Result Run MatchErrorKind). AnswersOverlappingIter (as_built ac) (supported_by ac) asked r) is answers in
+    let answer = subst (λ (r : Result Run MatchErrorKind). AnswersListing (as_built ac) (supported_by ac) asked r) is answers in
     let fresh : run ≡ fresh_run (as_built ac) (whole_of input) = answer.1 ∙ ap (fresh_run (as_built ac)) over in
     subst (λ (r : Run). IsListingCounted plan (length input) now now r) (sym fresh)
     (subst (λ (p : Plan). IsListingCounted p (length input) now now (fresh_run (as_built ac) (whole_of input))) same (listing-uncounted inside ac input serves now))

@@ -24,7 +24,7 @@ use Rattle.ac_automaton.specs.Devices.Moved.{AreFilled, HasGiven, HasTaken, but_
 use Rattle.ac_automaton.specs.Replace.{matches_in}
 use Rattle.ac_automaton.specs.Stream.{CanBeCounted, CanStream, read_again}
 use Rattle.ac_automaton.specs.Stream.StreamListing.{IsAllListed, IsListingConfigRefusal, IsListingRefusal, IsOnListing, ListingCounts, ListingProgress, ListingStays, ListsHeld, ListsOnCourse, all_read, fresh_listing, occurrences_in}
-use Rattle.ac_automaton.specs.Stream.StreamOverlappingIter.{KeepsListedReader, ListingGained, NextLists, listing_of_stream}
+use Rattle.ac_automaton.specs.Stream.StreamOverlappingIter.{KeepsListedReader, ListingGained, NextLists, stream_listed}
 use Rattle.ac_automaton.specs.Stream.StreamReplace.{IsBegun}
 use Rattle.ac_automaton.specs.declared.error.MatchErrorKind.{MatchErrorKind}
 use Rattle.ac_automaton.specs.declared.error.StreamError.{StreamError}
@@ -80,11 +80,11 @@ pub stays-here : (s : ListingProgress) → ListingStays s s
 stays-here s = record { on = omega arith; built = refl; pieces = refl }
 
 -- a search that goes on twice without a read goes on without one
-pub listed-then : {R : Type 0} (i j k : StreamFindOverlappingIter AhoCorasick R) (before between after : Steps) → GoesOnListed i j before between → ListingStays (listing_of_stream j) (listing_of_stream k) → KeepsListedReader j k → ListsOnCourse (listing_of_stream j) (listing_of_stream k) between after → GoesOnListed i k before after
+pub listed-then : {R : Type 0} (i j k : StreamFindOverlappingIter AhoCorasick R) (before between after : Steps) → GoesOnListed i j before between → ListingStays (stream_listed j) (stream_listed k) → KeepsListedReader j k → ListsOnCourse (stream_listed j) (stream_listed k) between after → GoesOnListed i k before after
 listed-then i j k before between after gone stays keeps goes = record {
-  unread = stays-then (listing_of_stream i) (listing_of_stream j) (listing_of_stream k) gone.unread stays;
+  unread = stays-then (stream_listed i) (stream_listed j) (stream_listed k) gone.unread stays;
   reader = (keeps.0 ∙ gone.reader.0, keeps.1 ∙ gone.reader.1);
-  goes = (listing-counts-then (listing_of_stream i) (listing_of_stream j) (listing_of_stream k) before between after gone.goes.0 goes.0, goes.1);
+  goes = (listing-counts-then (stream_listed i) (stream_listed j) (stream_listed k) before between after gone.goes.0 goes.0, goes.1);
 }
 
 -- fewer occurrences in what was read are left after one more was returned

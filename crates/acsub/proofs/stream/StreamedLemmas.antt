@@ -1,5 +1,5 @@
 -- What a run that writes while it reads has written, given what the automaton's replacement over a stream has.
-use Rattle.std.proofs.Common.{◌≡◌, ◌≢◌, ℕ, ◌≤◌, false, List, [], ◌∷◌, ◌++◌, length, take, Option, None, Result, Ok, Err, inl, inr, suc, refl, sym, ap, ◌∙◌, subst, arith}
+use Rattle.std.proofs.Common.{◌≡◌, ◌≢◌, ◌⊎◌, ℕ, ◌≤◌, false, List, [], ◌∷◌, ◌++◌, length, take, Option, None, Result, Ok, Err, inl, inr, suc, refl, sym, ap, ◌∙◌, subst, arith}
 use Rattle.std.specs.List.{concat}
 use Rattle.std.proofs.lemmas.List.{append-nil, nil_from_length}
 use Rattle.ac_input.specs.Laws.BeginningLaws.{IsBeginning}
@@ -17,7 +17,7 @@ use Rattle.std.specs.Prelude.{IfErr, OnOk, max}
 use Rattle.ac_automaton.specs.Devices.Moved.{AllFit, AreFilled, Moved, NoneTouched, but_last}
 use Rattle.ac_automaton.specs.Stream.{CanStream, IsConfigRefusal, IsStreamRefusal, IsFront, IsNear, room_of}
 use Rattle.ac_automaton.specs.Stream.StreamAnswer.{AnswersWriting, WroteToFailedWrite}
-use Rattle.ac_automaton.specs.Stream.StreamReplace.{AcceptsReplacing, ReplacesStream, replaced_in}
+use Rattle.ac_automaton.specs.Stream.StreamReplace.{AcceptsStream, IsBegun, ReplacesStream, replaced_in}
 use Rattle.ac_automaton.proofs.stream.StreamAnswerLemmas.{cost-none}
 use Rattle.ac_input.specs.declared.steps.Steps.{Steps}
 use Rattle.ac_automaton.specs.declared.error.MatchErrorKind.{MatchErrorKind}
@@ -75,16 +75,19 @@ module _ (b : Built) (supports : Anchored → Type 0) (can : CanStream AnyKind b
   refused-memory stream.Memory refused = refl
   refused-memory stream.Position refused = absurd refused
 
-  module _ {R W : Type 0} (r r' : Watched R) (w w' : Watched W) where
-    -- nor is a replacement over the stream
-    pub replaces-accepted : (result : Result (Unit {0}) StreamError) → AcceptsReplacing AnyKind b supports r r' w w' result → IfErr result IsNoRefusal
-    replaces-accepted (Ok done) accepts = tt
-    replaces-accepted (Err error) accepts = λ refusal e. can-config refusal (subst (λ (other : StreamError). AcceptsReplacing AnyKind b supports r r' w w' (Err other)) e accepts).0
+  -- nor is a replacement over the stream
+  pub replaces-accepted : (result : Result (Unit {0}) StreamError) → AcceptsStream AnyKind b supports result → IfErr result IsNoRefusal
+  replaces-accepted (Ok done) accepts = tt
+  replaces-accepted (Err error) accepts = λ refusal e. can-config refusal (subst (λ (other : StreamError). AcceptsStream AnyKind b supports (Err other)) e accepts)
 
-    -- a replacement that is out of memory has touched neither device
-    pub replaces-memory : (result : Result (Unit {0}) StreamError) → AcceptsReplacing AnyKind b supports r r' w w' result → IfStreamMemory result (NoneTouched r r' w w')
-    replaces-memory (Ok done) accepts = tt
-    replaces-memory (Err error) accepts = λ e. (subst (λ (other : StreamError). AcceptsReplacing AnyKind b supports r r' w w' (Err other)) e accepts).1
+-- a replacement that is out of memory has touched neither device
+pub replaces-memory : {R W : Type 0} (remaining : R → Option (List ℕ)) (contents : W → Option (List ℕ)) (b : Built) (replacements : List (List ℕ)) (r r' : Watched R) (w w' : Watched W) (result : Result (Unit {0}) StreamError) → ReplacesStream remaining contents b replacements r r' w w' result → IfStreamMemory result (NoneTouched r r' w w')
+replaces-memory remaining contents b replacements r r' w w' (Ok done) replaces = tt
+replaces-memory remaining contents b replacements r r' w w' (Err error) replaces =
+    λ e. elim (subst (λ (other : StreamError). IsBegun other ⊎ NoneTouched r r' w w') e replaces.4) [
+      | inl begun ↦ absurd begun
+      | inr same ↦ same
+    ]
 
 -- ---- the text
 
@@ -172,7 +175,7 @@ pub replace-plan : {R W : Type 0} (remaining : R → Option (List ℕ)) (content
     → ReplacesStream remaining contents b (replacements_of plan.rules) r0 r1 w0 w1 result → WritesPlan remaining contents r0 r1 w0 w1 plan result
 replace-plan remaining contents b plan r0 r1 w0 w1 result is mode replaces =
     writes-plan plan (room_of b) (replaced_in b (replacements_of plan.rules)) (IsFront b.dictionary (replaced_in b (replacements_of plan.rules))) (room-in plan b modes.Replace is mode refl)
-    (λ x. replaced-output b plan x is mode) (λ x text. replaced-front b plan x text is mode) remaining contents r0 r1 w0 w1 result replaces
+    (λ x. replaced-output b plan x is mode) (λ x text. replaced-front b plan x text is mode) remaining contents r0 r1 w0 w1 result (replaces.0, replaces.1, replaces.2, replaces.3)
 
 -- ---- what it costs
 

@@ -20,7 +20,7 @@ ghost use Rattle.acsub.specs.Stream.StreamList.{CostsOn, GoesOnUnread, ListsOn, 
 use crate::line::Line;
 use ac_automaton::error::StreamError;
 use ac_automaton::output::Output;
-use ac_automaton::stream::stream_find_iter_any_kind;
+use ac_automaton::stream::{StreamKinds, stream_find_iter};
 use ac_automaton::watched::Watched;
 use ac_input::search::Match;
 use ac_input::steps::Steps;
@@ -95,7 +95,7 @@ pub(crate) fn list_stream<R: Read, W: Write>(
     ensures accepted { IfErr result IsNoRefusal }
 {
     let mut output = Output::new(alloc)?;
-    let mut matches = stream_find_iter_any_kind(reader, engine, alloc)?;
+    let mut matches = stream_find_iter(reader, engine, StreamKinds::AnyKind, alloc)?;
     let outcome = list_read(&mut matches, &mut output, writer, steps);
     let _reader = matches.into_reader();
     outcome

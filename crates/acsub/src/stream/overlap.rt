@@ -9,7 +9,7 @@ ghost use Rattle.std.specs.Prelude.{◌≡◌, [], false, IfErr};
 ghost use Rattle.ac_automaton.specs.Devices.Moved.{NoneTouched};
 ghost use Rattle.ac_automaton.specs.Stream.{CanBeCounted, CanStream};
 ghost use Rattle.ac_automaton.specs.Stream.StreamListing.{IsOnListing, all_read, fresh_listing};
-ghost use Rattle.ac_automaton.specs.Stream.StreamOverlappingIter.{listing_of_stream, reader_listed, reader_listed_name};
+ghost use Rattle.ac_automaton.specs.Stream.StreamOverlappingIter.{stream_listed, reader_listed, reader_listed_name};
 ghost use Rattle.ac_automaton.specs.Stream.StreamReplace.{IsBegun};
 ghost use Rattle.ac_automaton.specs.declared.stream.StreamKinds.TheVariants.{OnlyStandard};
 ghost use Rattle.aho_corasick.specs.AhoCorasick.{as_built, supported_by};
@@ -35,8 +35,8 @@ fn write_each<R: Read, W: Write>(
     writer: &mut Watched<W>,
     steps: &mut Steps,
 ) -> Result<(), StreamError>
-    requires countable { CanBeCounted (all_read (listing_of_stream iter.old)) }
-    requires course { IsOnListing (listing_of_stream iter.old) }
+    requires countable { CanBeCounted (all_read (stream_listed iter.old)) }
+    requires course { IsOnListing (stream_listed iter.old) }
     requires empty { output.old ≡ [] }
     ensures writes { WritesEach W.contents found.now iter.old iter.new
         writer.old writer.new result }
@@ -57,8 +57,8 @@ fn list_each<R: Read, W: Write>(
     writer: &mut Watched<W>,
     steps: &mut Steps,
 ) -> Result<(), StreamError>
-    requires fresh { listing_of_stream iter.old ≡ fresh_listing (listing_of_stream iter.old).built }
-    requires course { IsOnListing (listing_of_stream iter.old) }
+    requires fresh { stream_listed iter.old ≡ fresh_listing (stream_listed iter.old).built }
+    requires course { IsOnListing (stream_listed iter.old) }
     requires empty { output.old ≡ [] }
     requires unended { (reader_listed iter.old).ended ≡ false }
     ensures lists { ListsEveryOn R.remaining W.contents iter.old iter.new

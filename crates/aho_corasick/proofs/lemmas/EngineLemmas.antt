@@ -8,7 +8,7 @@ use Rattle.ac_input.specs.Dfa.{Serves}
 use Rattle.ac_input.specs.Input.{Asked}
 use Rattle.ac_input.specs.Occurrence.{Occurrence}
 use Rattle.ac_automaton.specs.declared.error.MatchErrorKind.{MatchErrorKind}
-use Rattle.ac_automaton.specs.Automaton.{Built, AnswersFind, AnswersStart, refusal_of}
+use Rattle.ac_automaton.specs.Automaton.{Built, Finds, AnswersStart, refusal_of}
 use Rattle.aho_corasick.specs.declared.ahocorasick.AhoCorasick.{AhoCorasick}
 use Rattle.aho_corasick.specs.declared.ahocorasick.AhoCorasickKind.TheVariants.{DFA}
 use Rattle.aho_corasick.specs.declared.engine.Engine.{Engine}
@@ -56,6 +56,6 @@ start-served engine kind anchored (Err error) starts serves answered = refusal-s
 -- for a search of the start kind, the match that the automaton returns is the front's match
 pub find-served : (b : Built) (engine : Engine) (kind : StartKind) (asked : Asked) (r : Result (Option Occurrence) MatchErrorKind)
     → ((anchored : Anchored) → Serves kind anchored → ∥ engine_supported_by engine anchored ∥₁) → Serves kind asked.anchored
-    → AnswersFind b.dictionary (engine_supported_by engine) asked r → AnswersFind b.dictionary (Serves kind) asked r
+    → Finds b.dictionary (engine_supported_by engine) asked r → Finds b.dictionary (Serves kind) asked r
 find-served b engine kind asked (Ok found) starts serves answered = (serves, answered.1)
 find-served b engine kind asked (Err error) starts serves answered = refusal-served engine kind asked.anchored error starts serves answered

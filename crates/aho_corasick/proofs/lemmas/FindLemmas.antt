@@ -16,16 +16,16 @@ use Rattle.ac_input.proofs.lemmas.BestLemmas.{best-computed}
 use Rattle.ac_input.proofs.lemmas.LiveLemmas.{standard-no_later}
 use Rattle.ac_input.proofs.lemmas.OrderLemmas.{occurs-end, same_text-length, slice_range-length}
 use Rattle.ac_input.proofs.lemmas.WalkLemmas.{best_of-occurs}
-use Rattle.ac_automaton.specs.Automaton.{Built, AnswersFind, IsFound}
+use Rattle.ac_automaton.specs.Automaton.{Built, Finds, IsFound}
 use Rattle.ac_automaton.specs.declared.error.MatchErrorKind.{MatchErrorKind}
 use Rattle.ac_automaton.proofs.iter.IterLemmas.{shortest-le}
 use Rattle.aho_corasick.specs.AhoCorasick.{HasOccurrence}
 use Rattle.aho_corasick.specs.Callers.{BeginsWithPattern, IsFirstEnd, first_in}
 
 -- the result of a find that succeeds is the match of its input
-pub found-for : (b : Built) (supports : Anchored → Type 0) (asked known : Asked) (result : Result (Option Occurrence) MatchErrorKind) (r : Option Occurrence) → AnswersFind b.dictionary supports asked result → result ≡ Ok r → asked ≡ known → IsFound b known r
+pub found-for : (b : Built) (supports : Anchored → Type 0) (asked known : Asked) (result : Result (Option Occurrence) MatchErrorKind) (r : Option Occurrence) → Finds b.dictionary supports asked result → result ≡ Ok r → asked ≡ known → IsFound b known r
 found-for b supports asked known result r answers is same =
-    let found = subst (λ (q : Result (Option Occurrence) MatchErrorKind). AnswersFind b.dictionary supports asked q) is answers in
+    let found = subst (λ (q : Result (Option Occurrence) MatchErrorKind). Finds b.dictionary supports asked q) is answers in
     subst (λ (a : Asked). IsFound b a r) same found.1
 
 -- the match of a search over a whole text is the text's first match
@@ -33,11 +33,11 @@ pub found-first : (b : Built) (text : List ℕ) (r : Option Occurrence) → IsFo
 found-first b text r found = best-computed b.dictionary.kind (whole b.dictionary text false) (omega arith) r found
 
 -- the match that an anchored search over a whole text returns, and the one that an earliest search returns
-pub found-anchored : (b : Built) (supports : Anchored → Type 0) (text : List ℕ) (new asked : Asked) (result : Result (Option Occurrence) MatchErrorKind) (r : Option Occurrence) → AnswersFind b.dictionary supports asked result → result ≡ Ok r → asked ≡ record new { anchored = Yes } → new ≡ whole_of text → IsBest b.dictionary.kind (whole b.dictionary text true) r
+pub found-anchored : (b : Built) (supports : Anchored → Type 0) (text : List ℕ) (new asked : Asked) (result : Result (Option Occurrence) MatchErrorKind) (r : Option Occurrence) → Finds b.dictionary supports asked result → result ≡ Ok r → asked ≡ record new { anchored = Yes } → new ≡ whole_of text → IsBest b.dictionary.kind (whole b.dictionary text true) r
 found-anchored b supports text new asked result r found is made whole_text =
     found-for b supports asked (record (whole_of text) { anchored = Yes }) result r found is (made ∙ ap (λ (a : Asked). record a { anchored = Yes }) whole_text)
 
-pub found-earliest : (b : Built) (supports : Anchored → Type 0) (text : List ℕ) (new asked : Asked) (result : Result (Option Occurrence) MatchErrorKind) (r : Option Occurrence) → AnswersFind b.dictionary supports asked result → result ≡ Ok r → asked ≡ record new { earliest = true } → new ≡ whole_of text → IsBest Standard (whole b.dictionary text false) r
+pub found-earliest : (b : Built) (supports : Anchored → Type 0) (text : List ℕ) (new asked : Asked) (result : Result (Option Occurrence) MatchErrorKind) (r : Option Occurrence) → Finds b.dictionary supports asked result → result ≡ Ok r → asked ≡ record new { earliest = true } → new ≡ whole_of text → IsBest Standard (whole b.dictionary text false) r
 found-earliest b supports text new asked result r found is made whole_text =
     found-for b supports asked (record (whole_of text) { earliest = true }) result r found is (made ∙ ap (λ (a : Asked). record a { earliest = true }) whole_text)
 

@@ -9,10 +9,11 @@ use Rattle.ac_automaton.specs.Replace.{MemoryReplacer, IsReplacedWith, matches_i
 use Rattle.ac_noncontiguous.specs.declared.error.BuildErrorKind.{BuildErrorKind}
 use Rattle.aho_corasick.specs.declared.ahocorasick.AhoCorasick.{AhoCorasick}
 use Rattle.aho_corasick.specs.declared.ahocorasick.builder.AhoCorasickBuilder.{AhoCorasickBuilder}
-use Rattle.aho_corasick.specs.AhoCorasick.{as_built}
+use Rattle.aho_corasick.specs.AhoCorasick.{IsConfigured, as_built}
+use Rattle.aho_corasick.specs.Builder.{AreFrontDefaults}
 use Rattle.aho_corasick.specs.Callers.{IsPlain}
 use Rattle.aho_corasick.specs.Replaced.{AppendsBytes}
-use Rattle.aho_corasick.specs.Served.{IsFrontBuilt}
+use Rattle.aho_corasick.specs.Served.{IsFrontBuilt, IsFrontBuiltByDefault}
 
 -- an automaton that is built without a prefilter, with this pairing and this kind, is plain
 pub front-plain : (b : AhoCorasickBuilder) (patterns : List (List ℕ)) (pairing : List ℕ) (kind : MatchKind) (r : Result AhoCorasick BuildErrorKind) → IfOk r (IsFrontBuilt b patterns) → b.settings.prefilter ≡ false
@@ -20,6 +21,11 @@ pub front-plain : (b : AhoCorasickBuilder) (patterns : List (List ℕ)) (pairing
 front-plain b patterns pairing kind (Ok ac) built off by paired =
     (built.dictionary ∙ ap (λ (bytes : List ℕ). dictionary_of patterns bytes b.settings.match_kind) paired ∙ ap (dictionary_of patterns pairing) by, built.prefilter.off off)
 front-plain b patterns pairing kind (Err error) built off by paired = tt
+
+-- an automaton that is built by the settings that a builder has at first
+pub built-by_default : (b : AhoCorasickBuilder) (patterns : List (List ℕ)) (r : Result AhoCorasick BuildErrorKind) → AreFrontDefaults b → IfOk r (IsConfigured b.settings patterns) → IfOk r (IsFrontBuilt b patterns) → IfOk r (IsFrontBuiltByDefault patterns)
+built-by_default b patterns (Ok ac) first is built = record { builder = b; defaults = first; built = built; starts = is.starts ∙ first.settings.start_kind }
+built-by_default b patterns (Err error) first is built = tt
 
 -- what a replacement that succeeds has appended
 pub if-appended : {F : Type 0} (g : MemoryReplacer F (Vec ℕ)) (ac : AhoCorasick) (bytes : List ℕ) (f : F) (old new : Vec ℕ) (r : Result (Unit {0}) AllocError) → AppendsBytes g ac bytes f old new r → OnOk r (IsReplacedWith (λ v. v.items) g bytes (matches_in (as_built ac) bytes) f old new)

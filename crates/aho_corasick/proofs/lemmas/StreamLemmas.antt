@@ -170,7 +170,7 @@ stream-writes remaining items g kinds b supports f text reader_before reader_aft
 -- a replacement that succeeds writes the whole text of the stream, with each match replaced
 pub stream-replaces : {W R : Type 0} (remaining : R → Option (List ℕ)) (items : W → List ℕ) (b : Built) (replacements : List (List ℕ)) (text : List ℕ) (reader_before reader_after : Watched R) (old new : Watched W) (result : Result (Unit {0}) StreamError) → remaining reader_before.inner ≡ Some text
     → ReplacesStream remaining (λ w. Some (items w)) b replacements reader_before reader_after old new result → OnOk result (items new.inner ≡ items old.inner ++ replaced_in b replacements text)
-stream-replaces remaining items b replacements text reader_before reader_after old new (Ok done) is (m, moved, fit, whole) =
+stream-replaces remaining items b replacements text reader_before reader_after old new (Ok done) is (m, moved, fit, whole, begun) =
     let read = consumed-whole _ _ text (concat m.pieces) is moved.reader.device (moved.reader.at_end whole.failed.0 whole.whole) in
     moved.writer.device ∙ ap (λ (t : List ℕ). items old.inner ++ t) (whole.written ∙ ap (replaced_in b replacements) (sym read))
 stream-replaces remaining items b replacements text reader_before reader_after old new (Err error) is replaces = tt
@@ -178,7 +178,7 @@ stream-replaces remaining items b replacements text reader_before reader_after o
 -- what a replacement that succeeds costs, by the length of the text and its matches
 pub stream-costs : {W R : Type 0} (remaining : R → Option (List ℕ)) (contents : W → Option (List ℕ)) (b : Built) (replacements : List (List ℕ)) (text : List ℕ) (reader_before reader_after : Watched R) (old new : Watched W) (before after : Steps) (result : Result (Unit {0}) StreamError) → remaining reader_before.inner ≡ Some text
     → ReplacesStream remaining contents b replacements reader_before reader_after old new result → CostsStream b reader_before reader_after before after result → OnOk result (IsStreamCost b (length text) (length (matches_in b text)) before after)
-stream-costs remaining contents b replacements text reader_before reader_after old new before after (Ok done) is (m, moved, fit, whole) (pieces, read, cost, all, unread) =
+stream-costs remaining contents b replacements text reader_before reader_after old new before after (Ok done) is (m, moved, fit, whole, begun) (pieces, read, cost, all, unread) =
     let same : pieces ≡ m.pieces = append_cancel_left reader_before.pieces.items pieces m.pieces (sym read ∙ moved.reader.pieces) in
     let text_read : text ≡ concat pieces = consumed-whole _ _ text (concat m.pieces) is moved.reader.device (moved.reader.at_end whole.failed.0 whole.whole) ∙ ap concat (sym same) in
     subst (λ (x : List ℕ). IsStreamCost b (length x) (length (matches_in b x)) before after) (sym text_read) cost
@@ -187,7 +187,7 @@ stream-costs remaining contents b replacements text reader_before reader_after o
 -- if a replacement succeeds, reads returned all that the device had left, and the writer took it with each match replaced
 pub stream-replaced : {R W : Type 0} (remaining : R → Option (List ℕ)) (contents : W → Option (List ℕ)) (ac : AhoCorasick) (replacements : List (List ℕ)) (reader_before reader_after : Watched R) (writer_before writer_after : Watched W) (result : Result (Unit {0}) StreamError)
     → ReplacesStream remaining contents (as_built ac) replacements reader_before reader_after writer_before writer_after result → OnOk result (IsStreamReplaced remaining contents ac replacements reader_before reader_after writer_before writer_after)
-stream-replaced remaining contents ac replacements reader_before reader_after writer_before writer_after (Ok done) (m, moved, fit, whole) =
+stream-replaced remaining contents ac replacements reader_before reader_after writer_before writer_after (Ok done) (m, moved, fit, whole, begun) =
     record {
       pieces = m.pieces;
       read = moved.reader.pieces;

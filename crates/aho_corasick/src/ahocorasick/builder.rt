@@ -9,7 +9,7 @@ ghost use Rattle.std.specs.Prelude.{◌≡◌, None, Some, map, IfOk, IfErr};
 ghost use Rattle.ac_input.specs.Pairing.{IsFolded};
 ghost use Rattle.ac_literal.specs.Packed.{bytes_of};
 ghost use Rattle.ac_noncontiguous.specs.declared.error.BuildErrorKind.TheVariants.{Memory};
-ghost use Rattle.aho_corasick.specs.AhoCorasick.{as_built, start_kind_of, IsConfigured};
+ghost use Rattle.aho_corasick.specs.AhoCorasick.{as_built, IsConfigured};
 ghost use Rattle.aho_corasick.specs.Builder.{changed, AreFrontDefaults};
 ghost use Rattle.aho_corasick.specs.Callers.{FindsBytes};
 ghost use Rattle.aho_corasick.specs.Served.{IsFitting, IsTriedDfa, IsTriedContiguous, IsEngineOf, IsNotMade, IsFrontBuilt, IsFrontBuildRefused, IsFrontBuiltByDefault, IsFrontRefusedByDefault};
@@ -337,7 +337,6 @@ impl AhoCorasick {
     /// An example: `uses::examples::build::which_word`.
     pub fn new(alloc: Global, patterns: &[&[u8]]) -> Result<AhoCorasick, BuildError>
         ensures finds { IfOk result (λ ac. FindsBytes (bytes_of patterns.now) (as_built ac).dictionary) }
-        ensures starts { IfOk result (λ ac. start_kind_of ac ≡ StartKind.Unanchored) }
         ensures served { IfOk result (IsFrontBuiltByDefault (bytes_of patterns.now)) }
         ensures refused { IfErr result (IsFrontRefusedByDefault (bytes_of patterns.now)) }
     {
@@ -350,7 +349,6 @@ impl AhoCorasick {
         patterns: &[P],
     ) -> Result<AhoCorasick, BuildError>
         ensures finds { IfOk result (λ ac. FindsBytes (map P.items patterns.now) (as_built ac).dictionary) }
-        ensures starts { IfOk result (λ ac. start_kind_of ac ≡ StartKind.Unanchored) }
         ensures served { IfOk result (IsFrontBuiltByDefault (map P.items patterns.now)) }
         ensures refused { IfErr result (IsFrontRefusedByDefault (map P.items patterns.now)) }
     {

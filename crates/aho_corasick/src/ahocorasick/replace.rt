@@ -8,7 +8,7 @@ ghost use Rattle.ac_literal.specs.Packed.{bytes_of};
 ghost use Rattle.ac_automaton.specs.declared.error.ReplaceError.TheVariants.{Memory};
 ghost use Rattle.ac_automaton.specs.Replace.{IsForMatches, ReplacesText, ReplacesBytes, ReplacesTextWith, ReplacesBytesWith};
 ghost use Rattle.aho_corasick.specs.AhoCorasick.{as_built, supported_by, pattern_count};
-ghost use Rattle.aho_corasick.specs.Replaced.{IsReplacedText, AreReplacedBytes, AppendsText, AppendsBytes};
+ghost use Rattle.aho_corasick.specs.Replaced.{IsReplacedText, IsReplacedBytes, AppendsText, AppendsBytes};
 
 use super::AhoCorasick;
 use ac_automaton::automaton::Automaton;
@@ -67,7 +67,7 @@ impl AhoCorasick {
         requires can { supported_by self.now Anchored.No }
         requires one_each { length replacements.now ≡ pattern_count self.now }
         ensures { IfOk result
-            (AreReplacedBytes self.now haystack.now (bytes_of replacements.now)) }
+            (IsReplacedBytes self.now haystack.now (bytes_of replacements.now)) }
     {
         match self.try_replace_all_bytes(alloc, haystack, replacements) {
             Ok(bytes) => Ok(bytes),
@@ -154,7 +154,7 @@ impl AhoCorasick {
         ensures answer { ReplacesBytes (as_built self.now) (supported_by self.now) haystack.now
             replacements.now result }
         ensures replaced { IfOk result
-            (AreReplacedBytes self.now haystack.now (bytes_of replacements.now)) }
+            (IsReplacedBytes self.now haystack.now (bytes_of replacements.now)) }
     {
         Automaton::try_replace_all_bytes(self, alloc, haystack, replacements)
     }

@@ -5,11 +5,11 @@
 //! The calls with `try_` return an error if the automaton has no start for the input's anchoring, and those for overlapping
 //! matches also if its kind isn't the standard one. The others require that neither is so, and then do the same. None of them
 //! takes memory.
-ghost use Rattle.std.specs.Prelude.{◌≡◌, ◌↔◌, IfOk, IfSome, IsTrue, OnOk, length, ◌+◌, ◌≤◌};
-ghost use Rattle.ac_automaton.specs.Automaton.{AnswersFind, CostsFind, IsFound, searched};
+ghost use Rattle.std.specs.Prelude.{◌≡◌, ◌↔◌, IfOk, IfSome, IsTrue, length, ◌+◌, ◌≤◌};
+ghost use Rattle.ac_automaton.specs.Automaton.{Finds, CostsFind, IsFound, searched};
 ghost use Rattle.ac_automaton.specs.Iter.{AnswersFindIter, AnswersFindIterFrom, IsPlaceIn, left_of};
-ghost use Rattle.ac_automaton.specs.Overlapping.{CountsShown, ShowsNext, AnswersOverlapping, IsOverlappingCost};
-ghost use Rattle.ac_automaton.specs.Overlapping.OverlappingIter.{AnswersOverlappingIter, rest_of};
+ghost use Rattle.ac_automaton.specs.Overlapping.{ShowsNext, AnswersOverlapping, IsOverlappingCost};
+ghost use Rattle.ac_automaton.specs.Overlapping.OverlappingIter.{AnswersListing, rest_of};
 ghost use Rattle.ac_automaton.specs.Items.{AreFewForEach, MatchesAreInOrder, EachLiesWithin, FindsWithin, LiesWithin};
 ghost use Rattle.aho_corasick.specs.AhoCorasick.{as_built, kind_of, supported_by, CameFromCalls, HasOccurrence, IsWalkOver, IsRunOver};
 
@@ -77,7 +77,6 @@ impl AhoCorasick {
         ensures came { CameFromCalls self.now input.entry state.new }
         ensures shows { ShowsNext (as_built self.now) input.entry state.old state.new }
         ensures cost { IsOverlappingCost (as_built self.now) input.entry state.new.sums }
-        ensures counted { CountsShown (as_built self.now) input.entry state.new }
     {
         self.try_find_overlapping(input, state).unwrap()
     }
@@ -147,7 +146,7 @@ impl AhoCorasick {
     ///
     /// An example: `uses::examples::find::match_at`.
     pub fn try_find(&self, input: Input<'_>) -> Result<Option<Match>, MatchError>
-        ensures answer { AnswersFind (as_built self.now).dictionary (supported_by self.now) input.entry result }
+        ensures answer { Finds (as_built self.now).dictionary (supported_by self.now) input.entry result }
         ensures within { FindsWithin (as_built self.now).dictionary input.entry result }
     {
         Automaton::try_find(self, &input)
@@ -161,7 +160,7 @@ impl AhoCorasick {
         input: Input<'_>,
         steps: &mut Steps,
     ) -> Result<Option<Match>, MatchError>
-        ensures answer { AnswersFind (as_built self.now).dictionary (supported_by self.now) input.entry result }
+        ensures answer { Finds (as_built self.now).dictionary (supported_by self.now) input.entry result }
         ensures within { FindsWithin (as_built self.now).dictionary input.entry result }
         ensures cost { CostsFind (as_built self.now) input.entry steps.old steps.new result }
     {
@@ -194,7 +193,6 @@ impl AhoCorasick {
         ensures answer { AnswersOverlapping (as_built self.now) (supported_by self.now) input.entry
             state.old state.new result }
         ensures cost { IsOverlappingCost (as_built self.now) input.entry state.new.sums }
-        ensures counted { OnOk result (CountsShown (as_built self.now) input.entry state.new) }
     {
         Automaton::try_find_overlapping(self, &input, state)
     }
@@ -266,7 +264,7 @@ impl AhoCorasick {
         &'a self,
         input: Input<'h>,
     ) -> Result<FindOverlappingIter<'a, 'h>, MatchError>
-        ensures answer { AnswersOverlappingIter (as_built self.now) (supported_by self.now)
+        ensures answer { AnswersListing (as_built self.now) (supported_by self.now)
             input.entry result }
         ensures few { IfOk result (AreFewForEach (as_built self.now) input.entry) }
         ensures lie { IfOk result (EachLiesWithin rest_of (as_built self.now) input.entry) }

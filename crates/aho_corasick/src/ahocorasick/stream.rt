@@ -13,9 +13,9 @@ ghost use Rattle.ac_literal.specs.Packed.{bytes_of};
 ghost use Rattle.ac_automaton.specs.declared.error.StreamError.TheVariants.{Memory};
 ghost use Rattle.ac_automaton.specs.Replace.{IsForMatches};
 ghost use Rattle.ac_automaton.specs.Stream.{AnswersNew, CanStream};
-ghost use Rattle.ac_automaton.specs.Stream.StreamIter.{AnswersStreamIter};
+ghost use Rattle.ac_automaton.specs.Stream.StreamIter.{FindsStream};
 ghost use Rattle.ac_automaton.specs.Stream.StreamOverlappingIter.{AnswersStreamListing};
-ghost use Rattle.ac_automaton.specs.Stream.StreamReplace.{AcceptsReplacing, CostsStream, ReplacesStream};
+ghost use Rattle.ac_automaton.specs.Stream.StreamReplace.{AcceptsStream, CostsStream, ReplacesStream};
 ghost use Rattle.ac_automaton.specs.Stream.StreamReplaceWith.{ReplacesStreamWith};
 ghost use Rattle.ac_automaton.specs.Stream.StreamReplacer.{AnswersReplacer};
 ghost use Rattle.ac_automaton.specs.declared.stream.StreamKinds.TheVariants.{AnyKind, OnlyStandard};
@@ -77,7 +77,7 @@ impl AhoCorasick {
         reader: &'a mut Watched<R>,
     ) -> Result<StreamFindIter<'a, R>, StreamError>
         requires { reader.old.ended ≡ false }
-        ensures { AnswersStreamIter OnlyStandard (as_built self.now) (supported_by self.now)
+        ensures { FindsStream OnlyStandard (as_built self.now) (supported_by self.now)
             reader.entry result }
     {
         Automaton::try_stream_find_iter(self, alloc, reader)
@@ -126,13 +126,12 @@ impl AhoCorasick {
             (bytes_of replacements.now) reader.old reader.new writer.old writer.new) }
         ensures moved { ReplacesStream R.remaining W.contents (as_built self.now)
             (bytes_of replacements.now) reader.old reader.new writer.old writer.new result }
-        ensures accepted { AcceptsReplacing OnlyStandard (as_built self.now) (supported_by self.now)
-            reader.old reader.new writer.old writer.new result }
+        ensures accepted { AcceptsStream OnlyStandard (as_built self.now) (supported_by self.now) result }
     {
         Automaton::try_stream_replace_all(self, alloc, reader, writer, replacements)
     }
 
-    /// The same, and counts what it does.
+    /// The same, and counts what it does. The clause `replaced` of that call follows from `moved`.
     pub fn try_stream_replace_all_counted<R: Read, W: Write>(
         &self,
         alloc: Global,
@@ -143,12 +142,9 @@ impl AhoCorasick {
     ) -> Result<(), StreamError>
         requires open { reader.old.ended ≡ false }
         requires one_each { length replacements.now ≡ pattern_count self.now }
-        ensures replaced { OnOk result (IsStreamReplaced R.remaining W.contents self.now
-            (bytes_of replacements.now) reader.old reader.new writer.old writer.new) }
         ensures moved { ReplacesStream R.remaining W.contents (as_built self.now)
             (bytes_of replacements.now) reader.old reader.new writer.old writer.new result }
-        ensures accepted { AcceptsReplacing OnlyStandard (as_built self.now) (supported_by self.now)
-            reader.old reader.new writer.old writer.new result }
+        ensures accepted { AcceptsStream OnlyStandard (as_built self.now) (supported_by self.now) result }
         ensures cost { CostsStream (as_built self.now) reader.old reader.new
             steps.old steps.new result }
     {
@@ -216,7 +212,7 @@ impl AhoCorasick {
         reader: &'a mut Watched<R>,
     ) -> Result<StreamFindIter<'a, R>, StreamError>
         requires { reader.old.ended ≡ false }
-        ensures { AnswersStreamIter AnyKind (as_built self.now) (supported_by self.now)
+        ensures { FindsStream AnyKind (as_built self.now) (supported_by self.now)
             reader.entry result }
     {
         Automaton::try_stream_find_iter_any_kind(self, alloc, reader)
@@ -275,13 +271,12 @@ impl AhoCorasick {
             (bytes_of replacements.now) reader.old reader.new writer.old writer.new) }
         ensures moved { ReplacesStream R.remaining W.contents (as_built self.now)
             (bytes_of replacements.now) reader.old reader.new writer.old writer.new result }
-        ensures accepted { AcceptsReplacing AnyKind (as_built self.now) (supported_by self.now)
-            reader.old reader.new writer.old writer.new result }
+        ensures accepted { AcceptsStream AnyKind (as_built self.now) (supported_by self.now) result }
     {
         Automaton::try_stream_replace_all_any_kind(self, alloc, reader, writer, replacements)
     }
 
-    /// The same, and counts what it does.
+    /// The same, and counts what it does. The clause `replaced` of that call follows from `moved`.
     pub fn try_stream_replace_all_any_kind_counted<R: Read, W: Write>(
         &self,
         alloc: Global,
@@ -292,12 +287,9 @@ impl AhoCorasick {
     ) -> Result<(), StreamError>
         requires open { reader.old.ended ≡ false }
         requires one_each { length replacements.now ≡ pattern_count self.now }
-        ensures replaced { OnOk result (IsStreamReplaced R.remaining W.contents self.now
-            (bytes_of replacements.now) reader.old reader.new writer.old writer.new) }
         ensures moved { ReplacesStream R.remaining W.contents (as_built self.now)
             (bytes_of replacements.now) reader.old reader.new writer.old writer.new result }
-        ensures accepted { AcceptsReplacing AnyKind (as_built self.now) (supported_by self.now)
-            reader.old reader.new writer.old writer.new result }
+        ensures accepted { AcceptsStream AnyKind (as_built self.now) (supported_by self.now) result }
         ensures cost { CostsStream (as_built self.now) reader.old reader.new
             steps.old steps.new result }
     {

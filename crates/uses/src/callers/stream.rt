@@ -10,7 +10,7 @@ ghost use Rattle.uses.specs.Callers.{HasToRead, Rewrites, TwoLooks};
 use ac_automaton::error::StreamError;
 use ac_automaton::output::Output;
 use ac_automaton::search::Search;
-use ac_automaton::stream::{StreamFindIter, stream_find_iter};
+use ac_automaton::stream::{StreamFindIter, StreamKinds, stream_find_iter};
 use ac_automaton::watched::{Watched, write_whole};
 use ac_input::search::Match;
 use ac_input::steps::Steps;
@@ -77,7 +77,7 @@ pub fn first_match<A: Search, R: Read>(
     requires { reader.old.ended ≡ false }
     ensures { IfOk result (λ found. IfSome found (λ o. reader.new.ended ≡ false)) }
 {
-    let mut matches = stream_find_iter(reader, automaton, alloc)?;
+    let mut matches = stream_find_iter(reader, automaton, StreamKinds::OnlyStandard, alloc)?;
     let first = next_match(&mut matches);
     let _reader = matches.into_reader();
     first

@@ -2,7 +2,7 @@
 ghost use Rattle.std.specs.Prelude.{◌≡◌, false, IfOk, IfSome};
 ghost use Rattle.ac_automaton.specs.Stream.{CanBeCounted};
 ghost use Rattle.ac_automaton.specs.Stream.StreamListing.{IsAllListed, all_read, occurrences_in};
-ghost use Rattle.ac_automaton.specs.Stream.StreamOverlappingIter.{listing_of_stream, reader_listed, reader_listed_name};
+ghost use Rattle.ac_automaton.specs.Stream.StreamOverlappingIter.{stream_listed, reader_listed, reader_listed_name};
 ghost use Rattle.aho_corasick.specs.AhoCorasick.{as_built};
 
 use ac_automaton::search::Search;
@@ -82,9 +82,9 @@ pub fn pass_held<A: Search, R: Read>(
     occurrences: &mut StreamFindOverlappingIter<'_, A, R>,
     steps: &mut Steps,
 )
-    requires { CanBeCounted (all_read (listing_of_stream occurrences.old)) }
+    requires { CanBeCounted (all_read (stream_listed occurrences.old)) }
     ensures reader { reader_listed occurrences.new ≡ reader_listed occurrences.old }
-    ensures all { IsAllListed (listing_of_stream occurrences.new) }
+    ensures all { IsAllListed (stream_listed occurrences.new) }
 {
     while let Some(_) = occurrences.next_held_counted(steps) {}
 }

@@ -1,18 +1,18 @@
 -- The state keeps where the search stands, and its sums are within one walk.
-use Rattle.std.proofs.Common.{rules, ℕ, ◌+◌, drop, Option, is_some, if◌then◌else◌, inr, sym, ap, subst, ◌∙◌}
+use Rattle.std.proofs.Common.{ℕ, ◌+◌, drop, Option, is_some, if◌then◌else◌, inr, sym, ap, subst, ◌∙◌}
 use Rattle.ac_input.specs.Computed.{listing_of}
 use Rattle.ac_input.specs.Input.{search_of}
 use Rattle.ac_input.specs.Occurrence.{Occurrence}
 use Rattle.ac_input.specs.Work.{come_at_least}
 use Rattle.ac_automaton.specs.declared.overlapping.Position.{Position}
-use Rattle.ac_automaton.specs.Overlapping.{DoneAlike, IsCountedTo, StandsAt, stands_at_least}
+use Rattle.ac_automaton.specs.Overlapping.{IsCountedTo, StandsAt, stands_at_least}
 use Rattle.ac_automaton.specs.Automaton.{searched}
 use Rattle.ac_automaton.proofs.overlapping.OverlappingStateLemmas.{came-counted, came-stands, counted-after, stands-after, stands-work, found-after, shown-counted}
 use Rattle.ac_automaton.proofs.overlapping.find_overlapping.Given.{Over}
 use Rattle.ac_automaton.proofs.overlapping.find_overlapping.Goals as goal
 
 -- where the search stood before the call
-before : (g : Over) (c : goal.After-add g)
+before : (g : Over) (c : goal.After-keep g)
     → let a = c.args.automaton.now in
     let b = g.A.Automaton.built a in
     let asked = c.args.input.now in
@@ -28,7 +28,7 @@ before g c =
     subst (λ (p : Position). StandsAt (R asked.anchored) E b.dictionary b.deterministic (search_of b.dictionary asked.anchored asked.haystack asked.span) p state.shown.value state.sums) (sym c.unwrap_or-place.ensures) first
 
 -- where the search stands after the call
-after : (g : Over) (c : goal.After-add g)
+after : (g : Over) (c : goal.After-keep g)
     → let a = c.args.automaton.now in
     let b = g.A.Automaton.built a in
     let asked = c.args.input.now in
@@ -40,7 +40,7 @@ after g c =
     stands-after _ _ _ _ _ c.unwrap_or-place.result n c.search_overlapping-shown.result c.args.state.now.sums c.new-done.result c.search_overlapping-shown.new.steps c.keep.new.self.sums stands shows c.search_overlapping-shown.ensures.pays c.new-done.ensures c.keep.ensures.sums
 
 -- each byte is counted up to where the search stands
-counted : (g : Over) (c : goal.After-add g) → IsCountedTo (g.A.Automaton.built c.args.automaton.now) c.args.input.now (stands_at_least (searched (g.A.Automaton.built c.args.automaton.now) c.args.input.now) c.search_overlapping-shown.result.place) c.keep.new.self.sums
+counted : (g : Over) (c : goal.After-keep g) → IsCountedTo (g.A.Automaton.built c.args.automaton.now) c.args.input.now (stands_at_least (searched (g.A.Automaton.built c.args.automaton.now) c.args.input.now) c.search_overlapping-shown.result.place) c.keep.new.self.sums
 counted g c =
     let a = c.args.automaton.now in
     let b = g.A.Automaton.built a in
@@ -70,18 +70,11 @@ returns-clause-answer g c =
       record {
         found = c.keep.ensures.found ∙ found-after (g.A.Automaton.Reaches a asked.anchored) (g.A.Automaton.matches a) b.dictionary s n c.search_overlapping-shown.result shows;
         shown = c.keep.ensures.shown ∙ ap (λ (f : Option Occurrence). if is_some f then n + 1 else n) (sym c.keep.ensures.found);
+        counted = subst (λ (r : Option Occurrence). IsCountedTo b asked (come_at_least s r) c.keep.new.self.sums) (sym c.keep.ensures.found)
+            (shown-counted b asked c.search_overlapping-shown.result c.keep.new.self.sums (counted g c) shows.2);
       },
     )
 
-pub returns-clause-counted : goal.returns-clause-counted
-returns-clause-counted g c =
-    let b = g.A.Automaton.built c.args.automaton.now in
-    let asked = c.args.input.now in
-    let shows = c.search_overlapping-shown.ensures.shows (drop c.args.state.now.shown.value (listing_of (search_of b.dictionary asked.anchored asked.haystack asked.span))) (before g c).left in
-    subst (λ (r : Option Occurrence). IsCountedTo b asked (come_at_least (search_of b.dictionary asked.anchored asked.haystack asked.span) r) c.keep.new.self.sums) (sym c.keep.ensures.found)
-    (shown-counted b asked c.search_overlapping-shown.result c.keep.new.self.sums (counted g c) shows.2)
-
 pub returns-clause-cost : goal.returns-clause-cost
 returns-clause-cost g c =
-    let alike : DoneAlike c.args.state.now.sums c.keep.new.self.sums c.args.steps.now c.add.new.self = search rules in
-    (stands-work _ _ _ _ _ c.search_overlapping-shown.result.place _ c.keep.new.self.sums (g.met.A.Automaton.lives c.args.automaton.now c.args.input.now.anchored) (after g c), alike)
+    stands-work _ _ _ _ _ c.search_overlapping-shown.result.place _ c.keep.new.self.sums (g.met.A.Automaton.lives c.args.automaton.now c.args.input.now.anchored) (after g c)

@@ -14,7 +14,7 @@ ghost use Rattle.ac_automaton.specs.Automaton.{IsState};
 ghost use Rattle.ac_automaton.specs.Stream.{CanBeCounted, CanStream, IsOutOfMemory};
 ghost use Rattle.ac_automaton.specs.Stream.StreamListing.{AnswersNewListing, IsAllListed, IsListingConfigRefusal, IsOnListing, ListingCounts, ListingProgress, ListingReadsMore, ListsHeld, all_read, fresh_listing};
 ghost use Rattle.ac_automaton.specs.Stream.StreamListingSearch.{FillsFront};
-ghost use Rattle.ac_automaton.specs.Stream.StreamListingWalk.{GivesOfState, ListsNext, MayGive, MayList, ReadsOnHeld};
+ghost use Rattle.ac_automaton.specs.Stream.StreamListingWalk.{GivesOfState, ListsNext, MayGive, MayList, ReadsHeld};
 ghost use Rattle.ac_automaton.specs.Stream.StreamSearch.{some_of};
 ghost use Rattle.ac_automaton.specs.declared.stream.StreamKinds.TheVariants.{OnlyStandard};
 
@@ -117,8 +117,7 @@ fn allocated(alloc: Global) -> Result<Vec<u8>, AllocError>
 fn fill<R: Read>(bytes: &mut Vec<u8>, reader: &mut Watched<R>) -> io::Result<usize>
     requires room { 0 < vec_len bytes.old }
     requires open { reader.old.ended ≡ false }
-    ensures fills { FillsFront R.remaining bytes.new.items (vec_len bytes.new)
-        reader.old reader.new result }
+    ensures fills { FillsFront R.remaining bytes.new reader.old reader.new result }
     ensures len { vec_len bytes.new ≡ vec_len bytes.old }
 {
     reader.read(bytes.as_mut_slice())
@@ -175,7 +174,7 @@ fn read_on<A: Automaton>(
     requires stands { MayList A.Automaton automaton.now place.now held.now }
     requires given { place.now.len ≤ place.now.index }
     requires known { AreNotes A.Reaches A.matches automaton.now held.now ahead.old.notes }
-    ensures reads { ReadsOnHeld A.Automaton automaton.now place.now held.now result
+    ensures reads { ReadsHeld A.Automaton automaton.now place.now held.now result
         steps.old steps.new }
     ensures known { AreNotes A.Reaches A.matches automaton.now held.now ahead.new.notes }
 {

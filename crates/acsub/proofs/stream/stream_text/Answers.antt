@@ -28,7 +28,7 @@ pub told-requires : goal.told-requires
 told-requires g c =
     let replaced = c.try_stream_replace_all_any_kind_counted-replaced in
     let can = streamed-can c.args.engine.now c.args.prepared.now c.requires.serves c.requires.streamed in
-    replaces-accepted (as_built c.args.engine.now) (supported_by c.args.engine.now) can c.args.reader.now replaced.new.reader c.args.writer.now replaced.new.writer replaced.result replaced.ensures.accepted
+    replaces-accepted (as_built c.args.engine.now) (supported_by c.args.engine.now) can replaced.result replaced.ensures.accepted
 
 pub returns-in_ok-replacements-in-Replace-clause-ran : goal.returns-in_ok-replacements-in-Replace-clause-ran
 returns-in_ok-replacements-in-Replace-clause-ran g c =
@@ -42,9 +42,8 @@ returns-in_ok-replacements-in-Replace-clause-ran g c =
 pub returns-in_ok-replacements-in-Replace-clause-memory : goal.returns-in_ok-replacements-in-Replace-clause-memory
 returns-in_ok-replacements-in-Replace-clause-memory g c =
     let replaced = c.try_stream_replace_all_any_kind_counted-replaced in
-    let can = streamed-can c.args.engine.now c.args.prepared.now c.requires.serves c.requires.streamed in
     streamed_memory c.args.prepared.now c.args.reader.now replaced.new.reader c.args.writer.now replaced.new.writer replaced.result c.told.result c.told.ensures
-    (replaces-memory (as_built c.args.engine.now) (supported_by c.args.engine.now) can c.args.reader.now replaced.new.reader c.args.writer.now replaced.new.writer replaced.result replaced.ensures.accepted)
+    (replaces-memory g.R.Read.remaining g.W.Write.contents (as_built c.args.engine.now) _ c.args.reader.now replaced.new.reader c.args.writer.now replaced.new.writer replaced.result replaced.ensures.moved)
 
 pub returns-in_ok-replacements-in-Replace-clause-cost : goal.returns-in_ok-replacements-in-Replace-clause-cost
 returns-in_ok-replacements-in-Replace-clause-cost g c =

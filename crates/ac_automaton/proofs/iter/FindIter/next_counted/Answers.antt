@@ -1,7 +1,7 @@
 -- The next pick of the rest of the input is the walk's next pick.
 use Rattle.std.proofs.Common.{rules}
 use Rattle.ac_automaton.specs.Iter.{walk_at}
-use Rattle.ac_automaton.proofs.iter.IterLemmas.{idle-cost, pick-counted, pick-of_walk}
+use Rattle.ac_automaton.proofs.iter.IterLemmas.{idle-cost, pick-costs, pick-of_walk}
 use Rattle.ac_automaton.proofs.iter.FindIter.next_counted.Goals as goal
 
 pub returns-in-Some-clause-gives : goal.returns-in-Some-clause-gives
@@ -14,19 +14,19 @@ returns-in-None-clause-gives g c =
     let i = c.self.inside in
     (pick-of_walk (g.A.Automaton.built i.automaton.now) i.first.value i.input i.last i.sums _ _ c.self.view_is c.next_pick-found.ensures.pick, search rules)
 
-pub returns-in-Some-clause-counted : goal.returns-in-Some-clause-counted
-returns-in-Some-clause-counted g c =
+pub returns-in-Some-clause-cost : goal.returns-in-Some-clause-cost
+returns-in-Some-clause-cost g c =
     let i = c.self.inside in
-    let b = g.A.Automaton.built i.automaton.now in
-    rw (← c.self.view_is)
-    (pick-counted (walk_at b i.first.value i.input i.last i.sums) _ _ c.new-taken.result c.next_pick-found.new.steps _ _ (search rules) c.self.invariant.1.begun (search rules) c.new-taken.ensures c.add.ensures c.add-2.ensures.looked c.add-2.ensures.scanned c.next_pick-found.ensures.counts c.self.invariant.2)
+    let w = walk_at (g.A.Automaton.built i.automaton.now) i.first.value i.input i.last i.sums in
+    let picked = c.next_pick-found.ensures in
+    rw (← c.self.view_is) (pick-costs w _ _ c.new-taken.result c.next_pick-found.new.steps _ _ (search rules) c.self.invariant.1.begun (search rules) c.new-taken.ensures c.add.ensures c.add-2.ensures.looked c.add-2.ensures.scanned c.add-2.ensures.moved picked.work picked.counts c.self.invariant.2)
 
-pub returns-in-None-clause-counted : goal.returns-in-None-clause-counted
-returns-in-None-clause-counted g c =
+pub returns-in-None-clause-cost : goal.returns-in-None-clause-cost
+returns-in-None-clause-cost g c =
     let i = c.self.inside in
-    let b = g.A.Automaton.built i.automaton.now in
-    rw (← c.self.view_is)
-    (pick-counted (walk_at b i.first.value i.input i.last i.sums) _ _ c.new-taken.result c.next_pick-found.new.steps _ _ (search rules) c.self.invariant.1.begun (search rules) c.new-taken.ensures c.add.ensures c.add-2.ensures.looked c.add-2.ensures.scanned c.next_pick-found.ensures.counts c.self.invariant.2)
+    let w = walk_at (g.A.Automaton.built i.automaton.now) i.first.value i.input i.last i.sums in
+    let picked = c.next_pick-found.ensures in
+    rw (← c.self.view_is) (pick-costs w _ _ c.new-taken.result c.next_pick-found.new.steps _ _ (search rules) c.self.invariant.1.begun (search rules) c.new-taken.ensures c.add.ensures c.add-2.ensures.looked c.add-2.ensures.scanned c.add-2.ensures.moved picked.work picked.counts c.self.invariant.2)
 
 pub returns-then-is_done-clause-cost : goal.returns-then-is_done-clause-cost
-returns-then-is_done-clause-cost g c = rw (← c.self.view_is) (idle-cost _ _ (search rules))
+returns-then-is_done-clause-cost g c = rw (← c.self.view_is) (idle-cost _ _ (search rules) c.self.invariant.2)

@@ -21,13 +21,13 @@ returns-in_err-matches-clause-lists g c =
     let p = err_from_is_err_and c.from_residual-in_err-matches.result c.from_residual-in_err-matches.ensures.1 in
     let b = as_built c.args.engine.now in
     let memory = refused-memory b (supported_by c.args.engine.now) c.requires.can c.in_err-matches.field-0.0 c.in_err-matches.ensures.answer in
-    let untouched = rw c.in_err-matches.was at c.stream_find_iter_any_kind.follows.holds-at-none in
+    let untouched = rw c.in_err-matches.was at c.stream_find_iter.follows.holds-at-none in
     rw (p.1, p.2, memory, untouched) (writes-nothing g.R.Read.remaining g.W.Write.contents (room_of b) (listed_in b) (IsDecidedList b.dictionary) c.args.reader.now c.args.writer.now)
 
 pub returns-in_err-matches-clause-costs : goal.returns-in_err-matches-clause-costs
 returns-in_err-matches-clause-costs g c =
     let p = err_from_is_err_and c.from_residual-in_err-matches.result c.from_residual-in_err-matches.ensures.1 in
-    let untouched = rw c.in_err-matches.was at c.stream_find_iter_any_kind.follows.holds-at-none in
+    let untouched = rw c.in_err-matches.was at c.stream_find_iter.follows.holds-at-none in
     rw (p.1, untouched) (cost-nothing (as_built c.args.engine.now) c.args.reader.now c.args.steps.now p.0)
 
 pub returns-clause-memory : goal.returns-clause-memory

@@ -2,6 +2,7 @@
 use Rattle.std.proofs.Common.{sym, subst, ◌∙◌}
 use Rattle.std.proofs.lemmas.Result.{IfOk-weaker, IfErr-weaker}
 use Rattle.ac_input.specs.Same.{IsUnpaired}
+use Rattle.aho_corasick.proofs.lemmas.FrontLemmas.{built-by_default}
 use Rattle.aho_corasick.proofs.ahocorasick.AhoCorasick.from_patterns.Goals as goal
 
 pub returns : goal.returns
@@ -11,7 +12,6 @@ returns g c =
     let set = first.settings in
     record {
       finds = IfOk-weaker made _ _ (λ ac is. (is.patterns, is.kind ∙ set.match_kind, subst IsUnpaired (sym is.pairing) set.pairing)) c.build_from_patterns.ensures.configured;
-      starts = IfOk-weaker made _ _ (λ ac is. is.starts ∙ set.start_kind) c.build_from_patterns.ensures.configured;
-      served = IfOk-weaker made _ _ (λ ac built. (c.new.result, first, built)) c.build_from_patterns.ensures.served;
+      served = built-by_default c.new.result _ made first c.build_from_patterns.ensures.configured c.build_from_patterns.ensures.served;
       refused = IfErr-weaker made _ _ (λ error refused. (c.new.result, first, refused)) c.build_from_patterns.ensures.refused;
     }

@@ -1,9 +1,10 @@
+use Rattle.std.proofs.lemmas.Result.{IfOk-weaker}
 use Rattle.ac_literal.specs.Packed.{bytes_of}
 use Rattle.uses.proofs.callers.TextLemmas.{starts-served, texts-found}
 use Rattle.uses.proofs.callers.texts.of_texts.Goals as goal
 
 pub returns-clause-can : goal.returns-clause-can
-returns-clause-can c = starts-served c.new.result c.new.ensures.starts
+returns-clause-can c = starts-served c.new.result (IfOk-weaker c.new.result _ _ (λ ac built. built.starts) c.new.ensures.served)
 
 pub returns-clause-texts : goal.returns-clause-texts
 returns-clause-texts c = texts-found (bytes_of c.args.texts.now) c.new.result c.folding_keeps_chars.ensures c.requires c.new.ensures.finds

@@ -33,8 +33,8 @@ returns-clause-gives g c =
     let counted = subst (λ (k : ℕ). MatchOption r ((drop n L ≡ []) × (drop k L ≡ [])) (λ o. drop n L ≡ o ∷ drop k L)) (sym c.with_found-self-inside.ensures) yields in
     (rw (← c.self.view_is) counted, search rules)
 
-pub returns-clause-work : goal.returns-clause-work
-returns-clause-work g c =
+pub returns-clause-cost : goal.returns-clause-cost
+returns-clause-cost g c =
     let i = c.self.inside in
     let m = (g.A.Automaton.built i.automaton.now).dictionary in
     let d = (g.A.Automaton.built i.automaton.now).deterministic in
@@ -46,7 +46,7 @@ returns-clause-work g c =
     let after = stands-after R E m d s i.place i.shown.value c.search_overlapping_ahead-shown.result i.sums c.new-done.result c.search_overlapping_ahead-shown.new.steps c.add.new.self stands shows c.search_overlapping_ahead-shown.ensures.pays c.new-done.ensures c.add.ensures in
     let lives = λ (text : List ℕ) (sid : StateID) (reads : R text sid). g.met.A.Automaton.lives i.automaton.now i.input.anchored text sid reads in
     let work = stands-work R E m d s c.search_overlapping_ahead-shown.result.place (if is_some c.search_overlapping_ahead-shown.result.found then i.shown.value + 1 else i.shown.value) c.add.new.self lives after in
-    record { looked = work.looked; scanned = work.scanned; moved = work.moved }
+    (search rules, record { looked = work.looked; scanned = work.scanned; moved = work.moved })
 
 pub returns-clause-counted : goal.returns-clause-counted
 returns-clause-counted g c =

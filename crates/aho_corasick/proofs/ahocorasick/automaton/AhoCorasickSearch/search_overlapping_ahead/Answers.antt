@@ -1,6 +1,5 @@
 -- The front shows what the automaton that serves shows, and keeps that automaton's notes.
 use Rattle.std.proofs.Common.{[], List, take, ◌≡◌}
-use Rattle.ac_input.specs.declared.search.Anchored.TheVariants.{No}
 use Rattle.ac_input.specs.Input.{Asked}
 use Rattle.ac_input.specs.Occurrence.{Occurrence}
 use Rattle.ac_automaton.specs.Ahead.{AreNotes}

@@ -16,11 +16,11 @@ use Rattle.acsub.specs.declared.error.RunError.{RunError}
 use Rattle.acsub.specs.declared.error.RunError.TheVariants as errors
 use Rattle.acsub.specs.declared.prepared.Finder.{Finder}
 use Rattle.acsub.specs.declared.prepared.Finder.TheVariants as finders
-use Rattle.acsub.specs.declared.settings.Engine.TheVariants as engines
-use Rattle.acsub.specs.declared.settings.Settings.{Settings}
+use Rattle.acsub_words.specs.declared.settings.Engine.TheVariants as engines
+use Rattle.acsub_words.specs.declared.settings.Settings.{Settings}
 use Rattle.acsub.specs.Plan.{Plan}
 use Rattle.acsub.specs.Served.{IsNotBuilt, builder_by}
-use Rattle.acsub.specs.Rules.Sides.{rule_patterns}
+use Rattle.acsub_rules.specs.Sides.{rule_patterns}
 
 -- the search of a whole input
 abbrev pub whole_search : Settings → List (List ℕ) → List ℕ → Search

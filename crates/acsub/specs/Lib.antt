@@ -1,12 +1,9 @@
-pub mod Settings
 pub mod Input
 pub mod Run
-pub mod Words
 pub mod Tool
 pub mod Outcome
 pub mod Served
 pub mod Finder
 pub mod Matches
 pub mod Stream
-pub mod Rules
 pub mod Plan

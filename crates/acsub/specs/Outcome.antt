@@ -14,15 +14,15 @@ use Rattle.acsub.specs.declared.error.RunError.{RunError}
 use Rattle.acsub.specs.declared.error.RunError.TheVariants as errors
 use Rattle.acsub.specs.declared.tool.Fault.{Fault}
 use Rattle.acsub.specs.declared.tool.Fault.TheVariants as faults
-use Rattle.acsub.specs.declared.words.Words.{Words}
-use Rattle.acsub.specs.declared.words.WordsFault.{WordsFault}
-use Rattle.acsub.specs.declared.words.WordsFault.TheVariants.{Help, Bad, Memory, Pairing}
+use Rattle.acsub_words.specs.declared.Words.{Words}
+use Rattle.acsub_words.specs.declared.WordsFault.{WordsFault}
+use Rattle.acsub_words.specs.declared.WordsFault.TheVariants.{Help, Bad, Memory, Pairing}
 use Rattle.acsub.specs.Plan.{plan_of}
-use Rattle.acsub.specs.Rules.File.{grammar_of}
+use Rattle.acsub_rules.specs.File.{grammar_of}
 use Rattle.acsub.specs.Run.{RanIn, RefusesIn}
 use Rattle.acsub.specs.Stream.{IsReturnedAs}
 use Rattle.acsub.specs.Tool.{IsFaultOf, exit_of, status_of}
-use Rattle.acsub.specs.Words.{Reads}
+use Rattle.acsub_words.specs.Words.{Reads}
 
 -- ---- the rule file
 

@@ -10,17 +10,17 @@ use Rattle.ac_input.specs.declared.steps.Steps.{Steps}
 use Rattle.ac_automaton.specs.Devices.Moved.{AllFit, AreFilled, AreWhole, Failed, HasMoved, Moved, NoneTouched, but_last}
 use Rattle.ac_automaton.specs.Stream.{CanBeCounted, read_again}
 use Rattle.ac_automaton.specs.declared.watched.Watched.{Watched}
-use Rattle.acsub.specs.declared.rules.RuleError.{RuleError}
-use Rattle.acsub.specs.declared.rules.RuleError.TheVariants as rule_errors
+use Rattle.acsub_rules.specs.declared.RuleError.{RuleError}
+use Rattle.acsub_rules.specs.declared.RuleError.TheVariants as rule_errors
 use Rattle.acsub.specs.declared.error.RunError.{RunError}
 use Rattle.acsub.specs.declared.error.RunError.TheVariants as errors
-use Rattle.acsub.specs.declared.settings.Settings.{Settings}
+use Rattle.acsub_words.specs.declared.settings.Settings.{Settings}
 use Rattle.acsub.specs.Matches.{IsHeldCost}
-use Rattle.acsub.specs.Rules.File.{Grammar, hex_rules}
+use Rattle.acsub_rules.specs.File.{Grammar, hex_rules}
 use Rattle.acsub.specs.Finder.{whole_walk}
 use Rattle.acsub.specs.Plan.{Plan, plan_of}
 use Rattle.acsub.specs.Served.{AreLooksFor, IsBuildable, IsNotBuilt, dictionary_for}
-use Rattle.acsub.specs.Settings.{IsAccepted, IsFirstExclusion}
+use Rattle.acsub_words.specs.Settings.{IsAccepted, IsFirstExclusion}
 use Rattle.acsub.specs.Run.Transformed.{IsOutputFront, IsStreamed, output_of, stream_room}
 
 -- ---- the text of the whole input

@@ -14,10 +14,10 @@ use Rattle.aho_corasick.specs.declared.ahocorasick.AhoCorasickKind.{AhoCorasickK
 use Rattle.aho_corasick.specs.declared.ahocorasick.AhoCorasickKind.TheVariants as kinds
 use Rattle.aho_corasick.specs.declared.ahocorasick.builder.AhoCorasickBuilder.{AhoCorasickBuilder}
 use Rattle.acsub.specs.Plan.{Plan}
-use Rattle.acsub.specs.Rules.Sides.{rule_patterns}
-use Rattle.acsub.specs.declared.settings.Engine.{Engine}
-use Rattle.acsub.specs.declared.settings.Engine.TheVariants as engines
-use Rattle.acsub.specs.declared.settings.Settings.{Settings}
+use Rattle.acsub_rules.specs.Sides.{rule_patterns}
+use Rattle.acsub_words.specs.declared.settings.Engine.{Engine}
+use Rattle.acsub_words.specs.declared.settings.Engine.TheVariants as engines
+use Rattle.acsub_words.specs.declared.settings.Settings.{Settings}
 
 -- the automaton that an engine's word names; `auto` leaves the choice to the front, and `packed` names none
 abbrev pub automaton_named : Engine → Option AhoCorasickKind

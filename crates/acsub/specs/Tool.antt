@@ -8,24 +8,10 @@ use Rattle.ac_noncontiguous.specs.declared.error.BuildErrorKind.{BuildErrorKind}
 use Rattle.ac_noncontiguous.specs.declared.error.BuildErrorKind.TheVariants as limits
 use Rattle.acsub.specs.declared.error.RunError.{RunError}
 use Rattle.acsub.specs.declared.error.RunError.TheVariants as errors
-use Rattle.acsub.specs.declared.rules.RuleError.{RuleError}
-use Rattle.acsub.specs.declared.rules.RuleError.TheVariants as rule_errors
-use Rattle.acsub.specs.declared.settings.SettingError.{SettingError}
-use Rattle.acsub.specs.declared.settings.SettingError.TheVariants.{OverlapLeftmost, PackedStandard, PackedFold, PackedEmpty, PackedCount}
+use Rattle.acsub_rules.specs.File.{rule_text}
+use Rattle.acsub_words.specs.Settings.{setting_text}
 use Rattle.acsub.specs.declared.tool.Fault.{Fault}
 use Rattle.acsub.specs.declared.tool.Fault.TheVariants as faults
-
-abbrev pub setting_text : SettingError → List ℕ
-setting_text OverlapLeftmost = codes "overlap needs the standard kind"
-setting_text PackedStandard = codes "packed needs a leftmost kind"
-setting_text PackedFold = codes "packed keeps case"
-setting_text PackedEmpty = codes "packed takes no empty pattern"
-setting_text PackedCount = codes "packed takes 1 to 128 patterns"
-
--- A run returns only `Line` of these, so the other text is never printed.
-abbrev pub rule_text : RuleError → List ℕ
-rule_text (rule_errors.Line n) = codes "line " ++ decimal n
-rule_text rule_errors.Memory = codes "out of memory"
 
 -- A run returns out of memory as an error of its own, so that text is never printed here.
 abbrev pub build_text : BuildErrorKind → List ℕ

@@ -12,14 +12,12 @@ mod line;
 mod matches;
 mod prepared;
 mod rewrite;
-mod rules;
 mod run;
 #[cfg(test)]
 mod scripted;
-mod settings;
 mod stream;
 mod tool;
-mod version;
+#[cfg(test)]
 mod words;
 
 use ac_automaton::watched::Watched;

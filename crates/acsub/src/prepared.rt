@@ -3,7 +3,7 @@
 //! A [`Prepared`] holds the settings, the rules, which suit them, and what finds the matches of the rules' patterns. It is built
 //! before the input is read, and allocates all its memory then. Packed search serves if the engine's word names it; otherwise an
 //! [`AhoCorasick`] does, by the automaton that the word names, or by the one that its builder chooses. Only the build knows which.
-ghost use Rattle.std.specs.Prelude.{◌≡◌, ◌≢◌, ◌↔◌, IfErr, IfOk, IfSome, IsSome, length};
+ghost use Rattle.std.specs.Prelude.{◌≡◌, ◌≢◌, ◌↔◌, IfErr, IfOk, IfSome, IsSome, IsTrue, length};
 ghost use Rattle.ac_input.specs.declared.search.MatchKind.TheVariants.{Standard};
 ghost use Rattle.ac_literal.specs.Packed.{AreServed, search_kind};
 ghost use Rattle.acsub.specs.Finder.{FailsToBuild, IsFinderOf, IsPackedFor, IsServing, whole_listing, whole_walk};
@@ -11,17 +11,17 @@ ghost use Rattle.acsub.specs.Matches.{IsUncounted, left_in};
 ghost use Rattle.acsub.specs.Plan.{plan_of};
 ghost use Rattle.acsub.specs.Run.{Prepares};
 ghost use Rattle.acsub.specs.Served.{automaton_named, builder_by};
-ghost use Rattle.acsub.specs.Settings.{IsAccepted};
-ghost use Rattle.acsub.specs.Rules.Sides.{rule_patterns};
-ghost use Rattle.acsub.specs.Run.Transformed.{IsStreamed};
-ghost use Rattle.acsub.specs.declared.settings.Engine.TheVariants.{Packed};
+ghost use Rattle.acsub_words.specs.Settings.{IsAccepted};
+ghost use Rattle.acsub_rules.specs.Sides.{rule_patterns};
+ghost use Rattle.acsub.specs.Run.Transformed.{FindsEarly, IsStreamed};
+ghost use Rattle.acsub_words.specs.declared.settings.Engine.TheVariants.{Packed};
 
 use crate::error::RunError;
 use crate::matches::Matches;
-use crate::rules::Rules;
-use crate::settings::{Engine, Mode, Settings, check, is_streamed};
 use ac_input::search::{Input, MatchKind};
 use ac_literal::packed::{self, Config, Searcher};
+use acsub_rules::Rules;
+use acsub_words::settings::{Engine, Mode, Settings, check, has_empty_pattern};
 use aho_corasick::{AhoCorasick, AhoCorasickBuilder, AhoCorasickKind};
 use std::alloc::{AllocError, Global};
 use std::marker::Model;
@@ -139,6 +139,24 @@ pub fn prepare<'r>(
         }
         Err(error) => Err(RunError::Setting(error)),
     }
+}
+
+/// Whether the text is written while the input is still read: if matches are found by then, and no pattern is empty. A list of all
+/// that overlap is so only where that was asked for.
+fn is_streamed(settings: &Settings, stream: bool, rules: &Rules) -> bool
+    ensures { IsTrue result ↔ IsStreamed (plan_of stream settings.now rules.now) }
+{
+    finds_early(settings, stream)
+        && (stream || settings.mode != Mode::Overlap)
+        && !has_empty_pattern(rules)
+}
+
+/// Whether matches are found while the input is still read: under the standard kind, where no later byte can change a match; under a
+/// leftmost kind if that was asked for, and an automaton searches.
+fn finds_early(settings: &Settings, stream: bool) -> bool
+    ensures { IsTrue result ↔ FindsEarly stream settings.now }
+{
+    settings.kind == MatchKind::Standard || (stream && settings.engine != Engine::Packed)
 }
 
 /// What finds the matches of the rules' patterns, by settings that go with them.

@@ -2,9 +2,9 @@
 //!
 //! A device stops once and would then go on. So a body that tries a call again, or reads after an empty read, ends with another
 //! text and with other counts.
-use crate::settings::{Engine, Mode, Settings};
 use ac_input::pairing::{Pairing, PairingError};
 use ac_input::search::MatchKind;
+use acsub_words::settings::{Engine, Mode, Settings};
 use std::alloc::{AllocError, Global};
 use std::io;
 use std::io::{ErrorKind, Read, Write};

@@ -8,15 +8,15 @@ ghost use Rattle.std.specs.Prelude.{◌≡◌, IfErr, false};
 ghost use Rattle.acsub.specs.Finder.{IsServing};
 ghost use Rattle.acsub.specs.Run.{CostsRun, RanPrepared, RunsOutFirst};
 ghost use Rattle.acsub.specs.Run.Transformed.{IsStreamed};
-ghost use Rattle.acsub.specs.Settings.{IsAccepted};
+ghost use Rattle.acsub_words.specs.Settings.{IsAccepted};
 ghost use Rattle.acsub.specs.Stream.{IsNoRefusal, IsReturnedAs};
 
 use crate::error::RunError;
 use crate::prepared::Prepared;
-use crate::settings::Mode;
 use ac_automaton::error::StreamError;
 use ac_automaton::watched::Watched;
 use ac_input::steps::Steps;
+use acsub_words::settings::Mode;
 use aho_corasick::AhoCorasick;
 use std::alloc::Global;
 use std::io::{Read, Write};

@@ -1,419 +1,223 @@
-//! The words of the command line.
-//!
-//! `acsub MODE RULES [--text] [--stream] [--kind K] [--fold] [--pairs HEX] [--engine E] [--no-prefilter] [--dense-depth N] [--no-byte-classes]`
-//!
-//! clap splits the words, names the values that an argument takes and writes the help; what a value means is said here. The
-//! command stands as data in `specs/Command.antt`. So the contract of `read_words` says of all words what comes of them. It goes
-//! by clap's own account of which words such a command takes, and which value each argument then has.
-ghost use Rattle.std.specs.Prelude.{◌≡◌, ◌<◌, List, Some, IfOk, MatchResult, false, map, option_map, string_bytes};
-ghost use Rattle.clap.specs.Words.{first_of, rule_of};
-ghost use Rattle.acsub.specs.Words.Command.{AddsEngine, AddsMatching, IsCommand, Shows, choice, flag, option, placed};
-ghost use Rattle.acsub.specs.Words.{AreTwoByTwo, IsPairedBy, IsTyped, IsWordsFault, Misspells, Parses, Reads, ReadsMatches, SpellsPairs, Unpairs, rows_in};
-ghost use Rattle.acsub.specs.Words.{engine_named, engine_of, hex_fault, is_given, kind_named, match_kind_of, mode_named, mode_of};
-
-use crate::settings::{Engine, Mode, Settings};
-use crate::version::VERSION;
-use ac_input::pairing::{Pairing, PairingError};
-use ac_input::primitives::GREATEST;
+//! Command lines, and what they ask for.
+use crate::scripted::{PLAIN, Same, Told, command_line};
+use ac_input::pairing::PairingError;
 use ac_input::search::MatchKind;
-use clap::builder::ValueParser;
-use clap::error::ErrorKind;
-use clap::{Arg, ArgAction, ArgMatches, Command};
-use hex::FromHexError;
-use std::alloc::{AllocError, Global};
-
-static MODES: [&str; 3] = ["replace", "list", "overlap"];
-
-static KINDS: [&str; 3] = ["standard", "leftmost-first", "leftmost-longest"];
-
-static ENGINES: [&str; 5] = ["auto", "noncontiguous", "contiguous", "dfa", "packed"];
-
-/// The greatest number that `--dense-depth` takes.
-const MOST_DEPTH: u64 = GREATEST as u64;
-
-/// The end of the short help: an example.
-static AFTER_HELP: &str = "\
-Example:
-  printf 'fox\\tsloth\\n' > words.tsv
-  echo 'The fox ran.' | acsub replace words.tsv --text    # The sloth ran.
-
---help says more: modes, kinds, rule files and statuses.
-";
-
-/// The end of the long help: what each mode writes, which match each kind takes, the forms of a rule file, an example, and the
-/// statuses.
-static AFTER_LONG_HELP: &str = "\
-Modes:
-  replace  The input, with each match replaced
-  list     A line 'number start end' for each match: pattern and places from 0, in bytes
-  overlap  Such a line for each occurrence, overlapping ones too; needs the standard kind
-
-Kinds:
-  standard          The match that ends first
-  leftmost-first    The one that starts first, and of those the first in the rule file
-  leftmost-longest  The one that starts first, and of those the longest
-
-Rule files:
-  hex     A line 'hex TAB hex' for each pattern and its replacement, two hex digits a byte
-  --text  A line 'pattern TAB replacement', or 'pattern' alone, which is replaced by nothing;
-          CR LF ends a line as LF does, and no byte has another meaning
-
-Example:
-  printf 'fox\\tsloth\\n' > words.tsv
-  echo 'The fox ran.' | acsub replace words.tsv --text    # The sloth ran.
-
-Status:
-  0 done, 2 words or settings, 3 the rule file, 4 a limit of a build, 5 a read failed,
-  6 a write or the flush failed, 7 out of memory, 8 the input is too long
-";
+use acsub_words::settings::{Engine, Mode};
+use acsub_words::{WordsFault, read_words};
+use std::alloc::Global;
+use std::process::Abort;
+use std::test::Fail;
 
 /// What a command line asks for.
-#[derive(Clone, Copy)]
-pub struct Words<'a> {
-    pub settings: Settings,
-    /// Whether the rule file is of plain text, and not of hex.
-    pub text: bool,
-    /// Whether the text is asked for while the input is read, under every kind.
-    pub stream: bool,
-    /// The path of the rule file.
-    pub rules: &'a str,
-}
-
-/// Why a command line asks for no run.
-#[derive(Debug, Drop)]
-pub enum WordsFault {
-    /// Help or the version was asked for. The error is its text: `print` shows it.
-    Help(clap::Error),
-    /// The words are no command line of this program.
+enum Asks {
+    /// For a run, by the rules of the file `rules`, which is of hex.
+    Run(Told),
+    /// The same, where it is of plain text.
+    Text(Told),
+    /// The same, where the text is asked for while the input is read.
+    Stream(Told),
+    /// For nothing: they are bad words.
     Bad,
-    /// There was no memory to read them.
-    Memory,
-    /// All else is well, but the pairs make no pairing.
-    Pairing(PairingError),
+    /// For a pairing that names this byte twice.
+    Twice(u8),
+    /// For the help, or for the version.
+    Help,
 }
 
-impl From<AllocError> for WordsFault {
-    ghost use Rattle.acsub.specs.declared.words.WordsFault.TheVariants.{Memory};
+use Asks::{Bad, Help, Run, Stream, Text, Twice};
 
-    ghost from_gives = { λ _ fault. fault ≡ Memory };
+/// The words after the program's name.
+struct Row(&'static [&'static str], Asks);
 
-    fn from(_error: AllocError) -> WordsFault {
-        WordsFault::Memory
-    }
-}
+const LISTING: Told = Told {
+    mode: Mode::List,
+    ..PLAIN
+};
 
-/// Reads the words of the command line, of which the first is the program's name.
-///
-/// A number takes a `+` before its digits, as Rust's integers do. `--pairs` beside `--fold` is bad, and so are pairs that are
-/// none; whether pairs name a byte twice is looked at last.
-pub fn read_words<'a>(alloc: Global, words: &'a [String]) -> Result<Words<'a>, WordsFault>
-    ensures { Reads (map string_bytes words.entry.now) result }
-{
-    let matches = parse(alloc, words)?;
-    asked_for(alloc, &matches)
-}
+const ROWS: &[Row] = &[
+    // Each mode, with what is taken where no option stands.
+    Row(&["replace", "rules"], Run(PLAIN)),
+    Row(&["list", "rules"], Run(LISTING)),
+    Row(
+        &["overlap", "rules"],
+        Run(Told {
+            mode: Mode::Overlap,
+            ..PLAIN
+        }),
+    ),
+    // Plain text, wherever the word stands; and no value for it.
+    Row(&["replace", "rules", "--text"], Text(PLAIN)),
+    Row(&["--text", "list", "rules"], Text(LISTING)),
+    Row(&["list", "rules", "--text=yes"], Bad),
+    Row(&["list", "rules", "--text", "--text"], Bad),
+    // The text while the input is read, likewise.
+    Row(&["replace", "rules", "--stream"], Stream(PLAIN)),
+    Row(&["--stream", "list", "rules"], Stream(LISTING)),
+    Row(&["list", "rules", "--stream=yes"], Bad),
+    Row(&["list", "rules", "--stream", "--stream"], Bad),
+    // Each kind.
+    Row(&["list", "rules", "--kind", "standard"], Run(LISTING)),
+    Row(
+        &["list", "rules", "--kind", "leftmost-first"],
+        Run(Told {
+            kind: MatchKind::LeftmostFirst,
+            ..LISTING
+        }),
+    ),
+    Row(
+        &["list", "rules", "--kind", "leftmost-longest"],
+        Run(Told {
+            kind: MatchKind::LeftmostLongest,
+            ..LISTING
+        }),
+    ),
+    // Each engine, in between the words that have their place.
+    Row(&["list", "--engine", "auto", "rules"], Run(LISTING)),
+    Row(
+        &["list", "--engine", "noncontiguous", "rules"],
+        Run(Told {
+            engine: Engine::Noncontiguous,
+            ..LISTING
+        }),
+    ),
+    Row(
+        &["list", "--engine", "contiguous", "rules"],
+        Run(Told {
+            engine: Engine::Contiguous,
+            ..LISTING
+        }),
+    ),
+    Row(
+        &["list", "--engine", "dfa", "rules"],
+        Run(Told {
+            engine: Engine::Dfa,
+            ..LISTING
+        }),
+    ),
+    Row(
+        &["list", "--engine", "packed", "rules"],
+        Run(Told {
+            engine: Engine::Packed,
+            ..LISTING
+        }),
+    ),
+    // Flags, in front of the mode too.
+    Row(
+        &["--no-prefilter", "list", "--fold", "rules"],
+        Run(Told {
+            prefilter: false,
+            same: Same::Folded,
+            ..LISTING
+        }),
+    ),
+    Row(
+        &["list", "rules", "--no-byte-classes"],
+        Run(Told {
+            byte_classes: false,
+            ..LISTING
+        }),
+    ),
+    // Depths from 0 to the greatest, with a sign and leading zeros too.
+    Row(
+        &["list", "rules", "--dense-depth", "0"],
+        Run(Told {
+            dense_depth: Some(0),
+            ..LISTING
+        }),
+    ),
+    Row(
+        &["list", "rules", "--dense-depth", "2147483646"],
+        Run(Told {
+            dense_depth: Some(2147483646),
+            ..LISTING
+        }),
+    ),
+    Row(
+        &["list", "rules", "--dense-depth", "+5"],
+        Run(Told {
+            dense_depth: Some(5),
+            ..LISTING
+        }),
+    ),
+    Row(
+        &["list", "rules", "--dense-depth", "007"],
+        Run(Told {
+            dense_depth: Some(7),
+            ..LISTING
+        }),
+    ),
+    // No depth: one too many, a sign, no digit, nothing, more than 64 bits.
+    Row(&["list", "rules", "--dense-depth", "2147483647"], Bad),
+    Row(&["list", "rules", "--dense-depth", "-1"], Bad),
+    Row(&["list", "rules", "--dense-depth", "x"], Bad),
+    Row(&["list", "rules", "--dense-depth", ""], Bad),
+    Row(
+        &["list", "rules", "--dense-depth", "18446744073709551616"],
+        Bad,
+    ),
+    // Pairs of two bytes each, in digits of either case.
+    Row(
+        &["list", "rules", "--pairs", "3031fFaB"],
+        Run(Told {
+            same: Same::Pairs(&[(0x30, 0x31), (0xff, 0xab)]),
+            ..LISTING
+        }),
+    ),
+    // Pairs that name a byte twice: in two pairs, and in one.
+    Row(&["list", "rules", "--pairs", "30313132"], Twice(49)),
+    Row(&["list", "rules", "--pairs", "3030"], Twice(48)),
+    // No pairs: an odd number of digits, a byte without a partner, nothing, no digits, a space.
+    Row(&["list", "rules", "--pairs", "303"], Bad),
+    Row(&["list", "rules", "--pairs", "303132"], Bad),
+    Row(&["list", "rules", "--pairs", ""], Bad),
+    Row(&["list", "rules", "--pairs", "zz"], Bad),
+    Row(&["list", "rules", "--pairs", "zzzz"], Bad),
+    Row(&["list", "rules", "--pairs", "30 1"], Bad),
+    // Pairs beside folded letters are bad, and that comes before a byte that is named twice.
+    Row(&["list", "rules", "--pairs", "3031", "--fold"], Bad),
+    Row(&["list", "rules", "--pairs", "3030", "--fold"], Bad),
+    Row(
+        &["list", "rules", "--pairs", "3030", "--engine", "nope"],
+        Bad,
+    ),
+    // A mode and a rule file, and no word more.
+    Row(&[], Bad),
+    Row(&["list"], Bad),
+    Row(&["find", "rules"], Bad),
+    Row(&["list", "rules", "more"], Bad),
+    // An option twice, and a kind that isn't there.
+    Row(&["list", "rules", "--fold", "--fold"], Bad),
+    Row(&["list", "rules", "--kind", "longest"], Bad),
+    // Help, beside other words too.
+    Row(&["--help"], Help),
+    Row(&["list", "-h"], Help),
+    Row(&["--version"], Help),
+    Row(&["list", "-V"], Help),
+];
 
-/// The error with which clap refuses the words, if it does.
-pub fn words_refused(alloc: Global, words: &[String]) -> Option<clap::Error> {
-    command(alloc).ok()?.try_get_matches_from(words).err()
-}
-
-// clap's part: which words belong to which argument, and whether they may stand there.
-fn parse<'a>(alloc: Global, words: &'a [String]) -> Result<ArgMatches<'a>, WordsFault>
-    ensures { Parses (map string_bytes words.entry.now) result }
-{
-    match command(alloc)?.try_get_matches_from(words) {
-        Ok(matches) => Ok(matches),
-        Err(error) => Err(fault_of(error)),
-    }
-}
-
-fn fault_of(error: clap::Error) -> WordsFault
-    ensures { IsWordsFault error result }
-{
-    match error.kind() {
-        ErrorKind::DisplayHelp | ErrorKind::DisplayVersion => WordsFault::Help(error),
-        ErrorKind::OutOfMemory => WordsFault::Memory,
-        _ => WordsFault::Bad,
-    }
-}
-
-// A word that has its place among those that belong to no option.
-fn placed<'a>(alloc: Global, id: &'a str, name: &'a str, help: &'a str) -> Arg<'a>
-    ensures rule { rule_of result ≡ placed id.entry.now }
-    ensures own { result.global ≡ false }
-    ensures shown { Shows result name.entry help.entry }
-{
-    Arg::new(alloc, id)
-        .value_name(name)
-        .help(help)
-        .action(ArgAction::Set)
-        .required(true)
-}
-
-// `--id NAME`
-fn option<'a>(alloc: Global, id: &'a str, name: &'a str, help: &'a str) -> Arg<'a>
-    ensures rule { rule_of result ≡ option id.entry.now }
-    ensures own { result.global ≡ false }
-    ensures shown { Shows result name.entry help.entry }
-{
-    Arg::new(alloc, id)
-        .long(id)
-        .value_name(name)
-        .help(help)
-        .action(ArgAction::Set)
-}
-
-// `--id NAME`, which takes one of these names, and where it isn't given this one.
-fn choice<'a>(
-    alloc: Global,
-    id: &'a str,
-    name: &'a str,
-    help: &'a str,
-    names: &'a [&'a str],
-    default: &'a str,
-) -> Arg<'a>
-    ensures rule { rule_of result ≡ choice id.entry.now names.entry default.entry.now }
-    ensures own { result.global ≡ false }
-    ensures shown { Shows result name.entry help.entry }
-{
-    option(alloc, id, name, help)
-        .value_parser(names)
-        .default_value(default)
-}
-
-// `--id`
-fn flag<'a>(alloc: Global, id: &'a str, help: &'a str) -> Arg<'a>
-    ensures rule { rule_of result ≡ flag id.entry.now }
-    ensures own { result.global ≡ false }
-    ensures shown { result.help ≡ Some help.entry }
-{
-    Arg::new(alloc, id)
-        .long(id)
-        .help(help)
-        .action(ArgAction::SetTrue)
-}
-
-// The command line, as clap's builder makes it.
-fn command<'a>(alloc: Global) -> Result<Command<'a>, AllocError>
-    ensures { IfOk result IsCommand }
-{
-    let command = Command::new(alloc, "acsub")
-        .version(VERSION)
-        .about("Replaces, or lists, what the patterns of a rule file match in standard input")
-        .after_help(AFTER_HELP)
-        .after_long_help(AFTER_LONG_HELP)
-        .arg(placed(alloc, "mode", "MODE", "What to write").value_parser(MODES.as_slice()))?
-        .arg(placed(alloc, "rules", "RULES", "The path of the rule file"))?
-        .arg(flag(
-            alloc,
-            "text",
-            "Read RULES as plain text: 'pattern TAB replacement' or 'pattern' a line",
-        ))?
-        .arg(flag(
-            alloc,
-            "stream",
-            "Write while reading under every kind and mode, where that can be",
-        ))?;
-    with_engine(alloc, with_matching(alloc, command)?)
-}
-
-// The command with the options that say what a match is.
-fn with_matching<'a>(alloc: Global, command: Command<'a>) -> Result<Command<'a>, AllocError>
-    ensures { IfOk result (AddsMatching command.entry) }
-{
-    command
-        .arg(choice(
-            alloc,
-            "kind",
-            "K",
-            "Which of several matches is taken",
-            KINDS.as_slice(),
-            "standard",
-        ))?
-        .arg(flag(alloc, "fold", "Match ASCII letters in either case"))?
-        .arg(option(
-            alloc,
-            "pairs",
-            "HEX",
-            "Match the two bytes of each pair, four hex digits a pair: 3031 for 0 and 1",
-        ))
-}
-
-// The command with the options that say what searches.
-fn with_engine<'a>(alloc: Global, command: Command<'a>) -> Result<Command<'a>, AllocError>
-    ensures { IfOk result (AddsEngine command.entry) }
-{
-    command
-        .arg(choice(
-            alloc,
-            "engine",
-            "E",
-            "What searches; no engine changes what is written",
-            ENGINES.as_slice(),
-            "auto",
-        ))?
-        .arg(flag(
-            alloc,
-            "no-prefilter",
-            "Search without a prefilter; the automaton's own skip stays",
-        ))?
-        .arg(option(
-            alloc,
-            "dense-depth",
-            "N",
-            "Give states less than N bytes deep a row of transitions [default: 3 noncontiguous, 2 contiguous]",
-        )
-        .value_parser(ValueParser::unsigned(0, MOST_DEPTH)))?
-        .arg(flag(
-            alloc,
-            "no-byte-classes",
-            "Give each byte a class of its own in the tables",
-        ))
-}
-
-// What the matches ask for.
-fn asked_for<'a>(alloc: Global, matches: &ArgMatches<'a>) -> Result<Words<'a>, WordsFault>
-    requires { IsTyped (rows_in matches.now) }
-    ensures { ReadsMatches (rows_in matches.now) result }
-{
-    let settings = Settings {
-        mode: mode_of(matches).unwrap(),
-        kind: match_kind_of(matches).unwrap(),
-        pairing: pairing_of(alloc, matches)?,
-        engine: engine_of(matches).unwrap(),
-        prefilter: !is_given(matches, "no-prefilter"),
-        dense_depth: matches.get_one::<usize>("dense-depth"),
-        byte_classes: !is_given(matches, "no-byte-classes"),
-    };
-    Ok(Words {
-        settings,
-        text: is_given(matches, "text"),
-        stream: is_given(matches, "stream"),
-        rules: text_of(matches, "rules").unwrap(),
-    })
-}
-
-// The first value of an argument.
-fn text_of<'a>(matches: &ArgMatches<'a>, id: &str) -> Option<&'a str>
-    ensures { option_map (λ text. text.now) result ≡ first_of id.now (rows_in matches.now) }
-{
-    matches.get_str(id)
-}
-
-fn mode_of(matches: &ArgMatches<'_>) -> Option<Mode>
-    ensures { result ≡ mode_of (rows_in matches.now) }
-{
-    mode_named(text_of(matches, "mode")?)
-}
-
-fn match_kind_of(matches: &ArgMatches<'_>) -> Option<MatchKind>
-    ensures { result ≡ match_kind_of (rows_in matches.now) }
-{
-    kind_named(text_of(matches, "kind")?)
-}
-
-fn engine_of(matches: &ArgMatches<'_>) -> Option<Engine>
-    ensures { result ≡ engine_of (rows_in matches.now) }
-{
-    engine_named(text_of(matches, "engine")?)
-}
-
-fn mode_named(word: &str) -> Option<Mode>
-    ensures { result ≡ mode_named word.now }
-{
-    match word {
-        "replace" => Some(Mode::Replace),
-        "list" => Some(Mode::List),
-        "overlap" => Some(Mode::Overlap),
-        _ => None,
-    }
-}
-
-fn kind_named(word: &str) -> Option<MatchKind>
-    ensures { result ≡ kind_named word.now }
-{
-    match word {
-        "standard" => Some(MatchKind::Standard),
-        "leftmost-first" => Some(MatchKind::LeftmostFirst),
-        "leftmost-longest" => Some(MatchKind::LeftmostLongest),
-        _ => None,
-    }
-}
-
-fn engine_named(word: &str) -> Option<Engine>
-    ensures { result ≡ engine_named word.now }
-{
-    match word {
-        "auto" => Some(Engine::Auto),
-        "noncontiguous" => Some(Engine::Noncontiguous),
-        "contiguous" => Some(Engine::Contiguous),
-        "dfa" => Some(Engine::Dfa),
-        "packed" => Some(Engine::Packed),
-        _ => None,
-    }
-}
-
-// Whether the flag was given.
-fn is_given(matches: &ArgMatches<'_>, id: &str) -> bool
-    ensures { result ≡ is_given id.now (rows_in matches.now) }
-{
-    match text_of(matches, id) {
-        Some(text) => text == "true",
-        None => false,
-    }
-}
-
-fn pairing_of(alloc: Global, matches: &ArgMatches<'_>) -> Result<Pairing, WordsFault>
-    ensures { MatchResult result (IsPairedBy (rows_in matches.now)) (Unpairs (rows_in matches.now)) }
-{
-    match (is_given(matches, "fold"), text_of(matches, "pairs")) {
-        (false, None) => Ok(Pairing::none()),
-        (true, None) => Ok(Pairing::ascii()),
-        (true, Some(_)) => Err(WordsFault::Bad),
-        (false, Some(hex)) => {
-            let pairs = pairs_of(alloc, hex)?;
-            Pairing::new(pairs.as_slice()).map_err(WordsFault::Pairing)
+/// Asserts that the words ask for that.
+fn asks_for(rt: &impl Abort, alloc: Global, row: &Row) -> Result<(), Fail> {
+    let Row(words, asks) = row;
+    let line = command_line(alloc, words)?;
+    let asked = match (asks, read_words(alloc, line.as_slice())) {
+        (Run(told) | Text(told) | Stream(told), Ok(read)) => {
+            let forms = (matches!(asks, Text(_)), matches!(asks, Stream(_)));
+            let same = (read.text, read.stream) == forms;
+            read.rules == "rules" && same && read.settings == told.settings()?
         }
-    }
-}
-
-// The pairs that hex spells.
-fn pairs_of(alloc: Global, hex: &str) -> Result<Vec<(u8, u8)>, WordsFault>
-    ensures { MatchResult result (λ pairs. SpellsPairs hex.now pairs.items) (Misspells hex.now) }
-{
-    let bytes = match hex::decode(alloc, hex.as_bytes()) {
-        Ok(bytes) => bytes,
-        Err(error) => return Err(fault_of_hex(error)),
+        (Bad, Err(WordsFault::Bad)) => true,
+        (Twice(byte), Err(WordsFault::Pairing(PairingError::Twice(twice)))) => *byte == twice,
+        (Help, Err(WordsFault::Help(error))) => error.exit_code() == 0,
+        _ => false,
     };
-    let count = bytes.len();
-    if count == 0 || count % 2 == 1 {
-        return Err(WordsFault::Bad);
-    }
-    Ok(two_by_two(alloc, bytes.as_slice())?)
+    assert!(rt; asked, "{words:?}");
+    Ok(())
 }
 
-fn fault_of_hex(error: FromHexError) -> WordsFault
-    ensures { result ≡ hex_fault error }
-{
-    match error {
-        FromHexError::OutOfMemory => WordsFault::Memory,
-        _ => WordsFault::Bad,
+#[test]
+fn reads_each_line(rt: HostRuntime) -> Result<(), Fail> {
+    for row in ROWS {
+        asks_for(&rt, rt.alloc(), row)?;
     }
+    Ok(())
 }
-
-// The bytes two by two, and one that is left over.
-fn two_by_two(alloc: Global, bytes: &[u8]) -> Result<Vec<(u8, u8)>, AllocError>
-    ensures { IfOk result (λ pairs. AreTwoByTwo bytes.now pairs.items) }
-{
-    let mut pairs = Vec::new(alloc);
-    let mut rest = bytes;
-    while let [a, b, more @ ..] = rest {
-        pairs.push((*a, *b))?;
-        rest = more;
-    }
-    Ok(pairs)
-}
-
-#[cfg(test)]
-mod tests;

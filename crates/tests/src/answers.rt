@@ -156,6 +156,11 @@ pub fn walks_on<T: Abort, A: Search>(rt: &T, matches: &mut FindIter<'_, '_, A>, 
     assert!(rt; matches.next().is_none());
 }
 
+/// Asserts that a value is this one.
+pub fn equal<T: Abort, X: PartialEq + Debug>(rt: &T, found: &X, want: &X, shows: &str) {
+    assert_eq!(rt; found, want, "{shows}");
+}
+
 /// Asserts that a list is this one.
 pub fn same<T: Abort, X: PartialEq + Debug>(rt: &T, found: &[X], want: &[X], shows: &str) {
     assert_eq!(rt; found, want, "{shows}");

@@ -6,7 +6,7 @@ ghost use Rattle.std.specs.Prelude.{◌≡◌, false};
 
 use crate::answers::Asks::{self, List};
 use crate::answers::Text::Whole;
-use crate::answers::{by_plain, input};
+use crate::answers::{by_plain, equal, input, same};
 use crate::devices::{AMPLE, Given, Outcome, Room, Sink, Source, Tally};
 use crate::engines::Letters::{Cased, Folded};
 use crate::engines::{Asked, Case, FEW, FIRST, Letters, Pick, Trial, all, each, pick};
@@ -61,16 +61,17 @@ impl Row<'_> {
             if *decided > text.len() && fails {
                 break;
             }
-            assert_eq!(rt;
-                next_pick(&mut matches, most == 2),
-                Ok(Some(*want)),
-                "{shows}"
+            equal(
+                rt,
+                &next_pick(&mut matches, most == 2),
+                &Ok(Some(*want)),
+                shows,
             );
             let reads = decided.div_ceil(most.max(1)).min(all);
-            assert_eq!(rt; tally.reads.get(), reads, "{shows}");
+            equal(rt, &tally.reads.get(), &reads, shows);
         }
         is_over(rt, &mut matches, fails, false, shows);
-        assert_eq!(rt; tally.reads.get(), all, "{shows}");
+        equal(rt, &tally.reads.get(), &all, shows);
         Ok(())
     }
 
@@ -92,23 +93,23 @@ impl Row<'_> {
         let mut pushed = 0;
         for piece in self.text.chunks(most.max(1)) {
             let taken = push(&mut search, piece)?;
-            assert_eq!(rt; taken, piece.len(), "{shows}");
+            equal(rt, &taken, &piece.len(), shows);
             let all = taken.saturating_add(pushed);
             for (want, decided) in self.finds {
                 if pushed < *decided && *decided <= all {
-                    assert_eq!(rt; pick(search.next()), Some(*want), "{shows}");
+                    equal(rt, &pick(search.next()), &Some(*want), shows);
                 }
             }
-            assert_eq!(rt; search.next(), None, "{shows}");
+            equal(rt, &search.next(), &None, shows);
             pushed = all;
         }
         search.finish();
         for (want, decided) in self.finds {
             if *decided == END {
-                assert_eq!(rt; pick(search.next()), Some(*want), "{shows}");
+                equal(rt, &pick(search.next()), &Some(*want), shows);
             }
         }
-        assert_eq!(rt; search.next(), None, "{shows}");
+        equal(rt, &search.next(), &None, shows);
         Ok(())
     }
 }
@@ -374,11 +375,21 @@ fn write_by_closure<A: Search, R: Read, W: Write>(
 }
 
 /// Which call replaces.
-#[derive(Clone, Copy, Debug)]
+#[derive(Clone, Copy)]
 enum Way {
     List,
     Counted,
     Closure,
+}
+
+impl Way {
+    fn name(self) -> &'static str {
+        match self {
+            Way::List => "by a list",
+            Way::Counted => "by a list, counted",
+            Way::Closure => "by a closure",
+        }
+    }
 }
 
 /// All of them.
@@ -425,8 +436,8 @@ impl Written {
             let reader = Source::new(Given::Whole(self.text), most, due, &tally);
             let writer = Sink::new(on.alloc, AMPLE, &tally)?;
             let (outcome, taken) = replaces(on, list, reader, writer, way)?;
-            assert_eq!(rt; outcome, Outcome::Done, "{way:?}");
-            assert_eq!(rt; taken.as_slice(), self.written, "{way:?}");
+            equal(rt, &outcome, &Outcome::Done, way.name());
+            same(rt, taken.as_slice(), self.written, way.name());
         }
         Ok(())
     }
@@ -452,18 +463,12 @@ impl Written {
             pushed = taken.saturating_add(pushed);
             let due = self.due.get(pushed).ok_or("what is due")?;
             let made = made.len();
-            assert!(rt;
-                if most == 1 {
-                    made == *due
-                } else {
-                    made <= *due
-                },
-                "{made} {due}"
-            );
+            let is_due = made == *due || (most > 1 && made < *due);
+            equal(rt, &is_due, &true, "what is due");
         }
         replacer.finish();
         take_out(&mut replacer, self.replacements, &mut made)?;
-        assert_eq!(rt; made.as_slice(), self.written, "{most}");
+        same(rt, made.as_slice(), self.written, "all of the text");
         Ok(())
     }
 
@@ -476,8 +481,18 @@ impl Written {
             let reader = Source::new(Given::Fails(front, b"x"), 1, &[], &tally);
             let writer = Sink::new(on.alloc, AMPLE, &tally)?;
             let (outcome, taken) = replaces(on, list, reader, writer, way)?;
-            assert_eq!(rt; outcome, Outcome::Read(ErrorKind::Interrupted), "{way:?}");
-            assert_eq!(rt; Some(taken.as_slice()), self.written.get(..*due), "{way:?}");
+            equal(
+                rt,
+                &outcome,
+                &Outcome::Read(ErrorKind::Interrupted),
+                way.name(),
+            );
+            equal(
+                rt,
+                &Some(taken.as_slice()),
+                &self.written.get(..*due),
+                way.name(),
+            );
         }
         Ok(())
     }
@@ -495,11 +510,17 @@ impl Written {
             };
             let writer = Sink::new(on.alloc, room, &tally)?;
             let (outcome, taken) = replaces(on, list, reader, writer, way)?;
-            assert_eq!(rt; outcome, Outcome::Write(ErrorKind::Interrupted), "{way:?}");
-            assert_eq!(rt;
-                Some(taken.as_slice()),
-                self.written.get(..bytes),
-                "{way:?}"
+            equal(
+                rt,
+                &outcome,
+                &Outcome::Write(ErrorKind::Interrupted),
+                way.name(),
+            );
+            equal(
+                rt,
+                &Some(taken.as_slice()),
+                &self.written.get(..bytes),
+                way.name(),
             );
         }
         Ok(())
@@ -608,7 +629,7 @@ impl Case for Refused {
             let reader = Source::new(Given::Whole(b"ab"), 1, &[], &tally);
             let writer = Sink::new(on.alloc, AMPLE, &tally)?;
             let (outcome, _) = replaces(on, &[b"-", b"+"], reader, writer, way)?;
-            assert_eq!(rt; outcome, want, "{way:?}");
+            equal(rt, &outcome, &want, way.name());
         }
         assert_eq!(rt; (tally.reads.get(), tally.writes.get()), (0, 0));
         Ok(())

@@ -5,6 +5,7 @@
 //! [`Tally`] that a test can look at while they are lent: nothing is read after an empty read or a failed one, nothing is written
 //! after a failed write, and nothing is flushed unasked. That an error is the device's own, no contract can say either; the tables
 //! name the kind of each.
+use crate::answers::{equal, same};
 use ac_automaton::error::{MatchError, MatchErrorKind, StreamError};
 use ac_automaton::output::Output;
 use ac_automaton::watched::{Watched, write_whole};
@@ -284,13 +285,13 @@ fn reads_once<T: Abort>(
     want: Result<&[u8], ErrorKind>,
     shows: &str,
 ) {
-    assert!(rt; !reader.ended(), "{shows}");
+    assert!(rt; !reader.ended());
     let mut buffer = [0u8; 2];
     let read = match reader.read(&mut buffer) {
         Ok(n) => Ok(&buffer[..n]),
         Err(error) => Err(error.kind()),
     };
-    assert_eq!(rt; read, want, "{shows}");
+    equal(rt, &read, &want, shows);
 }
 
 /// Asserts what the reads return, and how often the device was called.
@@ -304,11 +305,11 @@ fn reads_hold<T: Abort>(rt: &T, row: &Reads) {
         reads_once(rt, &mut reader, Err(kind), row.shows);
     }
     let reads = row.pieces.len() + usize::from(row.fails.is_some());
-    assert_eq!(rt;
-        (reader.ended(), tally.reads.get()),
-        (true, reads),
-        "{}",
-        row.shows
+    equal(
+        rt,
+        &(reader.ended(), tally.reads.get()),
+        &(true, reads),
+        row.shows,
     );
 }
 
@@ -534,14 +535,14 @@ fn sends_hold<T: Abort>(rt: &T, alloc: Global, row: &Sent) -> Result<(), Fail> {
     let tally = Tally::new();
     let (outcome, taken) = send_each(alloc, row.room, row.sends, &tally)?;
     let asked = (outcome, tally.writes.get(), tally.flushes.get());
-    assert_eq!(rt;
-        asked,
-        (row.outcome, row.writes, row.flushes),
-        "{}",
-        row.shows
+    equal(
+        rt,
+        &asked,
+        &(row.outcome, row.writes, row.flushes),
+        row.shows,
     );
     let want = row.taken.concat(alloc)?;
-    assert_eq!(rt; taken.as_slice(), want.as_slice(), "{}", row.shows);
+    same(rt, taken.as_slice(), want.as_slice(), row.shows);
     Ok(())
 }
 

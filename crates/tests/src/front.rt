@@ -9,7 +9,7 @@ ghost use Rattle.aho_corasick.specs.AhoCorasick.{as_built, supported_by};
 mod memory;
 mod streams;
 
-use crate::answers::{Asks, collected, input, same};
+use crate::answers::{Asks, collected, equal, input, same};
 use crate::engines::{Asked, Case, Letters, front_builder, pick, serves};
 use crate::rows::{Row, SUBJECTS, Table};
 use ac_input::search::{Input, MatchKind, StartKind};
@@ -224,12 +224,13 @@ fn repeated(
 /// Asserts what the front says of itself.
 fn is_served<T: Abort>(rt: &T, ac: &AhoCorasick, row: &Served, count: usize) {
     let shows = row.shows;
-    assert_eq!(rt;
-        (ac.kind(), ac.start_kind()),
-        (row.served, row.starts),
-        "{shows}"
+    equal(
+        rt,
+        &(ac.kind(), ac.start_kind()),
+        &(row.served, row.starts),
+        shows,
     );
-    assert_eq!(rt; ac.match_kind(), MatchKind::Standard, "{shows}");
+    equal(rt, &ac.match_kind(), &MatchKind::Standard, shows);
     let found = [
         ac.patterns_len(),
         ac.min_pattern_len(),

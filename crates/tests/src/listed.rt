@@ -1,4 +1,5 @@
 //! Streams of every occurrence: what is listed, by which read, and what is refused.
+use crate::answers::equal;
 use crate::devices::{Given, Outcome, Source, Tally};
 use crate::engines::Letters::Cased;
 use crate::engines::{Asked, Case, Pick, Trial, all, pick};
@@ -57,8 +58,18 @@ impl Listed<'_> {
             if want.2 > len {
                 break;
             }
-            assert_eq!(rt; next_listed(&mut listed), Ok(Some(*want)), "{most}");
-            assert_eq!(rt; tally.reads.get(), want.2.div_ceil(most.max(1)), "{most}");
+            equal(
+                rt,
+                &next_listed(&mut listed),
+                &Ok(Some(*want)),
+                "by the read that gave its last byte",
+            );
+            equal(
+                rt,
+                &tally.reads.get(),
+                &want.2.div_ceil(most.max(1)),
+                "by the read that gave its last byte",
+            );
         }
         if fails {
             let failed = Err(Outcome::Read(ErrorKind::Interrupted));

@@ -3,6 +3,7 @@
 //! A match within a character of a text is passed over there, and replaced among bytes.
 ghost use Rattle.aho_corasick.specs.AhoCorasick.{supported_by};
 
+use crate::answers::{equal, same};
 use crate::engines::Letters::{Cased, Folded, Paired};
 use crate::engines::{Asked, Case, Letters, Trial, all, serves};
 use crate::front::{OwnCase, all_own};
@@ -107,18 +108,14 @@ impl Row {
     fn is_made<T: Abort, A: Search>(&self, on: &Trial<'_, T, A>) -> Result<(), Fail> {
         let (rt, alloc, automaton) = (on.rt, on.alloc, on.automaton);
         let shows = self.shows;
-        assert_eq!(rt;
-            automaton.patterns_len(),
-            self.replacements.len(),
-            "{shows}"
-        );
+        assert_eq!(rt; automaton.patterns_len(), self.replacements.len());
         let made = automaton.try_replace_all(alloc, self.text, self.replacements)?;
-        assert_eq!(rt; made.as_str(), self.makes, "{shows}");
+        same(rt, made.as_bytes(), self.makes.as_bytes(), shows);
         let replacements = bytes_of(alloc, self.replacements)?;
-        assert_eq!(rt; automaton.patterns_len(), replacements.len(), "{shows}");
+        assert_eq!(rt; automaton.patterns_len(), replacements.len());
         let bytes = self.text.as_bytes();
         let made = automaton.try_replace_all_bytes(alloc, bytes, replacements.as_slice())?;
-        assert_eq!(rt; made.as_slice(), self.bytes, "{shows}");
+        same(rt, made.as_slice(), self.bytes, shows);
         Ok(())
     }
 
@@ -137,8 +134,8 @@ impl Row {
             &mut made,
         );
         let memory = matches!(&answer, Err(ReplaceError::Memory));
-        assert_eq!(rt; (answer.is_err(), memory), (fails, fails), "{shows}");
-        assert_eq!(rt; made.as_str(), self.makes, "{shows}");
+        equal(rt, &(answer.is_err(), memory), &(fails, fails), shows);
+        same(rt, made.as_bytes(), self.makes.as_bytes(), shows);
         let bytes = self.text.as_bytes();
         let mut made = Vec::new(alloc);
         let answer = append_bytes(
@@ -150,8 +147,8 @@ impl Row {
             &mut made,
         );
         let memory = matches!(&answer, Err(ReplaceError::Memory));
-        assert_eq!(rt; (answer.is_err(), memory), (fails, fails), "{shows}");
-        assert_eq!(rt; made.as_slice(), self.bytes, "{shows}");
+        equal(rt, &(answer.is_err(), memory), &(fails, fails), shows);
+        same(rt, made.as_slice(), self.bytes, shows);
         Ok(())
     }
 }
@@ -225,18 +222,18 @@ impl Row {
         requires { supported_by ac.now Anchored.No }
     {
         let shows = self.shows;
-        assert_eq!(rt; ac.patterns_len(), self.replacements.len(), "{shows}");
+        assert_eq!(rt; ac.patterns_len(), self.replacements.len());
         let made = ac.replace_all(alloc, self.text, self.replacements)?;
-        assert_eq!(rt; made.as_str(), self.makes, "{shows}");
+        same(rt, made.as_bytes(), self.makes.as_bytes(), shows);
         let made = ac.try_replace_all(alloc, self.text, self.replacements)?;
-        assert_eq!(rt; made.as_str(), self.makes, "{shows}");
+        same(rt, made.as_bytes(), self.makes.as_bytes(), shows);
         let replacements = bytes_of(alloc, self.replacements)?;
-        assert_eq!(rt; ac.patterns_len(), replacements.len(), "{shows}");
+        assert_eq!(rt; ac.patterns_len(), replacements.len());
         let bytes = self.text.as_bytes();
         let made = ac.replace_all_bytes(alloc, bytes, replacements.as_slice())?;
-        assert_eq!(rt; made.as_slice(), self.bytes, "{shows}");
+        same(rt, made.as_slice(), self.bytes, shows);
         let made = ac.try_replace_all_bytes(alloc, bytes, replacements.as_slice())?;
-        assert_eq!(rt; made.as_slice(), self.bytes, "{shows}");
+        same(rt, made.as_slice(), self.bytes, shows);
         Ok(())
     }
 
@@ -248,13 +245,13 @@ impl Row {
         let fails = matches!(self.until, Some(At::Fails(_)));
         let mut made = String::new(alloc);
         let answer = number(ac, alloc, self.text, self.until, &mut made);
-        assert_eq!(rt; answer.is_err(), fails, "{shows}");
-        assert_eq!(rt; made.as_str(), self.makes, "{shows}");
+        equal(rt, &answer.is_err(), &fails, shows);
+        same(rt, made.as_bytes(), self.makes.as_bytes(), shows);
         let mut made = Vec::new(alloc);
         let bytes = self.text.as_bytes();
         let answer = number_bytes(ac, alloc, bytes, self.until, &mut made);
-        assert_eq!(rt; answer.is_err(), fails, "{shows}");
-        assert_eq!(rt; made.as_slice(), self.bytes, "{shows}");
+        equal(rt, &answer.is_err(), &fails, shows);
+        same(rt, made.as_slice(), self.bytes, shows);
         Ok(())
     }
 }

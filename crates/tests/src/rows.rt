@@ -3,7 +3,7 @@
 //! The rows stand in tables, one for each list of patterns, by subject. Each row is run by the plain program, by packed search where
 //! that serves, and by each automaton that has a start for it: by its own calls, and by a reference to it.
 use crate::answers::{
-    Asks, Text, by_plain, collected, input, same, searcher, shows_in_turn, walks_on,
+    Asks, Text, by_plain, collected, equal, input, same, searcher, shows_in_turn, walks_on,
 };
 use crate::engines::{Asked, Case, ENGINES, Engine, Letters, Pick, Trial, each, pick, serves};
 use ac_input::search::{Input, MatchKind, Span};
@@ -41,7 +41,7 @@ pub struct Row<'a> {
 
 /// Asserts that this is the first of what the row gives.
 fn is_first<T: Abort>(rt: &T, found: Option<Pick>, row: &Row<'_>) {
-    assert_eq!(rt; found, row.gives.first().copied(), "{}", row.shows);
+    equal(rt, &found, &row.gives.first().copied(), row.shows);
 }
 
 /// Asserts the matches of a walk, by each of its calls, and that the first of them is the match of the input.

@@ -5,6 +5,7 @@
 //! was written, and a row names them.
 ghost use Rattle.std.specs.Prelude.{◌≡◌, false};
 
+use crate::answers::equal;
 use crate::devices::{AMPLE, Given, Outcome, Room, Sink, Source, Tally};
 use crate::engines::Letters::{Cased, Folded, Paired};
 use crate::engines::{Asked, Case, FIRST, Letters, Trial, all, each};
@@ -158,16 +159,11 @@ impl Row {
             if !last {
                 reads = reads.max(by.reads);
             }
-            assert_eq!(rt;
-                (outcome, reads),
-                (self.outcome, by.reads),
-                "{}",
-                self.shows
-            );
-            assert!(rt; is_among(&taken, written), "{}", self.shows);
+            equal(rt, &(outcome, reads), &(self.outcome, by.reads), self.shows);
+            equal(rt, &is_among(&taken, written), &true, self.shows);
             let buffer = automaton.max_pattern_len().saturating_mul(8).max(65_536);
             let asked = (tally.widest.get(), tally.flushes.get());
-            assert_eq!(rt; asked, (buffer, 0), "{}", self.shows);
+            equal(rt, &asked, &(buffer, 0), self.shows);
         }
         Ok(())
     }

@@ -4,6 +4,7 @@
 //! is given after the read that gave its last byte, and a test counts the reads at each match.
 ghost use Rattle.std.specs.Prelude.{◌≡◌, false};
 
+use crate::answers::equal;
 use crate::devices::{AMPLE, Given, Outcome, Sink, Source, Tally};
 use crate::engines::Letters::{Cased, Folded, Paired};
 use crate::engines::{Asked, Case, FIRST, Letters, Pick, Trial, all, each, pick};
@@ -52,10 +53,11 @@ pub fn is_over<T: Abort, A: Search, R: Read>(
 ) {
     if fails {
         let failed = Err(Outcome::Read(ErrorKind::Interrupted));
-        assert_eq!(rt; next_pick(matches, held), failed, "{shows}");
+        equal(rt, &next_pick(matches, held), &failed, shows);
     }
-    assert_eq!(rt; next_pick(matches, !held), Ok(None), "{shows}");
-    assert_eq!(rt; next_pick(matches, held), Ok(None), "{shows}");
+    equal(rt, &next_pick(matches, held), &Ok(None), shows);
+    equal(rt, &next_pick(matches, held), &Ok(None), shows);
+    equal(rt, &next_pick(matches, !held), &Ok(None), shows);
 }
 
 /// A text, by this many bytes a read, and its matches.
@@ -91,13 +93,13 @@ impl Row<'_> {
         let mut reader = Watched::new(Source::new(given, most, &[], &tally));
         let mut matches = on.automaton.try_stream_find_iter(on.alloc, &mut reader)?;
         for want in self.finds {
-            assert_eq!(rt; next_pick(&mut matches, held), Ok(Some(*want)), "{shows}");
+            equal(rt, &next_pick(&mut matches, held), &Ok(Some(*want)), shows);
             let reads = want.2.div_ceil(most.max(1));
-            assert_eq!(rt; tally.reads.get(), reads, "{shows}");
+            equal(rt, &tally.reads.get(), &reads, shows);
         }
         is_over(rt, &mut matches, self.fails, held, shows);
         let reads = text.len().div_ceil(most.max(1)).saturating_add(1);
-        assert_eq!(rt; tally.reads.get(), reads, "{shows}");
+        equal(rt, &tally.reads.get(), &reads, shows);
         Ok(())
     }
 
@@ -563,8 +565,8 @@ impl Case for Refused {
             search_outcome(on.alloc, on.automaton, &tally, Sought::Matches),
             replacement_outcome(on.alloc, on.automaton, &tally)?,
         );
-        assert_eq!(rt; outcomes, (want, want), "{shows}");
-        assert_eq!(rt; (tally.reads.get(), tally.writes.get()), (0, 0), "{shows}");
+        equal(rt, &outcomes, &(want, want), shows);
+        equal(rt, &(tally.reads.get(), tally.writes.get()), &(0, 0), shows);
         Ok(())
     }
 }

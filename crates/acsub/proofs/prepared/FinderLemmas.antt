@@ -13,15 +13,15 @@ use Rattle.ac_literal.specs.Packed.{AreServed, Packed, search_kind, part_search}
 use Rattle.std.specs.Prelude.{get_or}
 use Rattle.ac_automaton.specs.Replace.{LieInOrder}
 use Rattle.acsub.specs.Finder.{IsFinderOf, whole_search, whole_walk}
-use Rattle.acsub.specs.Rules.Lines.{rule_at}
-use Rattle.acsub.specs.Settings.{IsAccepted}
-use Rattle.acsub.specs.Rules.Sides.{rule_patterns}
+use Rattle.acsub_rules.specs.Lines.{rule_at}
+use Rattle.acsub_words.specs.Settings.{IsAccepted}
+use Rattle.acsub_rules.specs.Sides.{rule_patterns}
 use Rattle.acsub.specs.Plan.{Plan}
 use Rattle.acsub.specs.declared.prepared.Finder.TheVariants as finders
-use Rattle.acsub.specs.declared.settings.Engine.TheVariants as engine
-use Rattle.acsub.specs.declared.settings.Mode.TheVariants as mode
-use Rattle.acsub.specs.declared.settings.SettingError.TheVariants as error
-use Rattle.acsub.specs.declared.settings.Settings.{Settings}
+use Rattle.acsub_words.specs.declared.settings.Engine.TheVariants as engine
+use Rattle.acsub_words.specs.declared.settings.Mode.TheVariants as mode
+use Rattle.acsub_words.specs.declared.settings.SettingError.TheVariants as error
+use Rattle.acsub_words.specs.declared.settings.Settings.{Settings}
 use Rattle.ac_automaton.proofs.lemmas.ReplaceLemmas.{walk-lies}
 
 -- the walk of a packed search that serves a plan is the plan's walk

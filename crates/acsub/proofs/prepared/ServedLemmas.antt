@@ -18,12 +18,12 @@ use Rattle.aho_corasick.specs.declared.ahocorasick.AhoCorasickKind.TheVariants a
 use Rattle.aho_corasick.proofs.lemmas.EngineLemmas.{front-deterministic}
 use Rattle.acsub.specs.Finder.{FailsToBuild, IsFinderOf, IsServing, not_built}
 use Rattle.acsub.specs.Served.{IsAutomatonFor, IsBuildable, IsServedByDfa, automaton_named, builder_by, dictionary_for}
-use Rattle.acsub.specs.Rules.Sides.{rule_patterns}
+use Rattle.acsub_rules.specs.Sides.{rule_patterns}
 use Rattle.acsub.specs.declared.prepared.Finder.{Finder}
 use Rattle.acsub.specs.declared.prepared.Finder.TheVariants as finders
-use Rattle.acsub.specs.declared.settings.Engine.{Engine}
-use Rattle.acsub.specs.declared.settings.Engine.TheVariants as engines
-use Rattle.acsub.specs.declared.settings.Settings.{Settings}
+use Rattle.acsub_words.specs.declared.settings.Engine.{Engine}
+use Rattle.acsub_words.specs.declared.settings.Engine.TheVariants as engines
+use Rattle.acsub_words.specs.declared.settings.Settings.{Settings}
 
 -- if the front takes a DFA, the automaton that it serves is one
 taken-dfa : (s : BuildSettings) (m : Dictionary) (kind : AhoCorasickKind) → TakesDfa s m → IsServed None s m kind → kind ≡ kinds.DFA

@@ -5,8 +5,8 @@ use Rattle.std.proofs.lemmas.List.{append-nil, get_or-map}
 use Rattle.ac_input.specs.Occurrence.{Occurrence}
 use Rattle.ac_input.specs.Rules.{Rule}
 use Rattle.ac_input.specs.Text.{replaced_from, line, listed}
-use Rattle.acsub.specs.Rules.Lines.{rule_at}
-use Rattle.acsub.specs.Rules.Sides.{replacements_of}
+use Rattle.acsub_rules.specs.Lines.{rule_at}
+use Rattle.acsub_rules.specs.Sides.{replacements_of}
 
 -- the replacement of rule n is the n-th of the replacements
 pub replacement_of_rule : (rules : List Rule) (n : ℕ) → n < length rules → (rule_at rules n).1 ≡ get_or (replacements_of rules) n []

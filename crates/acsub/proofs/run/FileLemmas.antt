@@ -4,14 +4,14 @@ use Rattle.ac_input.specs.Rules.{Rule}
 use Rattle.ac_input.specs.declared.steps.Steps.{Steps}
 use Rattle.ac_automaton.specs.Devices.Moved.{Moved}
 use Rattle.ac_automaton.specs.declared.watched.Watched.{Watched}
-use Rattle.acsub.specs.declared.rules.RuleError.{RuleError}
-use Rattle.acsub.specs.declared.rules.RuleError.TheVariants as rule_errors
+use Rattle.acsub_rules.specs.declared.RuleError.{RuleError}
+use Rattle.acsub_rules.specs.declared.RuleError.TheVariants as rule_errors
 use Rattle.acsub.specs.declared.error.RunError.{RunError}
 use Rattle.acsub.specs.declared.error.RunError.TheVariants as errors
-use Rattle.acsub.specs.Rules.File.{ReadsRules, grammar_of}
+use Rattle.acsub_rules.specs.File.{ReadsRules, grammar_of}
 use Rattle.acsub.specs.Plan.{Plan}
 use Rattle.acsub.specs.Run.{AnswersIn, AnswersRules, CostsIn, CostsRun, HasBegun, RanIn, RanRules, ReadsByBuffer, RefusesIn, RefusesRules, not_read}
-use Rattle.acsub.proofs.rules.GrammarLemmas.{bad_none, bad_one, file_one}
+use Rattle.acsub_rules.proofs.lemmas.GrammarLemmas.{bad_none, bad_one, file_one}
 use Rattle.acsub.proofs.run.CountLemmas.{nothing_cost}
 use Rattle.acsub.proofs.run.RunLemmas.{HasMoved-nothing, memory_answer, nothing, nothing_short}
 

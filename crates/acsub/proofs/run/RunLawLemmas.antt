@@ -6,10 +6,10 @@ use Rattle.ac_input.specs.declared.search.MatchKind.{MatchKind}
 use Rattle.ac_input.proofs.lemmas.RuleLemmas.{IsRuleFile-one}
 use Rattle.acsub.specs.Finder.{whole_search}
 use Rattle.acsub.specs.Run.RunLaws.{AskAlike, RunsWriteAlike}
-use Rattle.acsub.specs.Rules.Sides.{rule_patterns, replacements_of}
+use Rattle.acsub_rules.specs.Sides.{rule_patterns, replacements_of}
 use Rattle.acsub.specs.Run.Transformed.{output_of, text_in}
-use Rattle.acsub.specs.declared.settings.Mode.{Mode}
-use Rattle.acsub.specs.declared.settings.Settings.{Settings}
+use Rattle.acsub_words.specs.declared.settings.Mode.{Mode}
+use Rattle.acsub_words.specs.declared.settings.Settings.{Settings}
 
 -- settings that ask for the same text make the same text of an input
 output-alike : (settings other : Settings) (rules : List Rule) (input : List ℕ) → AskAlike settings other → output_of settings rules input ≡ output_of other rules input

@@ -13,12 +13,12 @@ use Rattle.ac_automaton.proofs.devices.MovedLemmas.{given-none, taken-none}
 use Rattle.ac_automaton.proofs.devices.OutputLemmas.{HasTaken-from_sent, HasTaken-from_stopped}
 use Rattle.acsub.specs.declared.error.RunError.{RunError}
 use Rattle.acsub.specs.declared.error.RunError.TheVariants as errors
-use Rattle.acsub.specs.declared.settings.Settings.{Settings}
+use Rattle.acsub_words.specs.declared.settings.Settings.{Settings}
 use Rattle.acsub.specs.Input.{ReadsWhole}
-use Rattle.acsub.specs.Settings.{IsAccepted}
+use Rattle.acsub_words.specs.Settings.{IsAccepted}
 use Rattle.acsub.specs.Stream.{IsNoRefusal, IsReturnedAs}
 use Rattle.acsub.specs.Run.Transformed.{IsStreamed, output_of}
-use Rattle.acsub.specs.Rules.File.{hex_rules}
+use Rattle.acsub_rules.specs.File.{hex_rules}
 use Rattle.acsub.specs.Run.{AnswersRules, HasBegun, IsRefusal, Prepares, RanIn, RanPrepared, RanRules, RanToFailedWrite, ReadsByBuffer, RefusesRules, RunsOutFirst, WroteText, WroteTextBy}
 use Rattle.acsub.specs.Run.Sending.{SendsText}
 use Rattle.acsub.specs.Served.{IsBuildable}

@@ -40,7 +40,7 @@ use Rattle.acsub.specs.Plan.{Plan}
 use Rattle.acsub.specs.Served.{dictionary_for}
 use Rattle.acsub.specs.Stream.{CostsSearch, WritesPlan}
 use Rattle.acsub.specs.Run.Transformed.{IsDecidedList, IsOutputFront}
-use Rattle.acsub.specs.declared.settings.Mode.TheVariants as modes
+use Rattle.acsub_words.specs.declared.settings.Mode.TheVariants as modes
 use Rattle.acsub.proofs.stream.StreamedLemmas.{output-in, room-in, writes-plan}
 use Rattle.acsub.specs.Stream.StreamList.{GoesOnUnread, ListsStream, WritesLines, listed_in}
 use Rattle.acsub.proofs.stream.LinesLemmas.{lines-failed, lines-taken}

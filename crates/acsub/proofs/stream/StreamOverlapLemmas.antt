@@ -41,12 +41,12 @@ use Rattle.aho_corasick.specs.declared.ahocorasick.AhoCorasick.{AhoCorasick}
 use Rattle.acsub.specs.Finder.{IsServing}
 use Rattle.acsub.specs.Plan.{Plan}
 use Rattle.acsub.specs.Served.{dictionary_for}
-use Rattle.acsub.specs.Settings.{IsAccepted}
+use Rattle.acsub_words.specs.Settings.{IsAccepted}
 use Rattle.acsub.specs.Stream.{CostsSearch, WritesPlan}
 use Rattle.acsub.specs.Stream.StreamOverlap.{GoesOnListed, ListsEvery, every_line}
 use Rattle.acsub.specs.Run.Transformed.{IsOutputFront, IsStreamed, output_of, room_in}
-use Rattle.acsub.specs.declared.settings.Mode.{Mode}
-use Rattle.acsub.specs.declared.settings.Mode.TheVariants as modes
+use Rattle.acsub_words.specs.declared.settings.Mode.{Mode}
+use Rattle.acsub_words.specs.declared.settings.Mode.TheVariants as modes
 use Rattle.acsub.proofs.prepared.FinderLemmas.{overlap-standard}
 use Rattle.acsub.proofs.stream.StreamListLemmas.{filled-append, whole-append}
 use Rattle.acsub.proofs.stream.StreamedLemmas.{filled-shortest, output-in, writes-plan}

@@ -26,17 +26,17 @@ use Rattle.ac_automaton.specs.declared.error.StreamError.TheVariants as stream
 use Rattle.ac_automaton.specs.declared.watched.Watched.{Watched}
 use Rattle.ac_automaton.specs.declared.stream.StreamKinds.TheVariants.{AnyKind}
 use Rattle.acsub.specs.declared.error.RunError.{RunError}
-use Rattle.acsub.specs.declared.settings.Mode.{Mode}
-use Rattle.acsub.specs.declared.settings.Mode.TheVariants as modes
-use Rattle.acsub.specs.declared.settings.Settings.{Settings}
+use Rattle.acsub_words.specs.declared.settings.Mode.{Mode}
+use Rattle.acsub_words.specs.declared.settings.Mode.TheVariants as modes
+use Rattle.acsub_words.specs.declared.settings.Settings.{Settings}
 use Rattle.aho_corasick.specs.AhoCorasick.{as_built, supported_by}
 use Rattle.aho_corasick.specs.declared.ahocorasick.AhoCorasick.{AhoCorasick}
 use Rattle.acsub.specs.Finder.{IsServing, whole_search}
 use Rattle.acsub.specs.Served.{dictionary_for}
 use Rattle.acsub.specs.Run.{AnswersRules, CostsRun, IsRefusal, RanPrepared, RanToFailedWrite, RunsOutFirst}
 use Rattle.acsub.specs.Plan.{Plan}
-use Rattle.acsub.specs.Settings.{HasEmptyPattern, IsAccepted}
-use Rattle.acsub.specs.Rules.Sides.{rule_patterns, replacements_of}
+use Rattle.acsub_words.specs.Settings.{HasEmptyPattern, IsAccepted}
+use Rattle.acsub_rules.specs.Sides.{rule_patterns, replacements_of}
 use Rattle.acsub.specs.Stream.{CostsSearch, IfStreamMemory, IsNoRefusal, IsReturnedAs, WritesPlan, WritesStream}
 use Rattle.acsub.proofs.run.CountLemmas.{streamed-cost}
 use Rattle.acsub.proofs.stream.CutLemmas.{cut-begins}

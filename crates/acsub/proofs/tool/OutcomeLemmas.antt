@@ -12,10 +12,10 @@ use Rattle.acsub.specs.Stream.{IsNoRefusal}
 use Rattle.acsub.specs.Tool.{status_of}
 use Rattle.acsub.specs.declared.error.RunError.{RunError}
 use Rattle.acsub.specs.declared.error.RunError.TheVariants as errors
-use Rattle.acsub.specs.declared.words.Words.{Words}
+use Rattle.acsub_words.specs.declared.Words.{Words}
 use Rattle.acsub.specs.declared.tool.Fault.{Fault}
 use Rattle.acsub.specs.declared.tool.Fault.TheVariants as faults
-use Rattle.acsub.specs.declared.words.WordsFault.TheVariants.{Memory}
+use Rattle.acsub_words.specs.declared.WordsFault.TheVariants.{Memory}
 
 -- ---- the outcome after the flush
 

@@ -3,9 +3,9 @@ use Rattle.std.specs.Prelude.{◌≡◌, ℕ, Bool, List, Ok}
 use Rattle.std.specs.List.{concat}
 use Rattle.ac_automaton.specs.Devices.Moved.{Moved}
 use Rattle.acsub.specs.Plan.{plan_of}
-use Rattle.acsub.specs.Rules.File.{hex_rules}
+use Rattle.acsub_rules.specs.File.{hex_rules}
 use Rattle.acsub.specs.Run.{AnswersIn}
-use Rattle.acsub.specs.declared.settings.Settings.{Settings}
+use Rattle.acsub_words.specs.declared.settings.Settings.{Settings}
 
 -- The settings ask for the same text. They may name other engines, and differ in prefilter, dense depth and byte classes.
 pub record AskAlike (settings other : Settings) : Type 0 where

@@ -7,7 +7,7 @@ use Rattle.ac_automaton.specs.declared.error.StreamError.{StreamError}
 use Rattle.ac_automaton.specs.declared.watched.Watched.{Watched}
 use Rattle.acsub.specs.Matches.{left_in}
 use Rattle.acsub.specs.Plan.{Plan}
-use Rattle.acsub.specs.Rules.Sides.{replacements_of}
+use Rattle.acsub_rules.specs.Sides.{replacements_of}
 use Rattle.acsub.specs.Run.Transformed.{output_of}
 use Rattle.acsub.specs.declared.matches.Matches.{Matches}
 

@@ -10,15 +10,15 @@ use Rattle.ac_input.specs.Text.{replaced_from, listed}
 use Rattle.ac_input.specs.Work.{longest}
 use Rattle.ac_automaton.specs.Devices.Buffer.{least_room, room_for}
 use Rattle.ac_automaton.specs.Stream.{Decides, IsFront}
-use Rattle.acsub.specs.declared.settings.Engine.TheVariants.{Packed}
-use Rattle.acsub.specs.declared.settings.Mode.{Mode}
-use Rattle.acsub.specs.declared.settings.Mode.TheVariants as modes
-use Rattle.acsub.specs.declared.settings.Settings.{Settings}
+use Rattle.acsub_words.specs.declared.settings.Engine.TheVariants.{Packed}
+use Rattle.acsub_words.specs.declared.settings.Mode.{Mode}
+use Rattle.acsub_words.specs.declared.settings.Mode.TheVariants as modes
+use Rattle.acsub_words.specs.declared.settings.Settings.{Settings}
 use Rattle.acsub.specs.Finder.{whole_search}
 use Rattle.acsub.specs.Plan.{Plan}
 use Rattle.acsub.specs.Served.{dictionary_for}
-use Rattle.acsub.specs.Settings.{HasEmptyPattern}
-use Rattle.acsub.specs.Rules.Sides.{rule_patterns, replacements_of}
+use Rattle.acsub_words.specs.Settings.{HasEmptyPattern}
+use Rattle.acsub_rules.specs.Sides.{rule_patterns, replacements_of}
 
 -- the text that a mode makes of a search
 abbrev pub text_in : Mode → MatchKind → List (List ℕ) → Search → List ℕ

@@ -4,11 +4,11 @@
 //! `refusals`, and what becomes of a reader or a writer that stops in `devices`.
 use super::{run, run_rules};
 use crate::error::RunError;
-use crate::rules::{RuleError, read_rules};
 use crate::scripted::{Same, Sink, Source, Told, expecting, whole};
-use crate::settings::{Engine, SettingError, Settings};
 use ac_automaton::watched::Watched;
 use ac_input::search::MatchKind;
+use acsub_rules::{RuleError, read_rules};
+use acsub_words::settings::{Engine, SettingError, Settings};
 use std::alloc::{AllocError, Global};
 use std::process::Abort;
 

@@ -5,6 +5,7 @@ ghost use Rattle.ac_automaton.specs.declared.stream.StreamKinds.TheVariants.{Any
 ghost use Rattle.aho_corasick.specs.AhoCorasick.{as_built, supported_by};
 
 use super::{OwnCase, each_own};
+use crate::answers::{equal, same};
 use crate::devices::{AMPLE, Given, Outcome, Sink, Source, Tally};
 use crate::engines::Letters::{Cased, Folded};
 use crate::engines::{Asked, Letters, Pick, serves};
@@ -40,7 +41,7 @@ fn are_left<T: Abort, R: Read>(rt: &T, matches: &mut StreamFindIter<'_, R>, want
 }
 
 /// Which call replaces.
-#[derive(Clone, Copy, Debug)]
+#[derive(Clone, Copy)]
 enum Way {
     List,
     Counted,
@@ -48,6 +49,16 @@ enum Way {
     ListOfAnyKind,
     CountedOfAnyKind,
     ClosureOfAnyKind,
+}
+
+impl Way {
+    fn name(self) -> &'static str {
+        match self {
+            Way::List | Way::ListOfAnyKind => "by a list",
+            Way::Counted | Way::CountedOfAnyKind => "by a list, counted",
+            Way::Closure | Way::ClosureOfAnyKind => "by a closure",
+        }
+    }
 }
 
 /// The calls that serve the standard kind.
@@ -206,8 +217,8 @@ fn is_written<T: Abort>(
         } else {
             row.writes
         };
-        assert_eq!(rt; outcome, Outcome::Done, "{way:?}");
-        assert_eq!(rt; taken.as_slice(), want, "{way:?}");
+        equal(rt, &outcome, &Outcome::Done, way.name());
+        same(rt, taken.as_slice(), want, way.name());
     }
     Ok(())
 }
@@ -333,7 +344,7 @@ impl OwnCase for Refused {
         assert_eq!(rt; search_outcome(alloc, ac, tally), want);
         for way in OF_STANDARD {
             let (outcome, taken) = replaces(alloc, ac, &UNREAD, way, 1, tally)?;
-            assert_eq!(rt; (outcome, taken.len()), (want, 0), "{way:?}");
+            equal(rt, &(outcome, taken.len()), &(want, 0), way.name());
         }
         assert_eq!(rt; (tally.reads.get(), tally.writes.get()), (0, 0));
         Ok(())

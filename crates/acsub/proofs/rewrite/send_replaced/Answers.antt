@@ -3,9 +3,9 @@ use Rattle.std.proofs.Common.{ℕ, ◌++◌, List, [], length, refl, ap, ◌∙�
 use Rattle.std.specs.Prelude.{slice_range}
 use Rattle.std.proofs.lemmas.Result.{err_from_is_err_and}
 use Rattle.std.proofs.lemmas.List.{take_rest}
-use Rattle.acsub.specs.Rules.Lines.{rule_at}
+use Rattle.acsub_rules.specs.Lines.{rule_at}
 use Rattle.acsub.specs.Matches.{left_in}
-use Rattle.acsub.specs.Rules.Sides.{replacements_of}
+use Rattle.acsub_rules.specs.Sides.{replacements_of}
 use Rattle.ac_automaton.proofs.devices.OutputLemmas.{Sent-none, Sent-then}
 use Rattle.acsub.proofs.rewrite.RewriteLemmas.{replaced-end, replaced-step, replacement_of_rule}
 use Rattle.ac_automaton.proofs.lemmas.ReplaceLemmas.{lies-first}

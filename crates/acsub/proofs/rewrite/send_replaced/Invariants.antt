@@ -3,7 +3,7 @@ use Rattle.ac_input.specs.Text.{replaced_from}
 use Rattle.ac_automaton.specs.Devices.Output.{Sent}
 use Rattle.ac_automaton.specs.Replace.{LieInOrder}
 use Rattle.acsub.specs.Matches.{KeepsCount, left_in}
-use Rattle.acsub.specs.Rules.Sides.{replacements_of}
+use Rattle.acsub_rules.specs.Sides.{replacements_of}
 use Rattle.acsub.proofs.rewrite.send_replaced.Given as goal
 
 abbrev pub invariant-loop-found : goal.invariant-loop-found

@@ -7,7 +7,7 @@ use Rattle.acsub.specs.Plan.{Plan, plan_of}
 use Rattle.acsub.specs.Run.{CostsRun, RanRules, RunsOutFirst}
 use Rattle.acsub.specs.Run.Sending.{SendsText}
 use Rattle.acsub.specs.Run.Transformed.{IsStreamed}
-use Rattle.acsub.specs.Settings.{IsAccepted}
+use Rattle.acsub_words.specs.Settings.{IsAccepted}
 use Rattle.acsub.proofs.run.CountLemmas.{held-cost, nothing_cost, unread-cost}
 use Rattle.acsub.proofs.run.RunLemmas.{HasMoved-nothing, held_answer, memory_ran, nothing, nothing_short, prepared_answer, prepared_refuses, read_answer, sends-accepted, unprepared_begun}
 use Rattle.acsub.proofs.run.run_rules_counted.Goals as goal

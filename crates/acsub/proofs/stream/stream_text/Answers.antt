@@ -4,7 +4,7 @@ use Rattle.std.proofs.lemmas.Result.{err_from_is_err_and}
 use Rattle.ac_automaton.specs.Stream.StreamReplace.{ReplacesStream}
 use Rattle.ac_literal.specs.Packed.{bytes_of}
 use Rattle.aho_corasick.specs.AhoCorasick.{as_built, supported_by}
-use Rattle.acsub.specs.Rules.Sides.{replacements_of}
+use Rattle.acsub_rules.specs.Sides.{replacements_of}
 use Rattle.acsub.proofs.run.CountLemmas.{nothing_cost}
 use Rattle.acsub.proofs.run.RunLemmas.{memory_ran}
 use Rattle.acsub.proofs.stream.StreamListLemmas.{list-plan}

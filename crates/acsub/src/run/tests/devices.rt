@@ -5,8 +5,8 @@
 use super::refusals::reads_where_there_is_memory;
 use super::*;
 use crate::scripted::PLAIN;
-use crate::settings::Mode;
-use crate::settings::Mode::{List, Overlap, Replace};
+use acsub_words::settings::Mode;
+use acsub_words::settings::Mode::{List, Overlap, Replace};
 use std::test::Fail;
 
 /// Fox by sloth, and nothing else.

@@ -1,13 +1,12 @@
 //! Rule files and settings that are an error before anything is read or written, and those that are accepted.
 use super::*;
-use crate::rules;
 use crate::scripted::PLAIN;
-use crate::settings::Mode::{List, Overlap, Replace};
-use crate::settings::SettingError::{
+use ac_input::search::MatchKind::{LeftmostFirst, LeftmostLongest, Standard};
+use acsub_words::settings::Mode::{List, Overlap, Replace};
+use acsub_words::settings::SettingError::{
     OverlapLeftmost, PackedCount, PackedEmpty, PackedFold, PackedStandard,
 };
-use crate::settings::check;
-use ac_input::search::MatchKind::{LeftmostFirst, LeftmostLongest, Standard};
+use acsub_words::settings::check;
 use std::test::Fail;
 
 /// Why the rule file and the settings are an error, if they are.
@@ -97,7 +96,7 @@ const GOOD: &[Good] = &[
 ];
 
 /// Asserts that these are the rules.
-fn has_sides(rt: &impl Abort, rules: &rules::Rules, sides: &[(&[u8], &[u8])]) {
+fn has_sides(rt: &impl Abort, rules: &acsub_rules::Rules, sides: &[(&[u8], &[u8])]) {
     assert_eq!(rt;
         (rules.len(), rules.is_empty()),
         (sides.len(), sides.is_empty())

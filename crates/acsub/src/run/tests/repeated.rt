@@ -1,7 +1,7 @@
 //! Letters that stand many times over, where a search has most to look at and to go back for.
 use super::*;
 use crate::scripted::PLAIN;
-use crate::settings::Mode::{List, Overlap};
+use acsub_words::settings::Mode::{List, Overlap};
 use std::test::Fail;
 
 /// What is written.

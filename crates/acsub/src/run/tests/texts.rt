@@ -2,7 +2,7 @@
 use super::Rules::{File, Find, Swap};
 use super::*;
 use crate::scripted::PLAIN;
-use crate::settings::Mode::{List, Overlap, Replace};
+use acsub_words::settings::Mode::{List, Overlap, Replace};
 use std::test::Fail;
 
 /// Rules, an input, and the text that is written.

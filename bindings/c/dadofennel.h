@@ -186,8 +186,9 @@ typedef struct dado_place {
     uint32_t begun;
 } dado_place;
 
-/* A text that the library has allocated: `len` bytes at `at`, which stay there until dado_text_free. `at` may be NULL where `len`
- * is 0. Begin with DADO_NO_TEXT; don't write to its fields. */
+/* A text that the library has allocated: `len` bytes at `at`, which stay there until dado_text_free, or until dado_replace has made
+ * another one in its place. `at` may be NULL where `len` is 0. Begin with DADO_NO_TEXT; don't write to its fields, and don't free a
+ * copy of it too. */
 typedef struct dado_text {
     void *owner;
     const uint8_t *at;
@@ -520,20 +521,25 @@ DADO_INLINE void dado_text_free(dado_text *text) {
 }
 
 /*
- * The same text, in memory of the library, to `*text`: DADO_NO_TEXT, or a text of an earlier call, which is freed first. It belongs
- * to the caller until dado_text_free. The statuses are those of dado_replace_into, but DADO_NO_MEMORY in place of DADO_TOO_SHORT and
- * DADO_TOO_MANY_BYTES; on any but DADO_OK `*text` is DADO_NO_TEXT. Takes memory. Any number of threads at the same time.
+ * The same text, in memory of the library, to `*text`: DADO_NO_TEXT, or a text of an earlier call, which is freed once the new one is
+ * made. So the haystack and the replacements may lie in that earlier text. The new one belongs to the caller until dado_text_free, or
+ * until the next dado_replace to `text`. The statuses are those of dado_replace_into, but DADO_NO_MEMORY in place of DADO_TOO_SHORT and
+ * DADO_TOO_MANY_BYTES; on any but DADO_OK `*text` is unchanged. Takes memory. Any number of threads at the same time, each with a text
+ * of its own.
  */
 DADO_INLINE dado_status dado_replace(const dado_automaton *ac, const uint8_t *haystack, size_t len, const dado_bytes *replacements,
                                 size_t count, dado_text *text) {
+    dado_text made = DADO_NO_TEXT;
     dado_status status;
     if (text == NULL) return DADO_BAD_ARGUMENT;
-    dado_text_free(text);
     if (ac == NULL) return DADO_NO_AUTOMATON;
     if ((haystack == NULL && len != 0) || (replacements == NULL && count != 0)) return DADO_BAD_ARGUMENT;
-    status = dado_raw_replace(ac, haystack, len, replacements, count, &text->owner);
-    if (status == DADO_OK) dado_raw_text_view(&text->owner, &text->at, &text->len);
-    return status;
+    status = dado_raw_replace(ac, haystack, len, replacements, count, &made.owner);
+    if (status != DADO_OK) return status;
+    dado_raw_text_view(&made.owner, &made.at, &made.len);
+    dado_text_free(text);
+    *text = made;
+    return DADO_OK;
 }
 
 /* ---- Text that comes in pieces ---- */

@@ -306,6 +306,18 @@ static void listings(void) {
     dado_free(&ac);
 }
 
+/* A text that stands in the place of an earlier one is made before that is freed, so it may be made of it. */
+static void replaced_again(const dado_automaton *ac, dado_text *text) {
+    static const dado_bytes next[] = {WORD("brown"), WORD("quick"), WORD("fox")};
+    dado_bytes own[3];
+    CHECK(dado_replace(ac, BYTES("fox brown"), next, 3, text) == DADO_OK && holds(text, "brown quick"));
+    CHECK(dado_replace(ac, text->at, text->len, next, 3, text) == DADO_OK && holds(text, "quick fox"));
+    own[0].at = own[1].at = own[2].at = text->at, own[0].len = own[1].len = own[2].len = text->len;
+    CHECK(dado_replace(ac, BYTES("a fox"), own, 3, text) == DADO_OK && holds(text, "a quick fox"));
+    CHECK(dado_replace(ac, text->at, text->len, next, 2, text) == DADO_WRONG_COUNT && holds(text, "a quick fox"));
+    CHECK(dado_replace(NULL, BYTES("fox"), next, 3, text) == DADO_NO_AUTOMATON && holds(text, "a quick fox"));
+}
+
 static void replacements(void) {
     static const char expected[] = "The slow grey sloth.";
     dado_automaton *ac = NULL;
@@ -320,6 +332,7 @@ static void replacements(void) {
     CHECK(dado_replace(ac, BYTES(TEXT), NULL, 3, &text) == DADO_BAD_ARGUMENT);
     CHECK(dado_replace(ac, BYTES(TEXT), SLOTH, 3, &text) == DADO_OK && holds(&text, expected));
     CHECK(dado_replace(ac, BYTES("fox"), SLOTH, 3, &text) == DADO_OK && holds(&text, "sloth"));
+    replaced_again(ac, &text);
     CHECK(dado_replace(ac, NULL, 0, SLOTH, 3, &text) == DADO_OK && text.len == 0);
     dado_text_free(&text);
     CHECK(text.owner == NULL && text.at == NULL && text.len == 0);

@@ -105,6 +105,9 @@ int main(void) {
         CHECK(status == DADO_NO_MEMORY && text.owner == NULL && held == before);
     }
     CHECK(holds(&text, REPLACED));
+    before = held, left = 0;
+    CHECK(dado_replace(ac, BYTES(TEXT), SLOTH, 3, &text) == DADO_NO_MEMORY && holds(&text, REPLACED) && held == before);
+    left = -1;
     dado_text_free(&text);
     for (n = 0;; n++, failed++) {
         dado_status status;

@@ -1,6 +1,6 @@
 """A match, and what a call of the library raises."""
 from functools import partial
-from typing import Any, Callable, NamedTuple, Optional, Tuple
+from typing import Any, Callable, Iterable, Iterator, List, NamedTuple, Optional, Tuple
 
 from . import _native as native
 
@@ -22,7 +22,20 @@ class Match(NamedTuple):
         return self.start, self.end
 
 
+Batch = Tuple[List[int], List[int], List[int]]
+"""Some matches: their patterns, starts and ends."""
+
 match: Callable[[Tuple[int, int, int]], Match] = partial(tuple.__new__, Match)  # type: ignore[assignment]
+
+
+def each(batches: Iterable[Batch]) -> Iterator[Match]:
+    """The matches of some batches, one after another.
+
+    It is a generator, which a second thread can't enter while one is in it. An `itertools.chain` lets a second thread in, and then
+    lets go of what the first one is in.
+    """
+    for batch in batches:
+        yield from map(match, zip(*batch))
 
 
 class Error(ValueError):

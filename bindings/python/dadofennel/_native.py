@@ -67,6 +67,10 @@ class Counted(ctypes.Structure):
 class Text(ctypes.Structure):
     _fields_ = [("owner", c_void_p), ("at", c_void_p), ("len", c_size_t)]
 
+    def copied(self) -> bytes:
+        """A copy of the text, as bytes of Python."""
+        return ctypes.string_at(self.at, self.len) if self.len else b""
+
 
 def _loaded() -> ctypes.CDLL:
     """The library of this package, or the one that DADOFENNEL_LIBRARY names. Its calls run without the interpreter's lock."""
@@ -212,11 +216,3 @@ def leave(room: Room) -> None:
     """Keeps the room of a search that has ended for the next one, if it is one for few and not many are kept."""
     if room.matches == FEW and len(_spare) < 8:
         _spare.append(room)
-
-
-def taken(text: Text) -> bytes:
-    """The text that the library has allocated, as bytes of Python; it is freed."""
-    try:
-        return ctypes.string_at(text.at, text.len) if text.len else b""
-    finally:
-        text_free(byref(text))

@@ -5,17 +5,14 @@ which has a byte for each character, so places are characters: `_characters` say
 characters beyond ASCII, the copy is UTF-8, and places are counted in characters from one match to the next.
 """
 from ctypes import byref, c_size_t
-from typing import Any, List, Optional, Tuple, cast
+from typing import Any, Optional, Tuple, cast
 
 from . import _native as native
 from ._characters import Codes
-from ._match import refuse
+from ._match import Batch, refuse
 
 ENCODING = ("utf-8", "surrogatepass")
 """Lone surrogates have bytes of their own, so that every `str` can be a pattern or be searched."""
-
-Batch = Tuple[List[int], List[int], List[int]]
-"""Some matches: their patterns, starts and ends."""
 
 
 def encoded(text: str) -> bytes:
@@ -33,7 +30,8 @@ class Source:
 
     def __init__(self, text: Any, start: Optional[int], end: Optional[int], codes: Optional[Codes] = None, most: int = 0) -> None:
         self._kept = text
-        self._offset, self._counted, self._codes = 0, None, None
+        self._codes: Optional[Codes] = None
+        self._offset, self._counted = 0, None
         self.coded = codes is not None and isinstance(text, str) and not text.isascii()
         if self.coded:
             self._of_codes(text, start, end, cast(Codes, codes), most)

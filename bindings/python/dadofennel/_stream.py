@@ -8,10 +8,10 @@ import io
 from ctypes import byref, c_size_t, c_void_p
 from operator import sub
 from threading import Lock
-from typing import Any, AnyStr, Callable, Generic, Iterable, Iterator, List, Optional, Sequence, Tuple
+from typing import Any, AnyStr, Callable, Generic, Iterable, Iterator, List, NoReturn, Tuple
 
 from . import _native as native
-from ._characters import Codes
+from ._built import Built
 from ._match import Match, match, refuse
 from ._source import encoded
 
@@ -32,21 +32,28 @@ class Stream(Generic[AnyStr]):
     the whole text, wherever it was cut; places are counted from its beginning. Under the standard kind a match is decided once its
     last character was pushed, under a leftmost kind once nothing that may follow can change it.
 
-    A stream takes 64 KiB, or 8 times the length of the longest pattern, and owns the automaton too. Threads may pass it on.
+    A stream takes 64 KiB, or 8 times the length of the longest pattern, and owns the automaton too. Threads may pass it on, and one
+    waits for the other. It can't be copied or pickled. In a forked process it serves, unless another thread was pushing to it.
     """
 
     __slots__ = ("_handle", "_lock", "_room", "_text", "_codes", "_widths", "_held", "_byte", "_char", "_cut")
 
-    def __init__(self, automaton: c_void_p, text: Optional[bool], codes: Optional[Codes], patterns: Sequence[Any]) -> None:
+    def __init__(self) -> None:
+        raise TypeError("a stream is begun by Automaton.stream")
+
+    def _begin(self, built: Built) -> None:
         self._handle, self._lock, self._room = c_void_p(), Lock(), native.Room(ROOM)
-        self._text, self._codes, self._widths = text, codes, list(map(len, patterns))
+        self._text, self._codes, self._widths = built.text, built.codes, list(map(len, built.patterns))
         self._held, self._byte, self._char, self._cut = b"", 0, 0, 0
-        refuse(native.stream_new(automaton, byref(self._handle)))
+        refuse(native.stream_new(built.by_codes(), byref(self._handle)))
 
     def __del__(self, free: Any = native.stream_free, reference: Any = byref) -> None:
         handle = getattr(self, "_handle", None)
         if handle is not None:
             free(reference(handle))
+
+    def __reduce__(self) -> NoReturn:
+        raise TypeError("a stream can't be copied or pickled")
 
     @property
     def cut(self) -> int:
@@ -65,7 +72,8 @@ class Stream(Generic[AnyStr]):
                 raise TypeError("patterns of str search str, and patterns of bytes search bytes")
             data = self._bytes_of(piece)
             lent = native.Lent(data)
-            at, taken, found = 0, c_size_t(), []
+            found: List[Match] = []
+            at, taken = 0, c_size_t()
             while True:
                 refuse(native.stream_push(byref(self._handle), (lent.at or 0) + at, lent.len - at, byref(taken)))
                 if self._is_wide():
@@ -93,8 +101,8 @@ class Stream(Generic[AnyStr]):
 
     def _decided(self, at_end: bool) -> List[Match]:
         """The matches that are decided now."""
-        room, count, found = self._room, c_size_t(), []
-        some = ROOM
+        room, count, some = self._room, c_size_t(), ROOM
+        found: List[Match] = []
         while some == ROOM:
             status = native.stream_some(byref(self._handle), room.at, ROOM, byref(count))
             if status > native.NONE:
@@ -130,6 +138,19 @@ class Stream(Generic[AnyStr]):
         """Which character comes after these bytes."""
         self._char += len(part.translate(None, CONTINUED))
         return self._char
+
+
+def begun(built: Built) -> Stream[Any]:
+    """A stream, at its beginning."""
+    stream: Stream[Any] = Stream.__new__(Stream)
+    stream._begin(built)
+    return stream
+
+
+def found(stream: Stream[Any], longest: int, reader: Any) -> Iterator[Match]:
+    """The matches of what a reader has, each as soon as it is decided."""
+    for piece in pieces(reader, max(LEAST_READ, 8 * longest)):
+        yield from stream.push(piece) if piece else stream.finish()
 
 
 def pieces(reader: Any, size: int) -> Iterator[Any]:

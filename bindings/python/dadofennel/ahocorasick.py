@@ -11,12 +11,17 @@
 What differs: the words of an automaton are `str` or `bytes`, as its first word is. `iter_long` gives the leftmost-longest
 matches, also where version 1.4.1 of pyahocorasick loses one. A start or end of `iter` past the text is its end. Sequences of
 integers as words (`KEY_SEQUENCE`), `dump`, `save` and `load` are left out; `pickle` serves.
+
+Threads may share an automaton, as that of pyahocorasick, whose calls keep the interpreter's lock. Here a search lets go of it; so a
+search holds what it searches by, and a change of the words ends it.
 """
-from itertools import chain, takewhile
+from itertools import count, takewhile
 from operator import length_hint
-from typing import Any, Callable, Dict, Iterator, List, Optional, Tuple, Union
+from threading import RLock
+from typing import Any, Callable, Dict, Iterable, Iterator, List, Optional, Tuple, Union
 
 from ._automaton import Automaton as _Automaton
+from ._once import Once
 from ._trie import Trie, at_least, at_most, exactly
 
 EMPTY, TRIE, AHOCORASICK = 0, 1, 2
@@ -28,6 +33,34 @@ unicode = 1
 Word = Union[str, bytes]
 Found = Tuple[int, Any]
 _missing: Any = object()
+_versions = count(1)
+
+
+class _Made:
+    """What `make_automaton` makes of the words: what searches for all of them, and their values in the same order."""
+
+    def __init__(self, words: List[Any]) -> None:
+        self.words, self.numbers = words, {word: number for number, word in enumerate(words)}
+        self.order: List[Any] = []
+        self.every = _Automaton(words)
+        self._longest: Once[_Automaton[Any]] = Once()
+        self._lent: Dict[int, List[int]] = {}
+
+    def longest(self) -> "_Automaton[Any]":
+        """What searches for the leftmost-longest matches: it is built when it is needed first."""
+        return self._longest.value or self._longest.made(lambda: _Automaton(self.words, "leftmost-longest"))
+
+    def lend(self, ends: List[int]) -> None:
+        """Notes that a search gives the matches of these ends, so that it can be ended."""
+        self._lent[id(ends)] = ends
+
+    def take_back(self, ends: List[int]) -> None:
+        del self._lent[id(ends)]
+
+    def end(self) -> None:
+        """Ends all searches: what they would still give of the matches that they have found is gone."""
+        for ends in list(self._lent.values()):
+            ends.clear()
 
 
 class Automaton:
@@ -36,6 +69,11 @@ class Automaton:
     `value_type` says what a value is: anything (`STORE_ANY`), an integer (`STORE_INTS`), or the word's length (`STORE_LENGTH`).
     """
 
+    def __new__(cls, *_: Any, **__: Any) -> "Automaton":
+        automaton = super().__new__(cls)
+        automaton._lock, automaton._made = RLock(), None
+        return automaton
+
     def __init__(self, value_type: int = STORE_ANY, key_type: int = KEY_STRING) -> None:
         if value_type not in (STORE_ANY, STORE_INTS, STORE_LENGTH):
             raise ValueError("store value must be one of ahocorasick.STORE_LENGTH, STORE_INTS or STORE_ANY")
@@ -43,24 +81,29 @@ class Automaton:
             raise NotImplementedError("words that are sequences of integers are left out")
         if key_type != KEY_STRING:
             raise ValueError("key_type must have value KEY_STRING or KEY_SEQUENCE")
-        self.store = value_type
+        with self._lock:
+            self.store = value_type
+            self._begin()
+
+    _lock: Any
+    """Is held while words are added, removed and asked for. It isn't while an automaton is built, or searches."""
+
+    _made: Optional[_Made]
+
+    def _begin(self) -> None:
+        """There are no words, and none are searched for."""
         self._values: Dict[Word, Any] = {}
-        self._type: Any = None
         self._trie: Optional[Trie] = None
-        self._version = 0
+        self._type: Any = None
         self._changed(EMPTY)
 
     def _changed(self, kind: int) -> None:
         """There are other words now: searches end, and what searches is made anew when `make_automaton` is called."""
-        for ends in getattr(self, "_lent", {}).values():
-            ends.clear()
-        self._lent: Dict[int, List[int]] = {}
-        self._version += 1
+        made, self._made = self._made, None
+        if made is not None:
+            made.end()
+        self._version = next(_versions)
         self.kind = kind
-        self._order: List[Any] = []
-        self._numbers: Dict[Word, int] = {}
-        self._every: Optional[_Automaton[Any]] = None
-        self._longest: Optional[_Automaton[Any]] = None
 
     def _word(self, word: Any) -> Any:
         if not isinstance(word, self._type or (str, bytes)):
@@ -73,22 +116,23 @@ class Automaton:
         With `STORE_ANY` a value must be given. With `STORE_INTS` it is an integer, by default one more than there are words. With
         `STORE_LENGTH` it is the word's length.
         """
-        self._word(word)
-        value = self._value(word, value)
-        if not word:
-            return False
-        old = word in self._values
-        self._values[word] = value
-        if old:
-            self.kind = TRIE
-            if self._every is not None:  # searches go on, with the new value
-                self._order[self._numbers[word]] = value
-            return False
-        self._type = str if isinstance(word, str) else bytes
-        if self._trie is not None:
-            self._trie.add(word)
-        self._changed(TRIE)
-        return True
+        with self._lock:
+            self._word(word)
+            value = self._value(word, value)
+            if not word:
+                return False
+            old = word in self._values
+            self._values[word] = value
+            if old:
+                self.kind = TRIE
+                if self._made is not None:  # searches go on, with the new value
+                    self._made.order[self._made.numbers[word]] = value
+                return False
+            self._type = str if isinstance(word, str) else bytes
+            if self._trie is not None:
+                self._trie.add(word)
+            self._changed(TRIE)
+            return True
 
     def _value(self, word: Word, value: Any) -> Any:
         if self.store == STORE_LENGTH:
@@ -104,38 +148,41 @@ class Automaton:
 
     def remove_word(self, word: Word) -> bool:
         """Removes the word, and says whether it was there."""
-        if self._word(word) not in self._values:
-            return False
-        self._whole_trie().remove(word)
-        del self._values[word]
-        self._changed(TRIE)
-        return True
+        with self._lock:
+            if self._word(word) not in self._values:
+                return False
+            self._whole_trie().remove(word)
+            del self._values[word]
+            self._changed(TRIE)
+            return True
 
     def pop(self, word: Word) -> Any:
         """Removes the word and returns its value; a `KeyError` where it isn't there."""
-        value = self._values.get(self._word(word), _missing)
-        if value is _missing:
-            raise KeyError(word)
-        self.remove_word(word)
-        return value
+        with self._lock:
+            value = self._values.get(self._word(word), _missing)
+            if value is _missing:
+                raise KeyError(word)
+            self.remove_word(word)
+            return value
 
     def clear(self) -> None:
         """Removes all words."""
-        self._values, self._trie, self._type = {}, None, None
-        self._changed(EMPTY)
+        with self._lock:
+            self._begin()
 
     def make_automaton(self) -> Optional[bool]:
         """Makes the words searchable, until one is added or removed. `False` says that nothing was to be done."""
-        if self.kind != TRIE:
-            return False
-        if self._every is None:
-            words = list(self._values)
-            self._order = list(self._values.values())
-            self._numbers = {word: number for number, word in enumerate(words)}
-            self._every = _Automaton(words)
-        self._version += 1
-        self.kind = AHOCORASICK
-        return None
+        while True:
+            with self._lock:
+                if self.kind != TRIE:
+                    return False
+                version, made, words = self._version, self._made, list(self._values)
+            made = made or _Made(words)
+            with self._lock:
+                if version == self._version:  # else other words were added or removed meanwhile
+                    made.order = list(self._values.values())
+                    self._made, self._version, self.kind = made, next(_versions), AHOCORASICK
+                    return None
 
     def get(self, word: Word, default: Any = _missing, /) -> Any:
         """The word's value. Where it isn't there, the default, or a `KeyError` if there is none."""
@@ -155,11 +202,13 @@ class Automaton:
 
     def match(self, word: Word) -> bool:
         """Whether some word begins with this one."""
-        return self.kind != EMPTY and self._whole_trie().node(self._word(word)) is not None
+        with self._lock:
+            return self.kind != EMPTY and self._whole_trie().node(self._word(word)) is not None
 
     def longest_prefix(self, word: Word) -> int:
         """The length of the longest beginning of it that some word begins with."""
-        return self._whole_trie().depth(self._word(word))
+        with self._lock:
+            return self._whole_trie().depth(self._word(word))
 
     def _whole_trie(self) -> Trie:
         if self._trie is None:
@@ -185,7 +234,8 @@ class Automaton:
                 raise ValueError("The optional how third argument must be one of: MATCH_EXACT_LENGTH, MATCH_AT_LEAST_PREFIX or "
                                  "MATCH_AT_LEAST_PREFIX")
             takes = ways[how]
-        return _Words(self, self._whole_trie().words(pattern, None if wildcard is _missing else wildcard, takes))
+        with self._lock:
+            return _Words(self, self._whole_trie().words(pattern, None if wildcard is _missing else wildcard, takes))
 
     def values(self, *which: Any) -> Iterator[Any]:
         """The values of `keys`, with the same arguments."""
@@ -201,19 +251,21 @@ class Automaton:
     def iter(self, string: Word, start: int = -1, end: int = -1, ignore_white_space: bool = False) -> "_Search":
         """The occurrences of all words in `string[start:end]`, overlapping ones too: pairs of the place of the last character,
         and the value. They come in order of that place, and longer words first. White space can be left out of the string."""
-        if self.kind != AHOCORASICK:
-            raise AttributeError("Not an Aho-Corasick automaton yet: call add_word to add some keys and call make_automaton to "
-                                 "convert the trie to an automaton.")
-        if not isinstance(string, self._type):
-            raise TypeError("string required" if self._type is str else "bytes required")
-        return _Search(self, string, max(start, 0), len(string) if end == -1 else end, bool(ignore_white_space))
+        with self._lock:
+            if self.kind != AHOCORASICK:
+                raise AttributeError("Not an Aho-Corasick automaton yet: call add_word to add some keys and call make_automaton to "
+                                     "convert the trie to an automaton.")
+            if not isinstance(string, self._type):
+                raise TypeError("string required" if self._type is str else "bytes required")
+            return _Search(self, string, max(start, 0), len(string) if end == -1 else end, bool(ignore_white_space))
 
     def iter_long(self, string: Word, *bounds: int) -> "_LongSearch":
         """The leftmost-longest matches in `string[start:end]`, which don't overlap: pairs as those of `iter`."""
-        if self.kind != AHOCORASICK:
-            raise AttributeError("not an automaton yet; add some words and call make_automaton")
-        start, end = _range(bounds, len(self._word(string)))
-        return _LongSearch(self, string, start, end)
+        with self._lock:
+            if self.kind != AHOCORASICK:
+                raise AttributeError("not an automaton yet; add some words and call make_automaton")
+            start, end = _range(bounds, len(self._word(string)))
+            return _LongSearch(self, string, start, end)
 
     def find_all(self, string: Word, callback: Callable[[int, Any], Any], *bounds: int) -> None:
         """Calls `callback` with each pair of `iter`."""
@@ -228,15 +280,17 @@ class Automaton:
 
     def get_stats(self) -> Dict[str, int]:
         """How many words, nodes and edges there are, the longest word, and about how many bytes the search takes."""
-        nodes = self._whole_trie().nodes() if self._values else 0
-        total = self._every.memory if self._every is not None else 0
-        return {
-            "nodes_count": nodes, "words_count": len(self), "longest_word": max(map(len, self._values), default=0),
-            "links_count": max(nodes - 1, 0), "sizeof_node": total // nodes if nodes else 0, "total_size": total,
-        }
+        with self._lock:
+            nodes = self._whole_trie().nodes() if self._values else 0
+            total = self._made.every.memory if self._made is not None else 0
+            return {
+                "nodes_count": nodes, "words_count": len(self), "longest_word": max(map(len, self._values), default=0),
+                "links_count": max(nodes - 1, 0), "sizeof_node": total // nodes if nodes else 0, "total_size": total,
+            }
 
     def __reduce__(self) -> Any:
-        return _again, (self.store, list(self._values.items()), self.kind)
+        with self._lock:
+            return _again, (self.store, list(self._values.items()), self.kind)
 
 
 def _again(store: int, items: List[Tuple[Word, Any]], kind: int) -> Automaton:
@@ -288,15 +342,22 @@ class _Words:
         return self
 
     def __next__(self) -> Word:
-        if self._version != self._automaton._version:
-            raise ValueError("The underlying automaton has changed: this iterator is no longer valid.")
-        return next(self._words)
+        with self._automaton._lock:
+            if self._version != self._automaton._version:
+                raise ValueError("The underlying automaton has changed: this iterator is no longer valid.")
+            return next(self._words)
 
 
 def _after(tail: int, numbers: List[int], ends: List[int]) -> Tuple[List[int], List[int]]:
     """The occurrences that end further on."""
     kept = [i for i, it in enumerate(ends) if it > tail]
     return [numbers[i] for i in kept], [ends[i] for i in kept]
+
+
+def _in_turn(some: Iterable[Iterable[Found]]) -> Iterator[Found]:
+    """The pairs of each, one after another. A second thread can't enter while one is in it, as `each` says of matches."""
+    for pairs in some:
+        yield from pairs
 
 
 class _Search:
@@ -306,7 +367,9 @@ class _Search:
     """
 
     def __init__(self, automaton: Automaton, string: Word, start: int, end: int, ignore_white_space: bool = False) -> None:
-        self._automaton, self._ignores = automaton, ignore_white_space
+        assert automaton._made is not None
+        self._automaton, self._made, self._version = automaton, automaton._made, automaton._version
+        self._ignores = ignore_white_space
         self._tail, self._shift = string[:0], 0
         self._begin(string, start, min(end, len(string)))
 
@@ -316,9 +379,8 @@ class _Search:
         self._string, self._start, self._end = string, start, end
         self._ends: List[int] = []
         self._left = iter(self._ends)
-        self._version = self._automaton._version
         self._over = False
-        self._pairs = chain.from_iterable(self._batches())
+        self._pairs = _in_turn(self._batches())
 
     def __iter__(self) -> Iterator[Found]:
         self._refuse_changed()
@@ -333,7 +395,7 @@ class _Search:
             raise ValueError("underlaying automaton has changed, iterator is not valid anymore")
 
     def _batches(self) -> Iterator[Iterator[Found]]:
-        value_of, lent = self._automaton._order.__getitem__, self._automaton._lent
+        value_of = self._made.order.__getitem__
         string, start, end, places = self._string, self._start, self._end, None
         if self._ignores:
             string, kept = _without_space(string[start:end])
@@ -346,11 +408,12 @@ class _Search:
                 numbers, ends = _after(tail, numbers, ends)
             ends = self._placed(ends, tail, places)
             self._ends, self._left = ends, iter(ends)
-            lent[id(ends)] = ends
+            self._made.lend(ends)
             try:
+                self._refuse_changed()
                 yield zip(self._left, map(value_of, numbers))
             finally:
-                del lent[id(ends)]
+                self._made.take_back(ends)
             self._refuse_changed()
         self._over = True
 
@@ -362,9 +425,7 @@ class _Search:
         return [it + move for it in ends]
 
     def _found(self, string: Word, start: int, end: int) -> Iterator[Any]:
-        every = self._automaton._every
-        assert every is not None
-        return every._listed(string, start, end)
+        return self._made.every._built.listed(string, start, end)
 
     def set(self, string: Word, reset: bool = False) -> None:
         """Goes on with another string, as if it followed what was searched so far. With `reset` it is searched by itself.
@@ -384,12 +445,12 @@ class _Search:
             if not self._over and index >= self._start:
                 there = takewhile(lambda it: it[0] == index + self._shift, self._pairs)
                 ending_there = [(place - 1, value) for place, value in there]
-            longest = max(map(len, self._automaton._values), default=1)
+            longest = max(map(len, self._made.words), default=1)
             unsettled = self._unsettled(index)
             self._tail = unsettled[max(len(unsettled) - longest + 1, 0):]
             self._shift += max(index, 0)
         self._begin(string, 0, len(string))
-        self._pairs = chain(ending_there, self._pairs)
+        self._pairs = _in_turn([ending_there, self._pairs])
 
     def _index(self) -> int:
         """Where the search stands."""
@@ -408,11 +469,8 @@ class _LongSearch(_Search):
     """The pairs of a leftmost-longest search."""
 
     def _found(self, string: Word, start: int, end: int) -> Iterator[Any]:
-        automaton = self._automaton
-        if automaton._longest is None:
-            automaton._longest = _Automaton(list(automaton._values), "leftmost-longest")
-        longest = automaton._longest
-        return longest._walked(longest._source(string, start, end, parts=True), False, False)
+        built = self._made.longest()._built
+        return built.walked(built.source(string, start, end, parts=True), False, False)
 
     def _unsettled(self, index: int) -> Any:
         """What was searched after the last match."""

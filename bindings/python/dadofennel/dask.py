@@ -80,6 +80,7 @@ def run(
         raise ValueError(f"mode is one of {', '.join(MODES)}, not {mode!r}")
     if piece < 1:
         raise ValueError("a piece has at least one byte")
+    rules = os.fspath(rules)
     files = _files(inputs, out)
     os.makedirs(out, exist_ok=True)
     room = tempfile.mkdtemp(prefix=".dadofennel-", dir=os.path.abspath(out))

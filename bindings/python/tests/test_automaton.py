@@ -1,5 +1,6 @@
 """`dadofennel.Automaton` beside the definitions, computed slowly, and what a bad caller gets."""
 import array
+import collections
 import concurrent.futures
 import copy
 import ctypes
@@ -12,6 +13,7 @@ import subprocess
 import sys
 import tempfile
 import threading
+import types
 import unittest
 import unittest.mock
 
@@ -285,8 +287,8 @@ class Characters(unittest.TestCase):
             whole = [list(automaton.finditer(text)), list(automaton.finditer(text, start, end))]
             if automaton.kind == "standard":
                 whole.append(list(automaton.overlapping(text, start)))
-            with unittest.mock.patch.object(dadofennel._automaton, "PART", 1), \
-                    unittest.mock.patch.object(dadofennel._automaton, "MOST_AT_ONCE", rng.choice([1, 4, 4096])):
+            with unittest.mock.patch.object(dadofennel._built, "PART", 1), \
+                    unittest.mock.patch.object(dadofennel._built, "MOST_AT_ONCE", rng.choice([1, 4, 4096])):
                 parts = [list(automaton.finditer(text)), list(automaton.finditer(text, start, end))]
                 if automaton.kind == "standard":
                     parts.append(list(automaton.overlapping(text, start)))
@@ -416,6 +418,74 @@ class Callers(unittest.TestCase):
         self.assertEqual(Automaton([]).replace("cab", []), "cab")
         self.assertRaises(ZeroDivisionError, automaton.replace, "ab", lambda found: 1 / 0)
 
+    def replaced_both_ways(self, automaton, text, replacements):
+        """What `replace` and `replace_stream` make of a text; what they raise is the same, and nothing is written then."""
+        reader, writer = (io.StringIO(text), io.StringIO()) if isinstance(text, str) else (io.BytesIO(text), io.BytesIO())
+        results = []
+        for call in (lambda: automaton.replace(text, replacements),
+                     lambda: automaton.replace_stream(reader, writer, replacements) and writer.getvalue()):
+            try:
+                results.append(call())
+            except (TypeError, ValueError) as error:
+                results.append(type(error))
+        if isinstance(results[0], type):
+            self.assertFalse(writer.getvalue())
+        self.assertEqual(*results)
+        return results[0]
+
+    def test_replacements_by_pattern(self):
+        for patterns, settings, replacements, text, wanted in (
+            (["a", "b"], {}, {"b": "1", "a": "22"}, "cab", "c221"),
+            (["a", "é"], {}, {"é": "e", "a": "€"}, "caé😀", "c€e😀"),
+            (["b", "b"], {}, {"b": "x"}, "abb", "axx"),
+            (["", "b"], {}, {"b": "x", "": "-"}, "é", "-é-"),
+            (["Fox"], {"fold": True}, {"Fox": "x"}, "fox FOX", "x x"),
+            (["fox", "Fox"], {"fold": True}, {"Fox": "2", "fox": "1"}, "fox Fox", "1 1"),
+            ([MANY, "b"], {}, {MANY: "1", "b": "2"}, MANY + "ab", "1a2"),
+            ([b"a", b"\xff"], {}, {b"a": b"", b"\xff": bytearray(b"xy")}, b"a\xffb", b"xyb"),
+            ([bytearray(b"a")], {}, {memoryview(b"a"): memoryview(b"x")}, b"ba", b"bx"),
+            (["a", "b"], {}, collections.defaultdict(lambda: "-", a="x"), "cab", "cx-"),
+            (["a", "b"], {}, types.MappingProxyType({"a": "1", "b": "2"}), "cab", "c12"),
+            (["a", "b"], {}, collections.ChainMap({"a": "1"}, {"b": "2"}), "cab", "c12"),
+        ):
+            self.assertEqual(self.replaced_both_ways(Automaton(patterns, **settings), text, replacements), wanted, replacements)
+        self.assertEqual(Automaton([]).replace("cab", {}), "cab")
+
+    def test_what_is_no_replacement(self):
+        both = {"fox": "x", "bear": "y"}
+        for patterns, settings, replacements, error in (
+            (["fox", "bear"], {}, {"fox": "x"}, ValueError),
+            (["fox", "bear"], {}, dict(both, wolf="z"), ValueError),
+            (["Fox"], {"fold": True}, {"fox": "x"}, ValueError),
+            (["Fox"], {"fold": True}, {"Fox": "x", "fox": "x"}, ValueError),
+            (["fox"], {}, {b"fox": "x"}, TypeError),
+            (["fox"], {}, {0: "x"}, TypeError),
+            (["fox"], {}, {"fox": b"x"}, TypeError),
+            (["fox"], {}, {"fox": None}, TypeError),
+            ([b"fox"], {}, {"fox": b"x"}, TypeError),
+            ([b"fox"], {}, {b"fox": "x"}, TypeError),
+            ([b"fox"], {}, {b"fox": 3}, TypeError),
+            ([], {}, {"fox": "x"}, ValueError),
+            (["fox", "bear"], {}, set(both.values()), TypeError),
+            (["fox", "bear"], {}, frozenset(both.values()), TypeError),
+            (["fox", "bear"], {}, iter("xy"), TypeError),
+            (["fox", "bear"], {}, (it for it in "xy"), TypeError),
+            (["fox", "bear"], {}, both.values(), TypeError),
+            (["fox", "bear"], {}, both.items(), TypeError),
+            (["fox", "bear"], {}, list(both.items()), TypeError),
+            (["fox"], {}, None, TypeError),
+            (["fox"], {}, 5, TypeError),
+            (["fox"], {}, [None], TypeError),
+            (["fox"], {}, b"x", TypeError),
+            ([b"fox"], {}, "x", TypeError),
+            ([b"fox"], {}, range(1), TypeError),
+            ([b"fox"], {}, array.array("B", b"x"), TypeError),
+            ([b"fox"], {}, [b"x", b"y"], ValueError),
+        ):
+            automaton = Automaton(patterns, **settings)
+            text = b"a fox" if patterns == [b"fox"] else "a fox"
+            self.assertEqual(self.replaced_both_ways(automaton, text, replacements), error, replacements)
+
     def test_spans(self):
         automaton = Automaton(["b"])
         self.assertEqual(automaton.find("abab", -2), Match(0, 3, 4))
@@ -439,8 +509,8 @@ class Callers(unittest.TestCase):
     def test_pickled(self):
         for automaton in (Automaton(["é", "b"], "leftmost-longest", True), Automaton([b"a"], start_kind="both", pairs=[(48, 49)])):
             again = pickle.loads(pickle.dumps(automaton))
-            self.assertEqual((again.patterns, again.kind, again.fold, again.start_kind, again._settings),
-                             (automaton.patterns, automaton.kind, automaton.fold, automaton.start_kind, automaton._settings))
+            self.assertEqual((again.patterns, again.kind, again.fold, again.start_kind, again._built.settings),
+                             (automaton.patterns, automaton.kind, automaton.fold, automaton.start_kind, automaton._built.settings))
         self.assertIs(copy.copy(automaton), automaton)
         self.assertIs(copy.deepcopy(automaton), automaton)
         self.assertEqual(pickle.loads(pickle.dumps(Error(14))).status, 14)

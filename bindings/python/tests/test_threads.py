@@ -1,0 +1,490 @@
+"""`dadofennel` by many threads: first searches at the same moment, every method, and what is freed or built anew meanwhile.
+
+A handle that is freed before the call that was given it returns is noticed in two ways. `Watched` looks at it before each call, after
+other threads had a turn. And `tests/asan` runs this page under AddressSanitizer, over a library that looks at the memory.
+"""
+import contextlib
+import copy
+import gc
+import io
+import os
+import pickle
+import random
+import subprocess
+import sys
+import threading
+import time
+import unittest
+import unittest.mock
+import warnings
+
+import dadofennel
+import dadofennel.ahocorasick as ahocorasick
+from dadofennel import Automaton, Error, Match, _native as native
+
+THREADS = 8
+SIZES = [(2, 20), (100, 10), (5000, 3)]
+"""How many words, and how often they are tried."""
+
+
+def words_of(count, letter="é"):
+    return [f"{letter}{number:x}." for number in range(count)]
+
+
+def text_of(words, length=40000, other="€"):
+    """A text of these words and others, all of it beyond ASCII."""
+    draw = random.Random(len(words))
+    return "".join(draw.choice([draw.choice(words), "x" * draw.randint(0, 40), other]) for _ in range(length // 15))
+
+
+def matches_of(words, text):
+    """The matches of words of which none occurs in another one, computed without the library."""
+    numbers, found, at = {word: number for number, word in enumerate(words)}, [], text.find(words[0][0])
+    while at >= 0:
+        end = text.find(".", at) + 1
+        if text[at:end] in numbers:
+            found.append(Match(numbers[text[at:end]], at, end))
+        at = text.find(words[0][0], at + 1)
+    return found
+
+
+def at_once(work, count=THREADS):
+    """What `work` returns for each number, by as many threads, which begin at the same moment."""
+    barrier, results, errors = threading.Barrier(count), [None] * count, []
+
+    def run(number):
+        barrier.wait()
+        try:
+            results[number] = work(number)
+        except BaseException as error:
+            errors.append(error)
+
+    threads = [threading.Thread(target=run, args=(number,)) for number in range(count)]
+    for thread in threads:
+        thread.start()
+    for thread in threads:
+        thread.join()
+    if errors:
+        raise errors[0]
+    return results
+
+
+@contextlib.contextmanager
+def often():
+    """Threads take turns as often as they can."""
+    before = sys.getswitchinterval()
+    sys.setswitchinterval(1e-6)
+    try:
+        yield
+    finally:
+        sys.setswitchinterval(before)
+
+
+class Watched:
+    """Lets other threads have a turn before each call with an automaton, and then looks whether it was freed. Counts the builds."""
+
+    CALLS = ("find_in", "some", "overlapping_some", "replace", "stream_new", "engine", "memory")
+
+    def __init__(self):
+        self.freed, self.builds, self._patches = [], [], []
+
+    def _call(self, name, given, *others):
+        time.sleep(0.0005)
+        handle = getattr(given, "_as_parameter_", given)
+        if not handle.value:
+            self.freed.append(name)
+            return native.NONE
+        return self._real[name](given, *others)
+
+    def _build(self, *arguments):
+        self.builds.append(threading.get_ident())
+        time.sleep(0.0005)
+        return self._real["build"](*arguments)
+
+    def __enter__(self):
+        self._real = {name: getattr(native, name) for name in (*self.CALLS, "build")}
+        for name in self.CALLS:
+            setattr(native, name, lambda *arguments, name=name: self._call(name, *arguments))
+        native.build = self._build
+        return self
+
+    def __exit__(self, *_):
+        for name, real in self._real.items():
+            setattr(native, name, real)
+
+
+class FirstSearches(unittest.TestCase):
+    """Searches beyond ASCII, the first ones of an automaton, by eight threads that begin at the same moment."""
+
+    def test_by_each_method(self):
+        for count, times in SIZES:
+            words = words_of(count)
+            text = text_of(words)
+            wanted = matches_of(words, text)
+            self.assertGreater(len(wanted), 500)
+            with often():
+                for _ in range(times):
+                    for calls in (self.one_call, self.other_calls):
+                        for got in at_once(calls(Automaton(words), text)):
+                            self.assertEqual(got, wanted)
+
+    def one_call(self, automaton, text):
+        return lambda number: list(automaton.finditer(text))
+
+    def other_calls(self, automaton, text):
+        def streamed():
+            stream = automaton.stream()
+            return stream.push(text[:1000]) + stream.push(text[1000:]) + stream.finish()
+
+        def replaced():
+            seen = []
+            self.assertEqual(automaton.replace(text, lambda found: seen.append(found) or text[found.start:found.end]), text)
+            return seen
+
+        calls = [
+            lambda: list(automaton.overlapping(text)), streamed, lambda: list(automaton.finditer_stream(io.StringIO(text))), replaced,
+        ]
+        return lambda number: calls[number % len(calls)]()
+
+    def test_by_the_names_of_pyahocorasick(self):
+        for count, times in SIZES:
+            words = words_of(count, "я")
+            text = text_of(words, 20000)
+            wanted = [(found.end - 1, found.pattern) for found in matches_of(words, text)]
+            for _ in range(times):
+                automaton = ahocorasick.Automaton()
+                for number, word in enumerate(words):
+                    automaton.add_word(word, number)
+                automaton.make_automaton()
+                with often():
+                    for got in at_once(lambda number: list(automaton.iter_long(text) if number % 2 else automaton.iter(text))):
+                        self.assertEqual(got, wanted)
+
+    def test_one_build_and_nothing_freed(self):
+        for count, _ in SIZES:
+            words = words_of(count)
+            text = text_of(words, 3000)
+            wanted = matches_of(words, text)
+            with Watched() as watched:
+                automaton = Automaton(words)
+                for calls in (self.one_call, self.other_calls):
+                    for got in at_once(calls(automaton, text)):
+                        self.assertEqual(got, wanted)
+            self.assertEqual((len(watched.builds), watched.freed), (2, []))
+
+    def test_one_build_of_the_longest(self):
+        automaton = made(words_of(100, "я"))
+        with Watched() as watched:
+            at_once(lambda number: list(automaton.iter_long("я5. я")))
+        self.assertEqual((len(watched.builds), watched.freed), (2, []))
+
+    def test_a_build_that_fails_is_tried_again(self):
+        automaton, real = Automaton(["é"]), native.build
+        with unittest.mock.patch.object(native, "build", lambda *arguments: native.NO_MEMORY):
+            for _ in range(2):
+                self.assertRaises(MemoryError, automaton.find, "é€")
+        self.assertEqual(automaton.find("€é"), Match(0, 1, 2))
+        self.assertIs(native.build, real)
+
+    def test_a_search_within_the_build(self):
+        """A signal's handler may search while its own thread builds: that doesn't wait for itself."""
+        automaton, real, nested = Automaton(["é"]), native.build, []
+
+        def build(*arguments):
+            if not nested:
+                nested.append(None)
+                nested[0] = automaton.find("€é")
+            return real(*arguments)
+
+        with unittest.mock.patch.object(native, "build", build):
+            self.assertEqual((automaton.find("é€"), nested), (Match(0, 0, 1), [Match(0, 1, 2)]))
+
+    @unittest.skipUnless(hasattr(os, "fork"), "there is no fork here")
+    def test_a_fork_within_the_build(self):
+        """The child has no thread that goes on with the build, and builds anew."""
+        automaton, real = Automaton(["é"]), native.build
+        begun, go_on = threading.Event(), threading.Event()
+
+        def build(*arguments):
+            begun.set()
+            go_on.wait()
+            return real(*arguments)
+
+        with unittest.mock.patch.object(native, "build", build), warnings.catch_warnings():
+            warnings.simplefilter("ignore")
+            thread = threading.Thread(target=automaton.find, args=("é€",))
+            thread.start()
+            begun.wait()
+            child = os.fork()
+            if not child:
+                native.build = real
+                done = threading.Timer(20, os._exit, (2,))
+                done.start()
+                os._exit(0 if automaton.find("€é") == Match(0, 1, 2) else 1)
+            go_on.set()
+            thread.join()
+        self.assertEqual(os.waitpid(child, 0)[1], 0)
+
+
+def made(words):
+    automaton = ahocorasick.Automaton()
+    for number, word in enumerate(words):
+        automaton.add_word(word, number)
+    automaton.make_automaton()
+    return automaton
+
+
+class EveryMethod(unittest.TestCase):
+    """All methods at the same time, with one automaton."""
+
+    TEXTS = ["an app, appended", "an app, appendé", "an app, append€"]
+
+    def results(self, automaton, text):
+        leftmost, anchored = automaton.kind != "standard", automaton.start_kind == "both"
+        reader, writer = io.StringIO(text), io.StringIO()
+        stream = automaton.stream()
+        return [
+            automaton.patterns, automaton.kind, automaton.fold, automaton.start_kind, automaton.engine, automaton.memory,
+            repr(automaton), pickle.loads(pickle.dumps(automaton)).find(text), copy.copy(automaton) is automaton,
+            automaton.find(text), automaton.find(text, 3, anchored=anchored), automaton.find(text, earliest=True),
+            automaton.is_match(text), list(automaton.finditer(text)), list(automaton.finditer(text, 2, 9)),
+            list(automaton.finditer(text, 3, anchored=anchored)), None if leftmost else list(automaton.overlapping(text)),
+            automaton.replace(text, "-"), automaton.replace(text, ["1", "2", "3"]), automaton.replace(text, {
+                "app": "1", "append": "2", "dé": "3"}), automaton.replace(text, lambda found: str(found.start)),
+            automaton.replace_stream(reader, writer, ["1", "2", "3"]), writer.getvalue(),
+            stream.push(text[:9]), stream.cut, stream.push(text[9:]), stream.finish(), stream.cut,
+            list(automaton.finditer_stream(io.StringIO(text))),
+        ]
+
+    def test_automaton(self):
+        for settings in ({}, {"kind": "leftmost-first"}, {"kind": "leftmost-longest", "fold": True}, {"start_kind": "both"}):
+            wanted = [self.results(Automaton(["app", "append", "dé"], **settings), text) for text in self.TEXTS]
+            automaton = Automaton(["app", "append", "dé"], **settings)
+            with often():
+                for got in at_once(lambda number: [[self.results(automaton, text) for text in self.TEXTS] for _ in range(5)]):
+                    self.assertEqual(got, [wanted] * 5)
+
+    def test_nothing_is_freed(self):
+        automaton = Automaton(["app", "append", "dé"])
+        with Watched() as watched:
+            at_once(lambda number: self.results(automaton, self.TEXTS[number % 3]))
+        self.assertEqual(watched.freed, [])
+
+    def test_a_stream(self):
+        for words in (["ab", "é€"], words_of(200, "Ѐ") + ["ab", *map(chr, range(0x500, 0x580))]):
+            stream, piece = Automaton(words).stream(), "ab€" * 1000
+            with often():
+                found = at_once(lambda number: [len(stream.push(piece)) for _ in range(10)])
+            self.assertEqual((sum(map(sum, found)), stream.finish(), stream.cut), (80000, [], 240000))
+
+    def test_names_of_pyahocorasick(self):
+        """Some threads ask while others add and remove words, and make the automaton: nothing but the errors that the calls name."""
+        automaton, words = ahocorasick.Automaton(), words_of(50, "я")
+        allowed = (ValueError, AttributeError, KeyError)
+        automaton.add_word("я", "я")
+
+        def changes(draw):
+            word = draw.choice(words)
+            draw.choice([
+                lambda: automaton.add_word(word, word), lambda: automaton.add_word(word, word), automaton.make_automaton,
+                automaton.make_automaton, lambda: automaton.remove_word(word), lambda: automaton.pop(word),
+                automaton.clear if draw.random() < 0.1 else automaton.get_stats, lambda: pickle.loads(pickle.dumps(automaton)),
+            ])()
+            automaton.add_word("я", "я")
+
+        def asks(draw):
+            text = "xx".join(draw.choice(words) for _ in range(20))
+            ends = draw.choice([
+                lambda: list(automaton.iter(text)), lambda: list(automaton.iter_long(text)), lambda: list(automaton.keys("я")),
+                lambda: list(automaton.items()), lambda: list(automaton.values()), lambda: automaton.match("я1"),
+                lambda: automaton.longest_prefix("я12"), lambda: automaton.exists("я1."), lambda: automaton.get("я1.", None),
+                lambda: automaton.find_all(text, lambda *_: None), lambda: len(automaton), lambda: list(automaton),
+                lambda: list(automaton.iter(text, ignore_white_space=True)), lambda: self.goes_on(automaton, text),
+            ])()
+            if isinstance(ends, list):
+                for it in ends:
+                    if isinstance(it, tuple) and isinstance(it[0], int):
+                        self.assertTrue(text[:it[0] + 1].endswith(it[1]), (text, it))
+
+        def run(number):
+            draw = random.Random(number)
+            for _ in range(400):
+                try:
+                    (changes if number < 3 else asks)(draw)
+                except allowed as error:
+                    self.assertNotIn("executing", str(error))
+
+        with often():
+            at_once(run)
+        automaton.make_automaton()
+        self.assertEqual(list(automaton.iter("xя")), [(1, "я")])
+
+    def goes_on(self, automaton, text):
+        search = automaton.iter(text)
+        next(search, None)
+        search.set(text)
+        next(search, None)
+
+
+class Shared(unittest.TestCase):
+    """One iterator by many threads: a thread that comes while another one searches gets a ValueError, and no match is lost."""
+
+    def taken(self, iterator):
+        def take(_):
+            got = []
+            while True:
+                try:
+                    got.append(next(iterator))
+                except StopIteration:
+                    return got
+                except ValueError as error:
+                    self.assertIn("already executing", str(error))
+                    time.sleep(0)
+
+        with often():
+            return sorted(it for got in at_once(take) for it in got)
+
+    def test_iterators(self):
+        words = words_of(100)
+        text = text_of(words, 200000)
+        wanted = matches_of(words, text)
+        automaton, other, piece = Automaton(words), made(words), 1 << 12
+        pairs = [(found.end - 1, found.pattern) for found in wanted]
+
+        class Reader(io.StringIO):
+            def read(self, size):
+                return super().read(min(size, piece))
+
+        for _ in range(5):
+            self.assertEqual(self.taken(automaton.finditer(text)), sorted(wanted))
+            self.assertEqual(self.taken(automaton.overlapping(text)), sorted(wanted))
+            self.assertEqual(self.taken(automaton.finditer_stream(Reader(text))), sorted(wanted))
+            self.assertEqual(self.taken(other.iter(text)), pairs)
+            self.assertEqual(self.taken(iter(other.iter_long(text))), pairs)
+
+
+class BuiltAgain(unittest.TestCase):
+    """`__init__` called again, or an automaton let go, while something of it goes on."""
+
+    def test_while_iterators_run(self):
+        for words, text in ((["é"], "é€" * 50000), (["fox"], "a fox " * 20000), ([b"fox"], b"a fox " * 20000)):
+            for search in ("finditer", "overlapping"):
+                automaton = Automaton(words)
+                wanted, matches = list(automaton.finditer(text)), getattr(automaton, search)(text)
+                got = [next(matches) for _ in range(100)]
+                automaton.__init__([words[0][:1] * 3, words[0] * 2] * 50, "leftmost-longest")
+                gc.collect()
+                self.assertEqual(got + list(matches), wanted)
+                self.assertEqual(len(automaton.patterns), 100)
+                matches = Automaton(words).finditer(text)
+                self.assertEqual(list(matches), wanted)
+
+    def test_while_streams_run(self):
+        automaton = Automaton(["é", "abc"])
+        stream, matches = automaton.stream(), automaton.finditer_stream(io.StringIO("é" * 300000))
+        first = next(matches)
+        automaton.__init__(["xyz"] * 3)
+        gc.collect()
+        self.assertEqual((stream.push("€é"), stream.push("abc")), ([Match(0, 1, 2)], [Match(1, 2, 5)]))
+        self.assertEqual((first, sum(1 for _ in matches)), (Match(0, 0, 1), 299999))
+
+    def test_while_a_call_runs(self):
+        """Between the call and its return the automaton is built again, or the last one who held it lets go."""
+        for name, call, wanted in (
+            ("find_in", lambda it: it.find("xé€"), Match(0, 1, 2)), ("some", lambda it: list(it.finditer("xé€")), [Match(0, 1, 2)]),
+            ("overlapping_some", lambda it: list(it.overlapping("xé€")), [Match(0, 1, 2)]),
+            ("replace", lambda it: it.replace("xé€", "-"), "x-€"), ("stream_new", lambda it: it.stream().push("xé€"), [Match(0, 1, 2)]),
+            ("engine", lambda it: it.engine, "dfa"), ("memory", lambda it: it.memory > 0, True),
+        ):
+            automaton, real, freed = Automaton(["é"]), getattr(native, name), []
+
+            def again(given, *others):
+                automaton.__init__(["a", "b"], engine="contiguous")
+                gc.collect()
+                freed.append(not getattr(given, "_as_parameter_", given).value)
+                return native.NONE if freed[-1] else real(given, *others)
+
+            with unittest.mock.patch.object(native, name, again):
+                self.assertEqual((call(automaton), freed), (wanted, [False]), name)
+            self.assertEqual((automaton.patterns, automaton.engine), (("a", "b"), "contiguous"))
+
+    def test_by_threads(self):
+        both = [["é", "abc"], ["bé", "c", "é€"]]
+        text = "abcé€" * 500
+        automaton, allowed = Automaton(both[0]), [list(Automaton(words).finditer(text)) for words in both]
+        replaced = [Automaton(words).replace(text, "-") for words in both]
+
+        def run(number):
+            for turn in range(60):
+                if number < 2:
+                    automaton.__init__(both[(number + turn) % 2])
+                else:
+                    self.assertIn(list(automaton.finditer(text)), allowed)
+                    self.assertIn(automaton.replace(text, "-"), replaced)
+                    stream = automaton.stream()
+                    self.assertIn(stream.push(text) + stream.finish(), allowed)
+
+        with often():
+            at_once(run)
+            with Watched() as watched:
+                at_once(run)
+        self.assertEqual(watched.freed, [])
+
+    def test_a_failed_one_changes_nothing(self):
+        automaton = Automaton(["é"])
+        for wrong, settings in ((["a", b"b"], {}), (["a"], {"kind": "x"}), (["a"], {"fold": True, "pairs": [("0", "1")]})):
+            self.assertRaises((TypeError, ValueError), automaton.__init__, wrong, **settings)
+            self.assertEqual((automaton.patterns, automaton.find("€é")), (("é",), Match(0, 1, 2)))
+
+    def test_of_pyahocorasick(self):
+        automaton = made(["é", "éa"])
+        search, text = automaton.iter("éa€" * 5000), iter(automaton.iter("éa€" * 5000))
+        first = [next(search), next(text)]
+        automaton.__init__()
+        for number, word in enumerate(["é", "éa"]):
+            automaton.add_word(word, number)
+        automaton.make_automaton()
+        self.assertEqual(first, [(0, 0)] * 2)
+        self.assertRaises(ValueError, next, search)
+        self.assertRaises(ValueError, list, text)
+        self.assertEqual(list(automaton.iter("éa")), [(0, 0), (1, 1)])
+
+    def test_a_stream_has_one_owner(self):
+        stream = Automaton(["é"]).stream()
+        for wrong in (stream.__init__, dadofennel.Stream, lambda: copy.copy(stream), lambda: copy.deepcopy(stream),
+                      lambda: pickle.dumps(stream)):
+            self.assertRaises(TypeError, wrong)
+        gc.collect()
+        self.assertEqual(stream.push("€é"), [Match(0, 1, 2)])
+
+    def test_a_failed_stream(self):
+        self.assertRaises(Error, Automaton(["é", ""]).stream)
+
+
+EXIT = """
+import threading, dadofennel, dadofennel.ahocorasick
+automaton, other = dadofennel.Automaton(["é%d." % it for it in range(500)]), dadofennel.ahocorasick.Automaton()
+other.add_word("é1.", 1)
+other.make_automaton()
+stream, text, begun = automaton.stream(), "é1.€" * 20000, threading.Barrier(5)
+def search(number):
+    begun.wait()
+    while True:
+        [lambda: list(automaton.finditer(text)), lambda: list(other.iter(text)), lambda: stream.push(text),
+         lambda: automaton.replace(text, "-")][number]()
+for number in range(4):
+    threading.Thread(target=search, args=(number,), daemon=True).start()
+begun.wait()
+"""
+
+
+class Exit(unittest.TestCase):
+    def test_while_threads_search(self):
+        """The interpreter ends, and lets go of the module's automata, while threads that it doesn't wait for search with them."""
+        for _ in range(5):
+            done = subprocess.run([sys.executable, "-c", EXIT], stderr=subprocess.PIPE, timeout=60)
+            self.assertEqual((done.returncode, done.stderr), (0, b""))
+
+
+if __name__ == "__main__":
+    unittest.main()

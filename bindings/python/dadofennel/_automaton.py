@@ -4,7 +4,7 @@ from typing import Any, AnyStr, Callable, Dict, Generic, Iterable, Iterator, Lis
 
 from . import _native as native
 from . import _stream
-from ._built import Built
+from ._built import SHORT, Built
 from ._match import Match, each, refuse
 from ._replacements import Replacements, one_each
 from ._source import ENCODING, encoded
@@ -37,9 +37,9 @@ class Automaton(Generic[AnyStr]):
     `row_memory` how many bytes the rows of a contiguous NFA may take.
 
     An automaton never changes. Any number of threads may search with one at the same time, and a search doesn't hold the
-    interpreter's lock while it reads. An iterator is for one thread at a time: another one that takes a match of it meanwhile gets a
-    `ValueError`, as from a generator. Each search goes on with the automaton that it began with, even where `__init__` is called again.
-    It is pickled by its patterns and settings, and built again where it is loaded.
+    interpreter's lock while it reads. Threads may share an iterator, too: each match is given to one of them. A search goes on with the
+    automaton that it began with, even where `__init__` is called again. It is pickled by its patterns and settings, and built again
+    where it is loaded.
 
     Raises `BuildError`, `TypeError` where the patterns aren't all of one type, and `MemoryError`.
     """
@@ -129,9 +129,9 @@ class Automaton(Generic[AnyStr]):
             native.leave(room)
             return None
         refuse(status)
-        found = next(each([source.batch(room, 1)]))
+        (number,), (low,), (high,) = source.batch(room, 1)
         native.leave(room)
-        return found
+        return Match(number, low, high)
 
     def finditer(
         self, text: Any, start: Optional[int] = None, end: Optional[int] = None, *, anchored: bool = False,
@@ -143,7 +143,8 @@ class Automaton(Generic[AnyStr]):
         """
         built = self._built
         built.serves(anchored)
-        return each(built.walked(built.source(text, start, end, parts=not anchored), False, anchored))
+        source = built.source(text, start, end, parts=not anchored)
+        return each(built.walked(source, False, anchored), source.len <= SHORT)
 
     def overlapping(self, text: Any, start: Optional[int] = None, end: Optional[int] = None) -> Iterator[Match]:
         """All occurrences in `text[start:end]`, overlapping ones too, in the order of end, start and number.
@@ -151,7 +152,9 @@ class Automaton(Generic[AnyStr]):
         They are found in batches as those of `finditer`. Raises `Error`, when it is called, for an automaton of a leftmost kind,
         and for one that was built for anchored searches alone.
         """
-        return each(self._built.listed(text, start, end))
+        built = self._built
+        source = built.listable(text, start, end)
+        return each(built.listed(source), source.len <= SHORT)
 
     def replace(self, text: Any, replacements: Replacements[AnyStr]) -> AnyStr:
         """The text with each match of `finditer` replaced.

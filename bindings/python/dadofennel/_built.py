@@ -120,12 +120,15 @@ class Built:
 
         return self._batches(native.some, source, cursor, decided, goes_on)
 
-    def listed(self, text: Any, start: Optional[int], end: Optional[int]) -> Iterator[Batch]:
-        """All occurrences, in batches."""
+    def listable(self, text: Any, start: Optional[int], end: Optional[int]) -> Source:
+        """What is searched for all occurrences, if it was built for that."""
         if self.kind != "standard":
             raise Error(native.NOT_STANDARD)
         self.serves(False)
-        source = self.source(text, start, end, parts=True)
+        return self.source(text, start, end, parts=True)
+
+    def listed(self, source: Source) -> Iterator[Batch]:
+        """All occurrences, in batches."""
         place = native.Place(source.low, source.high)
 
         def goes_on(_: int) -> None:

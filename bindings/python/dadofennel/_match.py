@@ -1,8 +1,10 @@
 """A match, and what a call of the library raises."""
 from functools import partial
+from itertools import chain
 from typing import Any, Callable, Iterable, Iterator, List, NamedTuple, Optional, Tuple
 
 from . import _native as native
+from ._turns import Part, in_turn
 
 
 class Match(NamedTuple):
@@ -28,14 +30,25 @@ Batch = Tuple[List[int], List[int], List[int]]
 match: Callable[[Tuple[int, int, int]], Match] = partial(tuple.__new__, Match)  # type: ignore[assignment]
 
 
-def each(batches: Iterable[Batch]) -> Iterator[Match]:
-    """The matches of some batches, one after another.
+def each(batches: Iterator[Batch], at_once: bool = False) -> Iterator[Match]:
+    """The matches of some batches, one after another. If there is only one batch, it may be found at once, which takes less time."""
+    if at_once:
+        first = next(batches, None)
+        if first is None:
+            return iter(())
+        second = next(batches, None)
+        if second is None:
+            return map(match, zip(*first))
+        batches = chain((first, second), batches)
+    return in_turn(_parts(batches))
 
-    It is a generator, which a second thread can't enter while one is in it. An `itertools.chain` lets a second thread in, and then
-    lets go of what the first one is in.
-    """
-    for batch in batches:
-        yield from map(match, zip(*batch))
+
+def _parts(batches: Iterable[Batch]) -> Iterator[Part[Match]]:
+    for numbers, starts, ends in batches:
+        length = iter(numbers)
+        yield length, map(match, zip(length, starts, ends))
+        starts.clear()
+        ends.clear()
 
 
 class Error(ValueError):

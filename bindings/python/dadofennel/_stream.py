@@ -14,6 +14,7 @@ from . import _native as native
 from ._built import Built
 from ._match import Match, match, refuse
 from ._source import encoded
+from ._turns import Part, in_turn
 
 LEAST_READ = 1 << 18
 """How much is asked for at once, at least: bytes, or characters."""
@@ -149,8 +150,13 @@ def begun(built: Built) -> Stream[Any]:
 
 def found(stream: Stream[Any], longest: int, reader: Any) -> Iterator[Match]:
     """The matches of what a reader has, each as soon as it is decided."""
-    for piece in pieces(reader, max(LEAST_READ, 8 * longest)):
-        yield from stream.push(piece) if piece else stream.finish()
+    return in_turn(_parts(stream, pieces(reader, max(LEAST_READ, 8 * longest))))
+
+
+def _parts(stream: Stream[Any], read: Iterator[Any]) -> Iterator[Part[Match]]:
+    for piece in read:
+        left = iter(stream.push(piece) if piece else stream.finish())
+        yield left, left
 
 
 def pieces(reader: Any, size: int) -> Iterator[Any]:

@@ -15,14 +15,16 @@ integers as words (`KEY_SEQUENCE`), `dump`, `save` and `load` are left out; `pic
 Threads may share an automaton, as that of pyahocorasick, whose calls keep the interpreter's lock. Here a search lets go of it; so a
 search holds what it searches by, and a change of the words ends it.
 """
+from copy import copy
 from itertools import count, takewhile
 from operator import length_hint
 from threading import RLock
-from typing import Any, Callable, Dict, Iterable, Iterator, List, Optional, Tuple, Union
+from typing import Any, Callable, Dict, Iterator, List, Optional, Sequence, Tuple, Union
 
 from ._automaton import Automaton as _Automaton
 from ._once import Once
 from ._trie import Trie, at_least, at_most, exactly
+from ._turns import Part, in_turn
 
 EMPTY, TRIE, AHOCORASICK = 0, 1, 2
 STORE_INTS, STORE_LENGTH, STORE_ANY = 10, 20, 30
@@ -37,29 +39,31 @@ _versions = count(1)
 
 
 class _Made:
-    """What `make_automaton` makes of the words: what searches for all of them, and their values in the same order."""
+    """What `make_automaton` makes of the words: what searches for all of them, and their values in the same order.
 
-    def __init__(self, words: List[Any]) -> None:
-        self.words, self.numbers = words, {word: number for number, word in enumerate(words)}
+    `lent` has the ends of the matches that each search has found and not given yet, by their `id`.
+    """
+
+    def __init__(self, words: List[Any], type_of_words: Any) -> None:
+        self.words, self.type, self.numbers = words, type_of_words, {word: number for number, word in enumerate(words)}
         self.order: List[Any] = []
         self.every = _Automaton(words)
         self._longest: Once[_Automaton[Any]] = Once()
-        self._lent: Dict[int, List[int]] = {}
+        self.lent: Dict[int, List[int]] = {}
+
+    def again(self) -> "_Made":
+        """The same, for other searches."""
+        other = copy(self)
+        other.lent = {}
+        return other
 
     def longest(self) -> "_Automaton[Any]":
         """What searches for the leftmost-longest matches: it is built when it is needed first."""
         return self._longest.value or self._longest.made(lambda: _Automaton(self.words, "leftmost-longest"))
 
-    def lend(self, ends: List[int]) -> None:
-        """Notes that a search gives the matches of these ends, so that it can be ended."""
-        self._lent[id(ends)] = ends
-
-    def take_back(self, ends: List[int]) -> None:
-        del self._lent[id(ends)]
-
     def end(self) -> None:
         """Ends all searches: what they would still give of the matches that they have found is gone."""
-        for ends in list(self._lent.values()):
+        for ends in list(self.lent.values()):
             ends.clear()
 
 
@@ -176,8 +180,8 @@ class Automaton:
             with self._lock:
                 if self.kind != TRIE:
                     return False
-                version, made, words = self._version, self._made, list(self._values)
-            made = made or _Made(words)
+                version, made, words, type_of_words = self._version, self._made, list(self._values), self._type
+            made = made.again() if made else _Made(words, type_of_words)
             with self._lock:
                 if version == self._version:  # else other words were added or removed meanwhile
                     made.order = list(self._values.values())
@@ -251,21 +255,21 @@ class Automaton:
     def iter(self, string: Word, start: int = -1, end: int = -1, ignore_white_space: bool = False) -> "_Search":
         """The occurrences of all words in `string[start:end]`, overlapping ones too: pairs of the place of the last character,
         and the value. They come in order of that place, and longer words first. White space can be left out of the string."""
-        with self._lock:
-            if self.kind != AHOCORASICK:
-                raise AttributeError("Not an Aho-Corasick automaton yet: call add_word to add some keys and call make_automaton to "
-                                     "convert the trie to an automaton.")
-            if not isinstance(string, self._type):
-                raise TypeError("string required" if self._type is str else "bytes required")
-            return _Search(self, string, max(start, 0), len(string) if end == -1 else end, bool(ignore_white_space))
+        made = self._made
+        if made is None or self.kind != AHOCORASICK:
+            raise AttributeError("Not an Aho-Corasick automaton yet: call add_word to add some keys and call make_automaton to "
+                                 "convert the trie to an automaton.")
+        if not isinstance(string, made.type):
+            raise TypeError("string required" if made.type is str else "bytes required")
+        return _Search(self, made, string, max(start, 0), len(string) if end == -1 else end, bool(ignore_white_space))
 
     def iter_long(self, string: Word, *bounds: int) -> "_LongSearch":
         """The leftmost-longest matches in `string[start:end]`, which don't overlap: pairs as those of `iter`."""
-        with self._lock:
-            if self.kind != AHOCORASICK:
-                raise AttributeError("not an automaton yet; add some words and call make_automaton")
-            start, end = _range(bounds, len(self._word(string)))
-            return _LongSearch(self, string, start, end)
+        made = self._made
+        if made is None or self.kind != AHOCORASICK:
+            raise AttributeError("not an automaton yet; add some words and call make_automaton")
+        start, end = _range(bounds, len(self._word(string)))
+        return _LongSearch(self, made, string, start, end)
 
     def find_all(self, string: Word, callback: Callable[[int, Any], Any], *bounds: int) -> None:
         """Calls `callback` with each pair of `iter`."""
@@ -354,33 +358,25 @@ def _after(tail: int, numbers: List[int], ends: List[int]) -> Tuple[List[int], L
     return [numbers[i] for i in kept], [ends[i] for i in kept]
 
 
-def _in_turn(some: Iterable[Iterable[Found]]) -> Iterator[Found]:
-    """The pairs of each, one after another. A second thread can't enter while one is in it, as `each` says of matches."""
-    for pairs in some:
-        yield from pairs
-
-
 class _Search:
     """The pairs of a search. `set` goes on with another string.
 
     Pairs are made in batches. `for` and `list` take them from the batches directly, without a call of Python for each.
     """
 
-    def __init__(self, automaton: Automaton, string: Word, start: int, end: int, ignore_white_space: bool = False) -> None:
-        assert automaton._made is not None
-        self._automaton, self._made, self._version = automaton, automaton._made, automaton._version
-        self._ignores = ignore_white_space
+    def __init__(self, automaton: Automaton, made: _Made, string: Word, start: int, end: int, ignore_white_space: bool = False) -> None:
+        self._automaton, self._made, self._ignores = automaton, made, ignore_white_space
         self._tail, self._shift = string[:0], 0
         self._begin(string, start, min(end, len(string)))
 
-    def _begin(self, string: Word, start: int, end: int) -> None:
-        """Searches `string[start:end]` as what follows `_tail`, the end of what was searched before. Places are moved by
-        `_shift`."""
+    def _begin(self, string: Word, start: int, end: int, first: Sequence[Found] = ()) -> None:
+        """Gives these pairs first, and searches `string[start:end]` as what follows `_tail`, the end of what was searched before.
+        Places are moved by `_shift`."""
         self._string, self._start, self._end = string, start, end
         self._ends: List[int] = []
         self._left = iter(self._ends)
         self._over = False
-        self._pairs = _in_turn(self._batches())
+        self._pairs = in_turn(self._parts(first))
 
     def __iter__(self) -> Iterator[Found]:
         self._refuse_changed()
@@ -391,11 +387,14 @@ class _Search:
         return next(self._pairs)
 
     def _refuse_changed(self) -> None:
-        if self._version != self._automaton._version:
+        if self._made is not self._automaton._made:
             raise ValueError("underlaying automaton has changed, iterator is not valid anymore")
 
-    def _batches(self) -> Iterator[Iterator[Found]]:
-        value_of = self._made.order.__getitem__
+    def _parts(self, first: Sequence[Found]) -> Iterator[Part[Found]]:
+        if first:
+            given = iter(first)
+            yield given, given
+        value_of, lent = self._made.order.__getitem__, self._made.lent
         string, start, end, places = self._string, self._start, self._end, None
         if self._ignores:
             string, kept = _without_space(string[start:end])
@@ -408,13 +407,14 @@ class _Search:
                 numbers, ends = _after(tail, numbers, ends)
             ends = self._placed(ends, tail, places)
             self._ends, self._left = ends, iter(ends)
-            self._made.lend(ends)
+            lent[id(ends)] = ends
             try:
                 self._refuse_changed()
-                yield zip(self._left, map(value_of, numbers))
+                yield self._left, zip(self._left, map(value_of, numbers))
             finally:
-                self._made.take_back(ends)
-            self._refuse_changed()
+                del lent[id(ends)]
+            numbers.clear()
+        self._refuse_changed()
         self._over = True
 
     def _placed(self, ends: List[int], tail: int, places: Optional[List[int]]) -> List[int]:
@@ -425,7 +425,8 @@ class _Search:
         return [it + move for it in ends]
 
     def _found(self, string: Word, start: int, end: int) -> Iterator[Any]:
-        return self._made.every._built.listed(string, start, end)
+        built = self._made.every._built
+        return built.listed(built.listable(string, start, end))
 
     def set(self, string: Word, reset: bool = False) -> None:
         """Goes on with another string, as if it followed what was searched so far. With `reset` it is searched by itself.
@@ -434,7 +435,7 @@ class _Search:
         given last. So they are one less than in the strings put together where some pairs were left, as those of pyahocorasick
         are.
         """
-        if not isinstance(string, self._automaton._type):
+        if not isinstance(string, self._made.type):
             raise TypeError("string expected")
         self._refuse_changed()
         ending_there: List[Found] = []
@@ -449,8 +450,7 @@ class _Search:
             unsettled = self._unsettled(index)
             self._tail = unsettled[max(len(unsettled) - longest + 1, 0):]
             self._shift += max(index, 0)
-        self._begin(string, 0, len(string))
-        self._pairs = _in_turn([ending_there, self._pairs])
+        self._begin(string, 0, len(string), ending_there)
 
     def _index(self) -> int:
         """Where the search stands."""

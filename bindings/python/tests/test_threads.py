@@ -234,6 +234,20 @@ def made(words):
     return automaton
 
 
+@contextlib.contextmanager
+def changes_within_build(change):
+    """Something else happens while an automaton is built, once."""
+    real, left = native.build, [change]
+
+    def build(*arguments):
+        if left:
+            left.pop()()
+        return real(*arguments)
+
+    with unittest.mock.patch.object(native, "build", build):
+        yield
+
+
 class EveryMethod(unittest.TestCase):
     """All methods at the same time, with one automaton."""
 
@@ -280,69 +294,99 @@ class EveryMethod(unittest.TestCase):
     def test_names_of_pyahocorasick(self):
         """Some threads ask while others add and remove words, and make the automaton: nothing but the errors that the calls name."""
         automaton, words = ahocorasick.Automaton(), words_of(50, "я")
-        allowed = (ValueError, AttributeError, KeyError)
-        automaton.add_word("я", "я")
 
         def changes(draw):
             word = draw.choice(words)
-            draw.choice([
+            call = draw.choice([
                 lambda: automaton.add_word(word, word), lambda: automaton.add_word(word, word), automaton.make_automaton,
-                automaton.make_automaton, lambda: automaton.remove_word(word), lambda: automaton.pop(word),
-                automaton.clear if draw.random() < 0.1 else automaton.get_stats, lambda: pickle.loads(pickle.dumps(automaton)),
-            ])()
-            automaton.add_word("я", "я")
+                lambda: automaton.remove_word(word), automaton.get_stats, lambda: pickle.loads(pickle.dumps(automaton)),
+                lambda: automaton.pop(word), automaton.clear if draw.random() < 0.3 else automaton.make_automaton,
+            ])
+            try:
+                call()
+            except KeyError as error:
+                self.assertEqual(error.args, (word,))
 
         def asks(draw):
-            text = "xx".join(draw.choice(words) for _ in range(20))
-            ends = draw.choice([
-                lambda: list(automaton.iter(text)), lambda: list(automaton.iter_long(text)), lambda: list(automaton.keys("я")),
-                lambda: list(automaton.items()), lambda: list(automaton.values()), lambda: automaton.match("я1"),
-                lambda: automaton.longest_prefix("я12"), lambda: automaton.exists("я1."), lambda: automaton.get("я1.", None),
-                lambda: automaton.find_all(text, lambda *_: None), lambda: len(automaton), lambda: list(automaton),
-                lambda: list(automaton.iter(text, ignore_white_space=True)), lambda: self.goes_on(automaton, text),
+            draw.choice([
+                lambda: automaton.match("я1"), lambda: automaton.longest_prefix("я12"), lambda: automaton.exists("я1."),
+                lambda: automaton.get("я1.", None), lambda: len(automaton), lambda: automaton.match("я2."),
             ])()
-            if isinstance(ends, list):
-                for it in ends:
-                    if isinstance(it, tuple) and isinstance(it[0], int):
-                        self.assertTrue(text[:it[0] + 1].endswith(it[1]), (text, it))
+
+        def lists(draw):
+            call = draw.choice([
+                lambda: list(automaton.keys("я")), lambda: list(automaton), lambda: list(automaton.items()),
+                lambda: list(automaton.values()),
+            ])
+            with contextlib.suppress(ValueError, KeyError):  # the words have changed
+                call()
+
+        def searches(draw):
+            text = "xx".join(draw.choice(words) for _ in range(20))
+            call = draw.choice([
+                lambda: automaton.iter(text), lambda: automaton.iter_long(text), lambda: self.goes_on(automaton, text),
+                lambda: automaton.iter(text, ignore_white_space=True), lambda: automaton.find_all(text, lambda *_: None) or (),
+            ])
+            try:
+                for end, word in call():
+                    self.assertTrue(text[:end + 1].endswith(word), (text, end, word))
+            except (ValueError, AttributeError) as error:  # the words have changed, or are not made
+                self.assertIn("utomaton", str(error))
 
         def run(number):
             draw = random.Random(number)
-            for _ in range(400):
-                try:
-                    (changes if number < 3 else asks)(draw)
-                except allowed as error:
-                    self.assertNotIn("executing", str(error))
+            for _ in range(500):
+                (changes, changes, changes, asks, asks, lists, searches, searches)[number](draw)
 
-        with often():
-            at_once(run)
+        for _ in range(8):
+            with often():
+                at_once(run)
+        automaton.clear()
+        automaton.add_word("я", "я")
         automaton.make_automaton()
         self.assertEqual(list(automaton.iter("xя")), [(1, "я")])
+
+    def test_words_that_change_while_it_is_built(self):
+        """The automaton that is made in the end is that of the words in the end."""
+        for change, wanted in (
+            (lambda it: it.add_word("b", "B"), [(0, "A"), (1, "B")]), (lambda it: it.add_word("a", "new"), [(0, "new")]),
+            (lambda it: it.remove_word("a"), []), (lambda it: it.make_automaton(), [(0, "A")]),
+            (lambda it: it.pop("c") and it.add_word("b", "B"), [(0, "A"), (1, "B")]),
+        ):
+            automaton = ahocorasick.Automaton()
+            for word in "ac":
+                automaton.add_word(word, word.upper())
+            with changes_within_build(lambda: change(automaton)):
+                automaton.make_automaton()
+            self.assertEqual(list(automaton.iter("abx")), wanted)
+            automaton.add_word("d", "D")
+            with changes_within_build(automaton.clear):
+                self.assertIs(automaton.make_automaton(), False)
+            self.assertRaises(AttributeError, automaton.iter, "a")
+
+    def test_words_that_change_while_it_searches(self):
+        automaton = made(["a", "ab"])
+        search = automaton.iter_long("xa")
+        with changes_within_build(lambda: automaton.add_word("a", "new")):
+            self.assertEqual(next(search), (1, "new"))
+        automaton = made(["a", "ab"])
+        search = automaton.iter_long("xa")
+        with changes_within_build(lambda: automaton.add_word("b", "B")):
+            self.assertRaises(ValueError, next, search)
 
     def goes_on(self, automaton, text):
         search = automaton.iter(text)
         next(search, None)
-        search.set(text)
-        next(search, None)
+        search.set(text, True)
+        return search
 
 
 class Shared(unittest.TestCase):
-    """One iterator by many threads: a thread that comes while another one searches gets a ValueError, and no match is lost."""
+    """One iterator by many threads: each match is given to one of them."""
 
     def taken(self, iterator):
-        def take(_):
-            got = []
-            while True:
-                try:
-                    got.append(next(iterator))
-                except StopIteration:
-                    return got
-                except ValueError as error:
-                    self.assertIn("already executing", str(error))
-                    time.sleep(0)
-
         with often():
-            return sorted(it for got in at_once(take) for it in got)
+            return sorted(it for got in at_once(lambda number: list(iterator) if number % 2 else [it for it in iterator]) for it in got)
 
     def test_iterators(self):
         words = words_of(100)
@@ -360,7 +404,28 @@ class Shared(unittest.TestCase):
             self.assertEqual(self.taken(automaton.overlapping(text)), sorted(wanted))
             self.assertEqual(self.taken(automaton.finditer_stream(Reader(text))), sorted(wanted))
             self.assertEqual(self.taken(other.iter(text)), pairs)
-            self.assertEqual(self.taken(iter(other.iter_long(text))), pairs)
+            self.assertEqual(self.taken(other.iter_long(text)), pairs)
+
+    def test_by_next(self):
+        words = words_of(100)
+        text, automaton, other = text_of(words), Automaton(words), made(words)
+        for iterator in (automaton.finditer(text), automaton.overlapping(text), other.iter(text), other.iter_long(text)):
+            def take(_):
+                got = []
+                for it in iter(lambda: next(iterator, None), None):
+                    got.append(it)
+                return got
+
+            with often():
+                self.assertEqual(sum(map(len, at_once(take))), len(matches_of(words, text)))
+
+    def test_an_error_ends_it(self):
+        automaton = made(words_of(100))
+        pairs = iter(automaton.iter(text_of(words_of(100))))
+        next(pairs)
+        automaton.clear()
+        self.assertRaises(ValueError, list, pairs)
+        self.assertEqual(list(pairs), [])
 
 
 class BuiltAgain(unittest.TestCase):
@@ -481,7 +546,7 @@ begun.wait()
 class Exit(unittest.TestCase):
     def test_while_threads_search(self):
         """The interpreter ends, and lets go of the module's automata, while threads that it doesn't wait for search with them."""
-        for _ in range(5):
+        for _ in range(3):
             done = subprocess.run([sys.executable, "-c", EXIT], stderr=subprocess.PIPE, timeout=60)
             self.assertEqual((done.returncode, done.stderr), (0, b""))
 

@@ -138,8 +138,9 @@ class Automaton(Generic[AnyStr]):
     ) -> Iterator[Match]:
         """The matches of `text[start:end]` one after another; no two of them overlap.
 
-        The first is found without reading on. Further ones are found in batches of up to 4096, each four times as large as the one
-        before. Raises `Error`, when it is called, where the automaton wasn't built for such a search.
+        In a text of more than 4096 bytes the first is found without reading on. Further ones are found in batches of up to 4096, each
+        four times as large as the one before. In a shorter text the first ones are found when it is called. Raises `Error`, when it is
+        called, where the automaton wasn't built for such a search.
         """
         built = self._built
         built.serves(anchored)

@@ -7,7 +7,7 @@ from typing import Any, Iterator, Tuple, TypeVar
 T = TypeVar("T")
 
 Part = Tuple[Iterator[Any], Iterator[T]]
-"""An iterator, and what says by its length whether something of it is left."""
+"""What says by its length whether something of an iterator is left, and the iterator."""
 
 
 class _Turns:

@@ -26,6 +26,14 @@ with warnings.catch_warnings():
         distributed = None
 
 
+class Rules(unittest.TestCase):
+    def test_are_a_file(self):
+        """A mapping of patterns to replacements isn't one, and nothing is made then."""
+        with tempfile.TemporaryDirectory() as folder:
+            self.assertRaises(TypeError, dask.replace, None, {"fox": "sloth"}, [], folder + "/out")
+            self.assertEqual(os.listdir(folder), [])
+
+
 class Cuts(unittest.TestCase):
     """Where a file is cut."""
 

@@ -2,7 +2,7 @@
 pub mod RunLaws
 pub mod Sending
 pub mod Transformed
-use Rattle.std.specs.Prelude.{◌↔◌, ◌≡◌, ◌≢◌, ℕ, ◌+◌, ◌*◌, ◌≤◌, false, List, [], ◌++◌, length, Result, Option, Ok, Err, OnOk}
+use Rattle.std.specs.Prelude.{◌↔◌, ◌≡◌, ◌≢◌, ◌⊎◌, ℕ, ◌+◌, ◌*◌, ◌≤◌, false, List, [], ◌++◌, length, Result, Option, Ok, Err, OnOk}
 use Rattle.std.specs.List.{concat}
 use Rattle.ac_input.specs.Laws.BeginningLaws.{IsBeginning}
 use Rattle.ac_input.specs.Rules.{IsRuleFile, Rule}
@@ -63,18 +63,20 @@ pub record RanToFailedWrite (plan : Plan) (m : Moved) (stalls : ℕ) : Type 0 wh
   pub written : IsBeginning m.taken (output_of plan.settings plan.rules (concat m.pieces))
   pub failed : Failed m 0 1 stalls
 
--- Memory ran out: nothing was written, and the end of the input was not read. Something was read only if the settings are accepted
--- and the text isn't written while the input is read.
+-- Memory ran out, though the settings are accepted with the rules. Nothing was written, and the end of the input was not read.
+-- Something was read only if the patterns are within the limits of a build, and the text isn't written while the input is read.
 pub record RanOutOfMemory (plan : Plan) (m : Moved) : Type 0 where
-  pub accepted : m.pieces ≢ [] → IsAccepted plan.settings plan.rules
+  pub accepted : IsAccepted plan.settings plan.rules
+  pub within : m.pieces ≢ [] → IsBuildable plan.settings plan.rules
   pub streamed : IsStreamed plan → m.pieces ≡ []
   pub filled : AreFilled m.pieces
   pub written : m.taken ≡ []
   pub failed : Failed m 0 0 0
 
--- The input has more bytes than can be counted. A prefix of its text was written.
+-- The input has more bytes than can be counted, and the text is written while it is read. A prefix of its text was written.
 pub record RanOutOfPlaces (plan : Plan) (m : Moved) : Type 0 where
   pub accepted : IsAccepted plan.settings plan.rules
+  pub streamed : IsStreamed plan
   pub long : ¬ CanBeCounted (concat m.pieces)
   pub written : IsBeginning m.taken (output_of plan.settings plan.rules (concat m.pieces))
   pub failed : Failed m 0 0 0
@@ -162,14 +164,20 @@ abbrev pub Prepares : Plan → Result Plan RunError → Type 0
 Prepares asked (Ok plan) = (plan ≡ asked) × IsAccepted asked.settings asked.rules × IsBuildable asked.settings asked.rules
 Prepares asked (Err (errors.Setting e)) = IsFirstExclusion asked.settings asked.rules e
 Prepares asked (Err (errors.Build kind)) = IsAccepted asked.settings asked.rules × IsNotBuilt asked.settings asked.rules kind
-Prepares asked (Err errors.Memory) = Unit {0}
+Prepares asked (Err errors.Memory) = IsAccepted asked.settings asked.rules
 Prepares asked (Err other) = ⊥
 
 -- ---- runs by a rule file: of plain text, or of hex
 
--- what each result of a run means, given the rule file, the plan for its rules, and what was moved
+-- nothing was read, and nothing written
+abbrev pub nothing_moved : Moved
+nothing_moved = record { pieces = []; failed_reads = 0; taken = []; failed_writes = 0; stalled_writes = 0 }
+
+-- What each result of a run means, given the rule file, the plan for its rules, and what was moved. If memory runs out while the rules
+-- are decoded, nothing was moved, and the settings were not looked at.
 abbrev pub AnswersIn : Grammar → (List Rule → Plan) → List ℕ → Moved → Result (Unit {0}) RunError → Type 0
 AnswersIn grammar plan file m (Err (errors.Rule (rule_errors.Line n))) = grammar.bad file n
+AnswersIn grammar plan file m (Err errors.Memory) = (rules : List Rule) × grammar.holds file rules × ((m ≡ nothing_moved) ⊎ RanOutOfMemory (plan rules) m)
 AnswersIn grammar plan file m result = (rules : List Rule) × grammar.holds file rules × AnswersRules (plan rules) m result
 
 -- What a run by a rule file read, wrote and returned. If it writes while it reads, no read returned more than the buffer has room

@@ -169,8 +169,9 @@ pub fn run_rules_counted<R: Read, W: Write>(
     }
 }
 
-/// Two runs that return Ok by one rule file, mode, kind and pairing, and that read the same bytes, wrote the same bytes. Neither the
-/// engine nor its settings change them, nor how the reads cut the input, nor whether the text was asked for while it was read. The function does nothing: its contract is the law.
+/// Two runs that return Ok by the same rules, mode, kind and pairing, and that read the same bytes, wrote the same bytes. Neither the
+/// form of a rule file changes them, nor the engine and its settings, nor how the reads cut the input, nor whether the text was asked
+/// for while it was read. The function does nothing: its contract is the law.
 pub fn runs_write_alike()
     ensures { RunsWriteAlike }
 {}

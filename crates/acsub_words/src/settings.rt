@@ -23,7 +23,7 @@ pub enum Mode {
     Overlap,
 }
 
-/// By what matches are found. No engine changes what is written, only what a run costs.
+/// By what matches are found. No engine changes what is written, only what a run costs, and its limits.
 #[derive(Clone, Copy, Debug, PartialEq, Eq)]
 pub enum Engine {
     /// The DFA for up to 100 patterns; for more, or where it would be too large, the contiguous NFA; and where that would be too

@@ -1,5 +1,5 @@
 -- A run by a rule file in either form, whose result follows from that of a run by its rules.
-use Rattle.std.proofs.Common.{◌≡◌, ◌↔◌, ℕ, Bool, Option, List, Result, Ok, Err, refl, ap, subst}
+use Rattle.std.proofs.Common.{◌≡◌, ◌↔◌, ℕ, Bool, Option, List, Result, Ok, Err, inl, inr, refl, ap, subst}
 use Rattle.ac_input.specs.Rules.{Rule}
 use Rattle.ac_input.specs.declared.steps.Steps.{Steps}
 use Rattle.ac_automaton.specs.Devices.Moved.{Moved}
@@ -10,10 +10,10 @@ use Rattle.acsub.specs.declared.error.RunError.{RunError}
 use Rattle.acsub.specs.declared.error.RunError.TheVariants as errors
 use Rattle.acsub_rules.specs.File.{ReadsRules, grammar_of}
 use Rattle.acsub.specs.Plan.{Plan}
-use Rattle.acsub.specs.Run.{AnswersIn, AnswersRules, CostsIn, CostsRun, HasBegun, RanIn, RanRules, ReadsByBuffer, RefusesIn, RefusesRules, not_read}
+use Rattle.acsub.specs.Run.{AnswersIn, AnswersRules, CostsIn, CostsRun, HasBegun, RanIn, RanRules, ReadsByBuffer, RefusesIn, RefusesRules, not_read, nothing_moved}
 use Rattle.acsub_rules.proofs.lemmas.GrammarLemmas.{bad_none, bad_one, file_one}
 use Rattle.acsub.proofs.run.CountLemmas.{nothing_cost}
-use Rattle.acsub.proofs.run.RunLemmas.{HasMoved-nothing, memory_answer, nothing, nothing_short}
+use Rattle.acsub.proofs.run.RunLemmas.{HasMoved-nothing, nothing_short}
 
 -- ---- a run by the rules of a file
 
@@ -31,7 +31,7 @@ module _ (text : Bool) (plan : List Rule → Plan) (file : List ℕ) (rules : Li
   answer_in m (Err (errors.Read e)) a = (rules, grammar, a)
   answer_in m (Err (errors.Write e)) a = (rules, grammar, a)
   answer_in m (Err errors.WriteZero) a = (rules, grammar, a)
-  answer_in m (Err errors.Memory) a = (rules, grammar, a)
+  answer_in m (Err errors.Memory) a = (rules, grammar, inr a)
   answer_in m (Err errors.Position) a = (rules, grammar, a)
 
   module _ {R : Type 0} (r r' : Watched R) (result : Result (Unit {0}) RunError) where
@@ -59,12 +59,12 @@ unread_begun rule_errors.Memory begun = begun
 
 module _ (text : Bool) (plan : List Rule → Plan) (file : List ℕ) (why : RuleError) (read : ReadsRules text file (Err why)) where
   -- what the result of such a run says of the file
-  unread_answer : AnswersIn (grammar_of text) plan file nothing (Err (not_read why))
+  unread_answer : AnswersIn (grammar_of text) plan file nothing_moved (Err (not_read why))
   unread_answer = go why read
     where
-      go : (e : RuleError) → ReadsRules text file (Err e) → AnswersIn (grammar_of text) plan file nothing (Err (not_read e))
+      go : (e : RuleError) → ReadsRules text file (Err e) → AnswersIn (grammar_of text) plan file nothing_moved (Err (not_read e))
       go (rule_errors.Line n) h = (h.bad n).0 refl
-      go rule_errors.Memory h = let had = h.memory refl in (had.0, had.1, memory_answer (plan had.0))
+      go rule_errors.Memory h = let had = h.memory refl in (had.0, had.1, inl refl)
 
   -- a bad line that is reported is the first one
   unread_line : (n : ℕ) → ((let r : Result (Unit {0}) RunError = Err (not_read why) in r) ≡ Err (errors.Rule (rule_errors.Line n))) ↔ (grammar_of text).bad file n
@@ -77,7 +77,7 @@ module _ (text : Bool) (plan : List Rule → Plan) (file : List ℕ) (why : Rule
   module _ {R : Type 0} (r : Watched R) where
     module _ {W : Type 0} (w : Watched W) where
       pub unread_ran : (remaining : R → Option (List ℕ)) (contents : W → Option (List ℕ)) → RanIn (grammar_of text) remaining contents r r w w plan file (Err (not_read why))
-      unread_ran remaining contents = (nothing, HasMoved-nothing remaining contents r w, (λ rules grammar. nothing_short (plan rules)), unread_answer)
+      unread_ran remaining contents = (nothing_moved, HasMoved-nothing remaining contents r w, (λ rules grammar. nothing_short (plan rules)), unread_answer)
 
       pub unread_refuses : RefusesIn (grammar_of text) plan file r r w w (Err (not_read why))
       unread_refuses = record {

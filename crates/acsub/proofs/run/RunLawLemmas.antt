@@ -3,7 +3,7 @@ use Rattle.std.proofs.Common.{◌≡◌, List, ℕ, sym, ap, ◌∙◌}
 use Rattle.std.specs.List.{concat}
 use Rattle.ac_input.specs.Rules.{Rule}
 use Rattle.ac_input.specs.declared.search.MatchKind.{MatchKind}
-use Rattle.ac_input.proofs.lemmas.RuleLemmas.{IsRuleFile-one}
+use Rattle.acsub_rules.proofs.lemmas.GrammarLemmas.{file_one}
 use Rattle.acsub.specs.Finder.{whole_search}
 use Rattle.acsub.specs.Run.RunLaws.{AskAlike, RunsWriteAlike}
 use Rattle.acsub_rules.specs.Sides.{rule_patterns, replacements_of}
@@ -19,9 +19,9 @@ output-alike settings other rules input alike =
     ∙ ap (λ (pairing : List ℕ). text_in other.mode other.kind (replacements_of rules) (record (whole_search settings (rule_patterns rules) input) { pairing = pairing })) alike.pairing
 
 pub runs_write_alike : RunsWriteAlike
-runs_write_alike settings other stream another file m n alike same ran again =
+runs_write_alike settings other stream another text plain file page m n alike rules same ran again =
     ran.2.written
-    ∙ ap (λ (rules : List Rule). output_of settings rules (concat m.pieces)) (IsRuleFile-one file ran.0 again.0 ran.1 again.1)
+    ∙ ap (λ (all : List Rule). output_of settings all (concat m.pieces)) (file_one plain page ran.0 again.0 (rules ran.0 ran.1) again.1)
     ∙ ap (output_of settings again.0) same
     ∙ output-alike settings other again.0 (concat n.pieces) alike
     ∙ sym again.2.written

@@ -1,9 +1,9 @@
 -- Results of a run, given what was moved.
-use Rattle.std.proofs.Common.{◌≡◌, ◌≢◌, ℕ, false, Option, List, [], ◌++◌, Result, Ok, Err, refl, sym, ap, ◌∙◌, subst, add-zero, arith}
+use Rattle.std.proofs.Common.{◌≡◌, ℕ, false, Option, List, [], ◌++◌, Result, Ok, Err, refl, sym, ap, ◌∙◌, subst, add-zero, arith}
 use Rattle.std.specs.Prelude.{IfErr, OnOk}
 use Rattle.std.specs.List.{concat}
 use Rattle.std.proofs.lemmas.List.{append-nil}
-use Rattle.ac_automaton.specs.Devices.Moved.{AreWhole, HasGiven, HasMoved, Moved}
+use Rattle.ac_automaton.specs.Devices.Moved.{AreWhole, HasGiven, HasMoved}
 use Rattle.ac_automaton.specs.Devices.Output.{Sends, Sent, Stopped}
 use Rattle.ac_automaton.specs.Devices.Watched.{IsOfWrite}
 use Rattle.ac_automaton.specs.declared.error.StreamError.{StreamError}
@@ -19,17 +19,14 @@ use Rattle.acsub_words.specs.Settings.{IsAccepted}
 use Rattle.acsub.specs.Stream.{IsNoRefusal, IsReturnedAs}
 use Rattle.acsub.specs.Run.Transformed.{IsStreamed, output_of}
 use Rattle.acsub_rules.specs.File.{hex_rules}
-use Rattle.acsub.specs.Run.{AnswersRules, HasBegun, IsRefusal, Prepares, RanIn, RanPrepared, RanRules, RanToFailedWrite, ReadsByBuffer, RefusesRules, RunsOutFirst, WroteText, WroteTextBy}
+use Rattle.acsub.specs.Run.{AnswersRules, HasBegun, IsRefusal, Prepares, RanIn, RanPrepared, RanRules, RanToFailedWrite, ReadsByBuffer, RefusesRules, RunsOutFirst, WroteText, WroteTextBy, nothing_moved}
 use Rattle.acsub.specs.Run.Sending.{SendsText}
 use Rattle.acsub.specs.Served.{IsBuildable}
 use Rattle.acsub.specs.Finder.{FailsToBuild}
 use Rattle.acsub.specs.Plan.{Plan, plan_of}
 
--- nothing was moved
-abbrev pub nothing : Moved
-nothing = record { pieces = []; failed_reads = 0; taken = []; failed_writes = 0; stalled_writes = 0 }
-
-pub HasMoved-nothing : {R W : Type 0} (remaining : R → Option (List ℕ)) (contents : W → Option (List ℕ)) (r : Watched R) (w : Watched W) → HasMoved remaining contents r r w w nothing
+-- if no device was touched, nothing was moved
+pub HasMoved-nothing : {R W : Type 0} (remaining : R → Option (List ℕ)) (contents : W → Option (List ℕ)) (r : Watched R) (w : Watched W) → HasMoved remaining contents r r w w nothing_moved
 HasMoved-nothing remaining contents r w = record { reader = given-none remaining r; writer = taken-none contents w }
 
 -- if nothing was read, no read returned too many bytes
@@ -37,32 +34,32 @@ pub nothing_short : (plan : Plan) → ReadsByBuffer plan []
 nothing_short plan streamed k d lt = absurd (omega arith)
 
 -- the result where memory ran out before anything was read
-pub memory_answer : (plan : Plan) → AnswersRules plan nothing (Err errors.Memory)
-memory_answer plan = record { accepted = λ some. absurd (some refl); streamed = λ _. refl; filled = tt; written = refl; failed = (refl, refl, refl) }
+pub memory_answer : (plan : Plan) → IsAccepted plan.settings plan.rules → AnswersRules plan nothing_moved (Err errors.Memory)
+memory_answer plan accepted = record { accepted = accepted; within = λ some. absurd (some refl); streamed = λ _. refl; filled = tt; written = refl; failed = (refl, refl, refl) }
 
 -- the result where the input could not be read to its end
-pub read_answer : {R W : Type 0} (remaining : R → Option (List ℕ)) (contents : W → Option (List ℕ)) (plan : Plan) (r r' : Watched R) (w : Watched W) (e : RunError) → IsAccepted plan.settings plan.rules → ¬ IsStreamed plan → ReadsWhole remaining r r' (Err e)
+pub read_answer : {R W : Type 0} (remaining : R → Option (List ℕ)) (contents : W → Option (List ℕ)) (plan : Plan) (r r' : Watched R) (w : Watched W) (e : RunError) → IsAccepted plan.settings plan.rules → IsBuildable plan.settings plan.rules → ¬ IsStreamed plan → ReadsWhole remaining r r' (Err e)
     → RanPrepared remaining contents r r' w w plan (Err e)
-read_answer remaining contents plan r r' w (errors.Rule e) accepted held h = absurd h
-read_answer remaining contents plan r r' w (errors.Setting e) accepted held h = absurd h
-read_answer remaining contents plan r r' w (errors.Build kind) accepted held h = absurd h
-read_answer remaining contents plan r r' w (errors.Read e) accepted held h = (
+read_answer remaining contents plan r r' w (errors.Rule e) accepted within held h = absurd h
+read_answer remaining contents plan r r' w (errors.Setting e) accepted within held h = absurd h
+read_answer remaining contents plan r r' w (errors.Build kind) accepted within held h = absurd h
+read_answer remaining contents plan r r' w (errors.Read e) accepted within held h = (
   record { pieces = h.0; failed_reads = 1; taken = []; failed_writes = 0; stalled_writes = 0 },
   record { reader = h.1; writer = taken-none contents w },
   λ streamed. absurd (held streamed),
   λ refusal. refusal,
   record { accepted = accepted; streamed = λ streamed. absurd (held streamed); whole_input = λ _. refl; written = (_, refl); failed = (refl, refl, refl) },
 )
-read_answer remaining contents plan r r' w (errors.Write e) accepted held h = absurd h
-read_answer remaining contents plan r r' w errors.WriteZero accepted held h = absurd h
-read_answer remaining contents plan r r' w errors.Memory accepted held h = (
+read_answer remaining contents plan r r' w (errors.Write e) accepted within held h = absurd h
+read_answer remaining contents plan r r' w errors.WriteZero accepted within held h = absurd h
+read_answer remaining contents plan r r' w errors.Memory accepted within held h = (
   record { pieces = h.0; failed_reads = 0; taken = []; failed_writes = 0; stalled_writes = 0 },
   record { reader = h.1; writer = taken-none contents w },
   λ streamed. absurd (held streamed),
   λ refusal. refusal,
-  record { accepted = λ _. accepted; streamed = λ streamed. absurd (held streamed); filled = h.2; written = refl; failed = (refl, refl, refl) },
+  record { accepted = accepted; within = λ _. within; streamed = λ streamed. absurd (held streamed); filled = h.2; written = refl; failed = (refl, refl, refl) },
 )
-read_answer remaining contents plan r r' w errors.Position accepted held h = absurd h
+read_answer remaining contents plan r r' w errors.Position accepted within held h = absurd h
 
 -- the result where a write failed after the input was read to its end
 write_failed : {W : Type 0} (contents : W → Option (List ℕ)) (plan : Plan) (w w' : Watched W) (pieces : List (List ℕ)) (input : List ℕ) (stalls : ℕ) (s : Stopped contents w w' [] (output_of plan.settings plan.rules input)) → IsAccepted plan.settings plan.rules → ¬ IsStreamed plan → AreWhole pieces → input ≡ concat pieces
@@ -113,14 +110,14 @@ sends-accepted contents w w' text (Ok done) sends = tt
 sends-accepted contents w w' text (Err error) sends = λ refusal e. subst (IsOfWrite w w') e sends.1
 
 -- the reason why nothing was prepared is the run's result
-pub prepared_answer : (asked : Plan) (e : RunError) → Prepares asked (Err e) → AnswersRules asked nothing (Err e)
+pub prepared_answer : (asked : Plan) (e : RunError) → Prepares asked (Err e) → AnswersRules asked nothing_moved (Err e)
 prepared_answer asked (errors.Rule e) h = absurd h
 prepared_answer asked (errors.Setting e) h = h
 prepared_answer asked (errors.Build kind) h = h
 prepared_answer asked (errors.Read e) h = absurd h
 prepared_answer asked (errors.Write e) h = absurd h
 prepared_answer asked errors.WriteZero h = absurd h
-prepared_answer asked errors.Memory h = memory_answer asked
+prepared_answer asked errors.Memory h = memory_answer asked h
 prepared_answer asked errors.Position h = absurd h
 
 -- a run that was not prepared never got past its build
@@ -139,8 +136,8 @@ pub prepared_refuses : {R W : Type 0} (plan : Plan) (r r' : Watched R) (w w' : W
 prepared_refuses plan r r' w w' result begun memory within = record { untouched = λ refusal. absurd (begun refusal); memory = memory; within = λ _. within }
 
 -- if memory ran out before anything was read, nothing was moved
-pub memory_ran : {R W : Type 0} (remaining : R → Option (List ℕ)) (contents : W → Option (List ℕ)) (plan : Plan) (r : Watched R) (w : Watched W) → RanPrepared remaining contents r r w w plan (Err errors.Memory)
-memory_ran remaining contents plan r w = (nothing, HasMoved-nothing remaining contents r w, nothing_short plan, (λ refusal. refusal), memory_answer plan)
+pub memory_ran : {R W : Type 0} (remaining : R → Option (List ℕ)) (contents : W → Option (List ℕ)) (plan : Plan) (r : Watched R) (w : Watched W) → IsAccepted plan.settings plan.rules → RanPrepared remaining contents r r w w plan (Err errors.Memory)
+memory_ran remaining contents plan r w accepted = (nothing_moved, HasMoved-nothing remaining contents r w, nothing_short plan, (λ refusal. refusal), memory_answer plan accepted)
 
 -- for accepted rules, the reason why nothing was built is the reason why nothing was prepared
 pub built_error : (asked : Plan) (e : RunError) → IsAccepted asked.settings asked.rules → FailsToBuild asked.settings asked.rules e → Prepares asked (Err e)
@@ -150,7 +147,7 @@ built_error asked (errors.Build kind) accepted h = (accepted, h)
 built_error asked (errors.Read e) accepted h = absurd h
 built_error asked (errors.Write e) accepted h = absurd h
 built_error asked errors.WriteZero accepted h = absurd h
-built_error asked errors.Memory accepted h = tt
+built_error asked errors.Memory accepted h = accepted
 built_error asked errors.Position accepted h = absurd h
 
 -- ---- the text of the whole input

@@ -201,8 +201,8 @@ module _ (plan : Plan) (m : Moved) (accepted : IsAccepted plan.settings plan.rul
   streamed-says (Err (stream.Read error)) result is a = subst Says (sym is) (λ refusal. refusal, record { accepted = accepted; streamed = λ _. a.written; whole_input = λ held. absurd (held streamed); written = front-begins plan (concat m.pieces) m.taken plan.settings.mode refl streamed a.written; failed = a.failed })
   streamed-says (Err (stream.Write error)) result is a = subst Says (sym is) (λ refusal. refusal, streamed_failed 0 a)
   streamed-says (Err stream.WriteZero) result is a = subst Says (sym is) (λ refusal. refusal, streamed_failed 1 a)
-  streamed-says (Err stream.Memory) result is a = subst Says (sym is) (λ refusal. refusal, record { accepted = λ some. absurd (some a.pieces); streamed = λ _. a.pieces; filled = subst AreFilled (sym a.pieces) tt; written = a.taken; failed = a.failed })
-  streamed-says (Err stream.Position) result is a = subst Says (sym is) (λ refusal. refusal, record { accepted = accepted; long = a.long; written = a.written; failed = a.failed })
+  streamed-says (Err stream.Memory) result is a = subst Says (sym is) (λ refusal. refusal, record { accepted = accepted; within = λ some. absurd (some a.pieces); streamed = λ _. a.pieces; filled = subst AreFilled (sym a.pieces) tt; written = a.taken; failed = a.failed })
+  streamed-says (Err stream.Position) result is a = subst Says (sym is) (λ refusal. refusal, record { accepted = accepted; streamed = streamed; long = a.long; written = a.written; failed = a.failed })
 
 -- the result of a run that writes while it reads
 pub streamed_answer : {R W : Type 0} (remaining : R → Option (List ℕ)) (contents : W → Option (List ℕ)) (plan : Plan) (r r' : Watched R) (w w' : Watched W) (searched : Result (Unit {0}) StreamError) (result : Result (Unit {0}) RunError) → IsAccepted plan.settings plan.rules → IsStreamed plan

@@ -13,7 +13,8 @@ use Rattle.ac_automaton.specs.declared.error.StreamError.TheVariants as reads
 use Rattle.ac_automaton.specs.declared.watched.Watched.{Watched}
 use Rattle.ac_automaton.proofs.stream.StreamReplaceLemmas.{taken-stopped}
 use Rattle.acsub.specs.Stream.{IfStreamMemory, IsNoRefusal, WritesStream}
-use Rattle.acsub.proofs.run.RunLemmas.{HasMoved-nothing, nothing}
+use Rattle.acsub.specs.Run.{nothing_moved}
+use Rattle.acsub.proofs.run.RunLemmas.{HasMoved-nothing}
 
 -- a prefix of a prefix is a prefix of the whole
 pub begins-then : {X : Type 0} (front mid all : List X) → IsBeginning front mid → IsBeginning mid all → IsBeginning front all
@@ -27,7 +28,7 @@ on-ok (Err error) p = tt
 module _ {R W : Type 0} (remaining : R → Option (List ℕ)) (contents : W → Option (List ℕ)) (room : ℕ) (output : List ℕ → List ℕ) (front : List ℕ → List ℕ → Type 0) where
   -- if memory ran out before the first read, nothing was moved
   pub writes-nothing : (reader : Watched R) (writer : Watched W) → WritesStream remaining contents room output front reader reader writer writer (Err reads.Memory)
-  writes-nothing reader writer = (nothing, HasMoved-nothing remaining contents reader writer, λ k d lt. absurd (omega arith), record { pieces = refl; taken = refl; failed = (refl, refl, refl) })
+  writes-nothing reader writer = (nothing_moved, HasMoved-nothing remaining contents reader writer, λ k d lt. absurd (omega arith), record { pieces = refl; taken = refl; failed = (refl, refl, refl) })
 
   -- these pieces were read, and this text was written
   module _ {r0 r1 : Watched R} {w0 w : Watched W} {pieces : List (List ℕ)} {text : List ℕ} (took : HasTaken contents w0 w text 0 0) where

@@ -4,12 +4,12 @@ use Rattle.std.proofs.lemmas.Bool.{false≢true}
 use Rattle.std.proofs.lemmas.Result.{err_from_is_err_and}
 use Rattle.acsub.specs.Matches.{IsHeldCost}
 use Rattle.acsub.specs.Plan.{Plan, plan_of}
-use Rattle.acsub.specs.Run.{CostsRun, RanRules, RunsOutFirst}
+use Rattle.acsub.specs.Run.{CostsRun, RanRules, RunsOutFirst, nothing_moved}
 use Rattle.acsub.specs.Run.Sending.{SendsText}
 use Rattle.acsub.specs.Run.Transformed.{IsStreamed}
 use Rattle.acsub_words.specs.Settings.{IsAccepted}
 use Rattle.acsub.proofs.run.CountLemmas.{held-cost, nothing_cost, unread-cost}
-use Rattle.acsub.proofs.run.RunLemmas.{HasMoved-nothing, held_answer, memory_ran, nothing, nothing_short, prepared_answer, prepared_refuses, read_answer, sends-accepted, unprepared_begun}
+use Rattle.acsub.proofs.run.RunLemmas.{HasMoved-nothing, held_answer, memory_ran, nothing_short, prepared_answer, prepared_refuses, read_answer, sends-accepted, unprepared_begun}
 use Rattle.acsub.proofs.run.run_rules_counted.Goals as goal
 
 -- ---- nothing was prepared
@@ -18,7 +18,7 @@ pub returns-in_err-prepared-clause-answered : goal.returns-in_err-prepared-claus
 returns-in_err-prepared-clause-answered g c =
     let p = err_from_is_err_and c.from_residual.result c.from_residual.ensures.1 in
     let asked = plan_of c.args.stream c.args.settings.now c.args.rules.now in
-    rw (p.1, p.2) (nothing, HasMoved-nothing g.R.Read.remaining g.W.Write.contents c.args.reader.now c.args.writer.now, nothing_short asked, prepared_answer asked c.in_err-prepared.field-0.0 c.in_err-prepared.ensures)
+    rw (p.1, p.2) (nothing_moved, HasMoved-nothing g.R.Read.remaining g.W.Write.contents c.args.reader.now c.args.writer.now, nothing_short asked, prepared_answer asked c.in_err-prepared.field-0.0 c.in_err-prepared.ensures)
 
 pub returns-in_err-prepared-clause-fault : goal.returns-in_err-prepared-clause-fault
 returns-in_err-prepared-clause-fault g c =
@@ -70,7 +70,7 @@ held_by asked plan same some streamed = false≢true (some.1 (subst IsStreamed (
 pub returns-in_err-output-in-None-clause-answered : goal.returns-in_err-output-in-None-clause-answered
 returns-in_err-output-in-None-clause-answered g c =
     let p = err_from_is_err_and c.from_residual-in_err-output-in-None.result c.from_residual-in_err-output-in-None.ensures.1 in
-    let ran = memory_ran g.R.Read.remaining g.W.Write.contents (plan_of c.args.stream c.args.settings.now c.args.rules.now) c.args.reader.now c.args.writer.now in
+    let ran = memory_ran g.R.Read.remaining g.W.Write.contents (plan_of c.args.stream c.args.settings.now c.args.rules.now) c.args.reader.now c.args.writer.now c.in_ok-prepared.ensures.1 in
     rw (p.1, p.2) (ran.0, ran.1, ran.2, ran.4)
 
 pub returns-in_err-output-in-None-clause-fault : goal.returns-in_err-output-in-None-clause-fault
@@ -88,7 +88,7 @@ returns-in_err-input-in-None-clause-answered g c =
     let p = err_from_is_err_and c.from_residual-in_err-input-in-None.result c.from_residual-in_err-input-in-None.ensures.1 in
     let asked = plan_of c.args.stream c.args.settings.now c.args.rules.now in
     let held = held_by asked _ c.in_ok-prepared.ensures.0 c.in-None.ensures.some in
-    let ran = read_answer g.R.Read.remaining g.W.Write.contents asked c.args.reader.now c.read_whole.new.reader c.args.writer.now c.in_err-input-in-None.field-0.0 c.in_ok-prepared.ensures.1 held c.in_err-input-in-None.ensures in
+    let ran = read_answer g.R.Read.remaining g.W.Write.contents asked c.args.reader.now c.read_whole.new.reader c.args.writer.now c.in_err-input-in-None.field-0.0 c.in_ok-prepared.ensures.1 c.in_ok-prepared.ensures.2 held c.in_err-input-in-None.ensures in
     rw (p.1, p.2) (ran.0, ran.1, ran.2, ran.4)
 
 pub returns-in_err-input-in-None-clause-fault : goal.returns-in_err-input-in-None-clause-fault
@@ -96,7 +96,7 @@ returns-in_err-input-in-None-clause-fault g c =
     let p = err_from_is_err_and c.from_residual-in_err-input-in-None.result c.from_residual-in_err-input-in-None.ensures.1 in
     let asked = plan_of c.args.stream c.args.settings.now c.args.rules.now in
     let held = held_by asked _ c.in_ok-prepared.ensures.0 c.in-None.ensures.some in
-    let ran = read_answer g.R.Read.remaining g.W.Write.contents asked c.args.reader.now c.read_whole.new.reader c.args.writer.now c.in_err-input-in-None.field-0.0 c.in_ok-prepared.ensures.1 held c.in_err-input-in-None.ensures in
+    let ran = read_answer g.R.Read.remaining g.W.Write.contents asked c.args.reader.now c.read_whole.new.reader c.args.writer.now c.in_err-input-in-None.field-0.0 c.in_ok-prepared.ensures.1 c.in_ok-prepared.ensures.2 held c.in_err-input-in-None.ensures in
     rw (p.1, p.2) (prepared_refuses asked c.args.reader.now c.read_whole.new.reader c.args.writer.now c.args.writer.now _ ran.3 (λ out streamed. absurd (held streamed)) c.in_ok-prepared.ensures.2)
 
 pub returns-in_err-input-in-None-clause-cost : goal.returns-in_err-input-in-None-clause-cost

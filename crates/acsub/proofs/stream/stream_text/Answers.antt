@@ -17,7 +17,7 @@ use Rattle.acsub.proofs.stream.stream_text.Goals as goal
 pub returns-in_err-replacements-in-Replace-clause-ran : goal.returns-in_err-replacements-in-Replace-clause-ran
 returns-in_err-replacements-in-Replace-clause-ran g c =
     let p = err_from_is_err_and c.from_residual.result c.from_residual.ensures.1 in
-    rw (p.1, p.2) (memory_ran g.R.Read.remaining g.W.Write.contents c.args.prepared.now c.args.reader.now c.args.writer.now)
+    rw (p.1, p.2) (memory_ran g.R.Read.remaining g.W.Write.contents c.args.prepared.now c.args.reader.now c.args.writer.now c.requires.accepted)
 
 pub returns-in_err-replacements-in-Replace-clause-cost : goal.returns-in_err-replacements-in-Replace-clause-cost
 returns-in_err-replacements-in-Replace-clause-cost g c =

@@ -5,4 +5,5 @@ pub mod NumberingLemmas
 pub mod OnlyLemmas
 pub mod PlacesLemmas
 pub mod RowLemmas
+pub mod RowedLemmas
 pub mod RunLemmas

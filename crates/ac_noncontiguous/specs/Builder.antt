@@ -13,7 +13,8 @@ use Rattle.ac_input.specs.declared.search.StartKind.TheVariants.{Unanchored}
 use Rattle.ac_automaton.specs.Automaton.{Built}
 use Rattle.ac_literal.specs.Packed.{bytes_of}
 use Rattle.ac_literal.specs.Prefilter.{IsDemanded, IsAdmissible, IsWayOf}
-use Rattle.ac_noncontiguous.specs.Nfa.{AreTables}
+use Rattle.ac_noncontiguous.specs.Nfa.{AreTables, AreRowsBelow}
+use Rattle.ac_noncontiguous.specs.declared.nfa.NFA.{NFA}
 use Rattle.ac_noncontiguous.specs.declared.nfa.tables.Tables.{Tables}
 use Rattle.ac_noncontiguous.specs.declared.settings.Settings.{Settings}
 
@@ -59,6 +60,10 @@ pub record IsBuiltBy (wanted : Bool) (m : Dictionary) (built : Built) : Type 0 w
 -- an automaton was built from these patterns under the settings
 abbrev pub IsBuiltOf : Settings → List (Bor (List ℕ)) → Built → Type 0
 IsBuiltOf s patterns built = IsBuiltBy s.prefilter (dictionary_by s patterns) built
+
+-- the automaton's rows are those of the states that are to have one under the settings
+abbrev pub HasRowsBy : Settings → NFA → Type 0
+HasRowsBy s nfa = AreRowsBelow (noncontiguous_dense_depth s) nfa.tables
 
 -- The tables and their byte classes are those of the dictionary, whose pairing is a valid one.
 abbrev pub AreCompiled : Dictionary → Tables → Type 0

@@ -115,6 +115,12 @@ pub record IsRowEntry (m : Dictionary) (len start : ℕ) (text : ℕ → List �
 abbrev pub AreRows : Dictionary → ℕ → ℕ → (ℕ → List ℕ) → List State → List ℕ → List ℕ → Type 0
 AreRows m len start text states classes rows = (i byte : ℕ) → i < len → byte < 256 → row_of states i ≢ no_row → (row_of states i + class classes byte < length rows) × IsRowEntry m len start text i byte (slice_index rows (row_of states i + class classes byte))
 
+-- A state has a row exactly if it is less deep than `below`; the fail state has none. Once the rows are full, with as many entries
+-- as a row's place can say, the states that are left have none either.
+pub record AreRowsBelow (below : ℕ) (tables : Tables) : Type 0 where
+  pub only : (i : ℕ) → i + 1 < length tables.states.items → row_of tables.states.items i ≢ no_row → (i ≢ nowhere) × ((kept_of tables.states.items i).depth < below)
+  pub all : (i : ℕ) → i + 1 < length tables.states.items → i ≢ nowhere → (kept_of tables.states.items i).depth < below → (row_of tables.states.items i ≢ no_row) ⊎ (no_row ≤ length tables.rows.items)
+
 -- To which state each state fails, and its depth. No state fails to the fail state or to the anchored start.
 pub record AreFailures (m : Dictionary) (len start : ℕ) (text : ℕ → List ℕ) (states : List State) : Type 0 where
   pub fails : (i : ℕ) → 1 < i → i < len → FailsTo m (text i) (state_of text (kept_of states i).fail)

@@ -14,8 +14,9 @@ ghost use Rattle.std.specs.Prelude.{◌≡◌, Some, IfOk, IfErr, OnOk};
 ghost use Rattle.ac_input.specs.Dictionary.{Dictionary};
 ghost use Rattle.ac_input.specs.Pairing.{IsFolded};
 ghost use Rattle.ac_input.specs.Limits.{IsWithinLimits};
-ghost use Rattle.ac_noncontiguous.specs.Builder.{AreDefaultSettings, AreCompiled, ByDefault, IsBuiltOf, IsHeld, dictionary_by, noncontiguous_dense_depth};
+ghost use Rattle.ac_noncontiguous.specs.Builder.{AreDefaultSettings, AreCompiled, ByDefault, HasRowsBy, IsBuiltOf, IsHeld, dictionary_by, noncontiguous_dense_depth};
 ghost use Rattle.ac_noncontiguous.specs.Trie.Kept.{IsTrieOf};
+ghost use Rattle.ac_noncontiguous.specs.Nfa.{AreRowsBelow};
 ghost use Rattle.ac_noncontiguous.specs.Nfa.Reads.{built_as};
 ghost use Rattle.ac_noncontiguous.specs.Standing.{IsBuildRefused};
 
@@ -189,6 +190,7 @@ impl Builder {
     /// when lists are long: bound the patterns of a stranger under the standard kind.
     pub fn build(&self, alloc: Global, patterns: &[&[u8]]) -> Result<NFA, BuildError>
         ensures built { IfOk result (λ nfa. IsBuiltOf self.now patterns.now (built_as nfa)) }
+        ensures rows { IfOk result (HasRowsBy self.now) }
         ensures refused { IfErr result (IsBuildRefused (dictionary_by self.now patterns.now)) }
     {
         let tables = self.build_tables(alloc, patterns)?;
@@ -209,6 +211,7 @@ impl Builder {
     /// The tables of the patterns, which pass no limit.
     fn build_tables(&self, alloc: Global, patterns: &[&[u8]]) -> Result<Tables, BuildError>
         ensures made { IfOk result (AreCompiled (dictionary_by self.now patterns.now)) }
+        ensures rows { IfOk result (AreRowsBelow (noncontiguous_dense_depth self.now)) }
         ensures within { OnOk result (IsWithinLimits (dictionary_by self.now patterns.now)) }
         ensures refused { IfErr result (IsBuildRefused (dictionary_by self.now patterns.now)) }
     {
@@ -231,6 +234,7 @@ impl NFA {
     /// Its errors and its cost are those of [`Builder::build`].
     pub fn new(alloc: Global, patterns: &[&[u8]]) -> Result<NFA, BuildError>
         ensures built { IfOk result (λ nfa. ByDefault (λ s. IsBuiltOf s patterns.now (built_as nfa))) }
+        ensures rows { IfOk result (λ nfa. ByDefault (λ s. HasRowsBy s nfa)) }
         ensures refused { IfErr result
             (λ error. ByDefault (λ s. IsBuildRefused (dictionary_by s patterns.now) error)) }
     {
@@ -245,11 +249,12 @@ impl NFA {
     }
 }
 
-/// The tables of a trie. They have rows up to the depth, which changes no result.
+/// The tables of a trie. They have rows for states less deep than `dense_depth`, which changes no result.
 fn tables_of(alloc: Global, trie: &Trie, dense_depth: usize) -> Result<Tables, AllocError>
     requires { (m : Dictionary) × IsTrieOf m trie.now }
-    ensures { IfOk result
+    ensures made { IfOk result
         (λ tables. (m : Dictionary) → IsTrieOf m trie.now → AreCompiled m tables) }
+    ensures rows { IfOk result (AreRowsBelow dense_depth) }
 {
     let order = trie.breadth_first(alloc)?;
     let links = Links::of(alloc, trie, &order)?;

@@ -4,7 +4,9 @@
 //! trie gives where each byte leads from a state ([`edges`]), and that becomes its transitions ([`transitions`]) and, near the
 //! start, its row ([`rows`]). It takes time in proportion to the states, and keeps nothing but the tables.
 ghost use Rattle.std.specs.Prelude.{◌<◌, length, IfOk};
+ghost use Rattle.ac_noncontiguous.specs.Links.Failures.{AreShallower};
 ghost use Rattle.ac_noncontiguous.specs.Links.Order.{IsBreadthFirst};
+ghost use Rattle.ac_noncontiguous.specs.Nfa.{AreRowsBelow};
 ghost use Rattle.ac_noncontiguous.specs.Compiler.Numbering.{FitsTrie};
 ghost use Rattle.ac_noncontiguous.specs.Compiler.Assembly.{IsBack, AreTablesFor, AreClassedFor};
 
@@ -48,8 +50,10 @@ impl Tables {
     ) -> Result<Tables, AllocError>
         requires order { IsBreadthFirst trie.now.states.items order.now }
         requires links { FitsTrie (length trie.now.states.items) links }
+        requires shallower { AreShallower trie.now.states.items links.fails.items }
         ensures stands { IfOk result (AreTablesFor trie.now links) }
         ensures classed { IfOk result (AreClassedFor trie.now) }
+        ensures rowed { IfOk result (AreRowsBelow dense_depth) }
     {
         let numbering = Numbering::new(alloc, trie, order, &links)?;
         let back = start_back(trie, &links, numbering.start);

@@ -88,7 +88,8 @@ impl Links {
     /// The links of a trie. The order is that of [`breadth_first`](Trie::breadth_first).
     pub(crate) fn of(alloc: Global, trie: &Trie, order: &[StateID]) -> Result<Links, AllocError>
         requires { IsBreadthFirst trie.now.states.items order.now }
-        ensures { IfOk result (AreLinksFor trie.now) }
+        ensures links { IfOk result (AreLinksFor trie.now) }
+        ensures shallower { IfOk result (λ links. AreShallower trie.now.states.items links.fails.items) }
     {
         let fails = trie.failures(alloc, order)?;
         Links::from_fails(alloc, trie, order, fails)
@@ -103,8 +104,9 @@ impl Links {
     ) -> Result<Links, AllocError>
         requires order { IsBreadthFirst trie.now.states.items order.now }
         requires shallower { AreShallower trie.now.states.items fails.items }
-        ensures { IfOk result (λ links. (m : Dictionary) → IsTrieOf m trie.now →
+        ensures links { IfOk result (λ links. (m : Dictionary) → IsTrieOf m trie.now →
             AreFails m trie.now.states.items fails.items → AreLinks m trie.now.states.items links) }
+        ensures shallower { IfOk result (λ links. AreShallower trie.now.states.items links.fails.items) }
     {
         let own = trie.own_patterns(alloc)?;
         let mut ranges = vec![in alloc; Range { from: 0, len: 0 }; fails.len()]?;

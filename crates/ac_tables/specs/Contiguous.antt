@@ -5,5 +5,6 @@ pub mod ContiguousReads
 pub mod ContiguousRows
 pub mod ContiguousTable
 pub mod Cut
+pub mod RowMemory
 pub mod WordReads
 pub mod Words

@@ -116,7 +116,7 @@ impl NFA {
     ) -> NFA
         requires parts { AreContiguousParts (dictionary_of lens pairing kind) table rows prefilter }
         requires opened { ∥ IfSome openings (AreOpenings (dictionary_of lens pairing kind)) ∥₁ }
-        ensures { IsContiguousMadeOf (dictionary_of lens pairing kind) table prefilter result }
+        ensures { IsContiguousMadeOf (dictionary_of lens pairing kind) table rows prefilter result }
     {
         let max_special = last_special(&prefilter, table.start_anchored, table.max_match);
         let skips = Skips {

@@ -1,7 +1,7 @@
 -- Which automaton is made by the settings of a builder.
 use Rattle.std.specs.Prelude.{◌≡◌}
 use Rattle.ac_input.specs.Dictionary.{Dictionary}
-use Rattle.ac_noncontiguous.specs.Builder.{IsBuiltBy}
+use Rattle.ac_noncontiguous.specs.Builder.{HasRowsBy, IsBuiltBy}
 use Rattle.ac_noncontiguous.specs.Nfa.Reads.{built_as}
 use Rattle.ac_noncontiguous.specs.declared.nfa.NFA.{NFA}
 use Rattle.ac_noncontiguous.specs.declared.settings.Settings.{Settings}
@@ -16,6 +16,6 @@ IsMadeBy s from (Noncontiguous nfa) = nfa ≡ from
 IsMadeBy s from (Contiguous made) = IsMadeFrom s from made
 IsMadeBy s from (Dfa dfa) = IsDfaOf s from dfa
 
--- it is made so of a noncontiguous NFA that was built by the settings for the dictionary
+-- it is made so of a noncontiguous NFA that was built by the settings for the dictionary, and has the rows that they ask for
 abbrev pub IsMadeAs : Settings → Dictionary → Engine → Type 0
-IsMadeAs s m engine = (from : NFA) × IsBuiltBy s.prefilter m (built_as from) × IsMadeBy s from engine
+IsMadeAs s m engine = (from : NFA) × IsBuiltBy s.prefilter m (built_as from) × HasRowsBy s from × IsMadeBy s from engine

@@ -163,8 +163,8 @@ over-failure trie numbering links back i failure from b next classes edges rows 
 -- ---- the rows of all states
 
 -- at first only the dead state may have a row
-pub have-dead : (trie : Trie) (numbering : Numbering) (links : Links) (back : ℕ) (classes : List ℕ) (it : Rows) → IsNumbering (length trie.states.items) numbering → AreOfDead (length numbering.at.items) classes it → HaveRows trie numbering links back classes it.offsets.items it.rows.items
-have-dead trie numbering links back classes it n h =
+pub have-dead : (trie : Trie) (numbering : Numbering) (links : Links) (back below : ℕ) (classes : List ℕ) (it : Rows) → IsNumbering (length trie.states.items) numbering → AreOfDead (length numbering.at.items) below classes it → HaveRows trie numbering links back classes it.offsets.items it.rows.items
+have-dead trie numbering links back below classes it n h =
     let p = n.places.starts in
     record {
       counted = h.counted;

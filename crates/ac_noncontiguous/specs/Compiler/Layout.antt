@@ -9,7 +9,7 @@ use Rattle.ac_noncontiguous.specs.declared.links.Links.{Links}
 use Rattle.ac_noncontiguous.specs.declared.trie.Trie.{Trie}
 use Rattle.ac_noncontiguous.specs.declared.compiler.numbering.Numbering.{Numbering}
 use Rattle.ac_noncontiguous.specs.declared.compiler.rows.Rows.{Rows}
-use Rattle.ac_noncontiguous.specs.Trie.Tree.{byte}
+use Rattle.ac_noncontiguous.specs.Trie.Tree.{byte, depth}
 use Rattle.ac_noncontiguous.specs.Nfa.{no_transition, no_row, byte_at, next_at}
 use Rattle.ac_noncontiguous.specs.Compiler.Edges.{IsEdgeTo}
 use Rattle.ac_noncontiguous.specs.Compiler.Assembly.{IsFailureOf}
@@ -99,9 +99,11 @@ pub data LeadsOver (trie : Trie) (numbering : Numbering) (links : Links) (back b
   ByItself : (i next : ℕ) → IsEdgeTo trie numbering back i byte next → next ≢ nowhere → LeadsOver trie numbering links back byte i next
   ByFailure : (i failure next : ℕ) → 1 < i → IsEdgeTo trie numbering back i byte nowhere → IsFailureOf numbering links (slice_index numbering.at.items i) failure → LeadsOver trie numbering links back byte failure next → LeadsOver trie numbering links back byte i next
 
--- Of this many states at most the dead one has a row, which leads from each byte back to the dead state.
-pub record AreOfDead (states : ℕ) (classes : List ℕ) (it : Rows) : Type 0 where
+-- Of this many states the dead one alone has a row, if states less deep than `below` have one: it leads from each byte back to the
+-- dead state.
+pub record AreOfDead (states below : ℕ) (classes : List ℕ) (it : Rows) : Type 0 where
   pub counted : length it.offsets.items ≡ states
+  pub wanted : (slice_index it.offsets.items 0 ≢ no_row) ↔ (0 < below)
   pub none : (i : ℕ) → 0 < i → i < states → slice_index it.offsets.items i ≡ no_row
   pub dead : slice_index it.offsets.items 0 ≢ no_row → (b : ℕ) → b < 256 → (slice_index it.offsets.items 0 + class classes b < length it.rows.items) × (slice_index it.rows.items (slice_index it.offsets.items 0 + class classes b) ≡ 0)
 
@@ -119,3 +121,28 @@ pub record HaveRows (trie : Trie) (numbering : Numbering) (links : Links) (back 
 pub record AreRowsOf (trie : Trie) (numbering : Numbering) (links : Links) (back : ℕ) (classes offsets rows : List ℕ) : Type 0 where
   pub have : HaveRows trie numbering links back classes offsets rows
   pub shared : slice_index offsets (numbering.start + 1) ≡ slice_index offsets numbering.start
+
+-- ---- which states have a row
+
+-- state i has a row, or the rows are full: no row can begin at their end
+abbrev pub IsRowedOrFull : Rows → ℕ → Type 0
+IsRowedOrFull it i = (slice_index it.offsets.items i ≢ no_row) ⊎ (no_row ≤ length it.rows.items)
+
+-- Where states less deep than `below` are to have a row, the dead state has one, and so has each state that is less deep than trie
+-- state `id` too.
+pub record AreRowedAbove (trie : Trie) (numbering : Numbering) (below id : ℕ) (it : Rows) : Type 0 where
+  pub dead : 0 < below → slice_index it.offsets.items 0 ≢ no_row
+  pub shallow : (f : ℕ) → f < length trie.states.items → depth trie.states.items f < depth trie.states.items id → depth trie.states.items f < below → IsRowedOrFull it (slice_index numbering.of.items f)
+
+-- one more trie state got a row, if it is less deep than `below`; the others have those that they had
+pub record AddsRow (trie : Trie) (numbering : Numbering) (below id : ℕ) (old new : Rows) : Type 0 where
+  pub others : (i : ℕ) → i ≢ slice_index numbering.of.items id → slice_index new.offsets.items i ≡ slice_index old.offsets.items i
+  pub longer : length old.rows.items ≤ length new.rows.items
+  pub deep : below ≤ depth trie.states.items id → slice_index new.offsets.items (slice_index numbering.of.items id) ≡ slice_index old.offsets.items (slice_index numbering.of.items id)
+  pub shallow : depth trie.states.items id < below → IsRowedOrFull new (slice_index numbering.of.items id)
+
+-- Of the first `done` trie states of the order, those less deep than `below` have a row. No state as deep as `below` has one.
+pub record AreRowedUpTo (trie : Trie) (numbering : Numbering) (order : List ℕ) (below done : ℕ) (it : Rows) : Type 0 where
+  pub dead : (slice_index it.offsets.items 0 ≢ no_row) ↔ (0 < below)
+  pub deep : (i : ℕ) → 1 < i → i < length numbering.at.items → below ≤ depth trie.states.items (slice_index numbering.at.items i) → slice_index it.offsets.items i ≡ no_row
+  pub shallow : (k : ℕ) → k < done → depth trie.states.items (slice_index order k) < below → IsRowedOrFull it (slice_index numbering.of.items (slice_index order k))

@@ -8,9 +8,10 @@
 ghost use Rattle.std.specs.Prelude.{◌≡◌, ℕ, ◌+◌, ◌<◌, ◌||◌, length, true, slice_index, IfOk};
 ghost use Rattle.ac_input.specs.Alphabet.{has, class, is_edge, alphabet_len};
 ghost use Rattle.ac_noncontiguous.specs.Compiler.Numbering.{FitsTrie, IsNumbering};
+ghost use Rattle.ac_noncontiguous.specs.Links.Failures.{AreShallower};
 ghost use Rattle.ac_noncontiguous.specs.Links.Order.{IsBreadthFirst};
 ghost use Rattle.ac_input.specs.Alphabet.Classes.{IsParted};
-ghost use Rattle.ac_noncontiguous.specs.Compiler.Layout.{AreAlone, AreClassesOfTrie, LeadAlike, KeepsRows, IsRowAppended, or_failure, AreWithFailures, AreOfDead, HaveRows, AreRowsOf};
+ghost use Rattle.ac_noncontiguous.specs.Compiler.Layout.{AreAlone, AreClassesOfTrie, LeadAlike, KeepsRows, IsRowAppended, or_failure, AreWithFailures, AreOfDead, HaveRows, AreRowsOf, AreRowedAbove, AddsRow, AreRowedUpTo};
 
 use crate::compiler::edges::{edges, filled};
 use crate::compiler::numbering::Numbering;
@@ -121,7 +122,7 @@ impl Rows {
         dense_depth: usize,
     ) -> Result<Rows, AllocError>
         requires { 0 < states }
-        ensures { IfOk result (AreOfDead states classes.now) }
+        ensures { IfOk result (AreOfDead states dense_depth classes.now) }
     {
         let mut offsets = vec![in alloc; NO_ROW; states]?;
         let mut rows = Vec::new(alloc);
@@ -151,8 +152,11 @@ impl Rows {
         requires within { id < length trie.now.states.items }
         requires have { HaveRows trie.now numbering.now links.now back classes.now
             self.old.offsets.items self.old.rows.items }
-        ensures { IfOk result (λ _. HaveRows trie.now numbering.now links.now back classes.now
+        requires shallower { AreShallower trie.now.states.items links.now.fails.items }
+        requires above { AreRowedAbove trie.now numbering.now dense_depth id self.old }
+        ensures have { IfOk result (λ _. HaveRows trie.now numbering.now links.now back classes.now
             self.new.offsets.items self.new.rows.items) }
+        ensures rowed { IfOk result (λ _. AddsRow trie.now numbering.now dense_depth id self.old self.new) }
     {
         let depth = trie.state(id).depth as usize;
         let from = self.offsets[failure(numbering, links, id).as_usize()];
@@ -185,8 +189,11 @@ impl Rows {
         requires order { IsBreadthFirst trie.now.states.items order.now }
         requires back { back < length numbering.now.at.items }
         requires classes { AreAlone trie.now classes.now }
-        ensures { IfOk result (λ it. AreRowsOf trie.now numbering.now links.now back classes.now
+        requires shallower { AreShallower trie.now.states.items links.now.fails.items }
+        ensures rows { IfOk result (λ it. AreRowsOf trie.now numbering.now links.now back classes.now
             it.offsets.items it.rows.items) }
+        ensures rowed { IfOk result
+            (AreRowedUpTo trie.now numbering.now order.now dense_depth (length order.now)) }
     {
         let mut rows = Rows::of_dead(alloc, numbering.at.len(), classes, dense_depth)?;
         for id in order {

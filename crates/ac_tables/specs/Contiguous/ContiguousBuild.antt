@@ -1,5 +1,5 @@
 -- How the words of a contiguous automaton are made, state by state.
-use Rattle.std.specs.Prelude.{◌≡◌, ◌≢◌, ℕ, ◌<◌, ◌≤◌, List, ◌++◌, map, length, slice_index, ◌==◌, if◌then◌else◌}
+use Rattle.std.specs.Prelude.{◌≡◌, ◌≢◌, ◌↔◌, ℕ, ◌<◌, ◌≤◌, List, ◌++◌, map, length, slice_index, ◌==◌, if◌then◌else◌, Option, IfSome, IsSome}
 use Rattle.ac_automaton.specs.Named.{nowhere}
 use Rattle.ac_input.specs.Number.{greatest_number}
 use Rattle.ac_input.specs.Alphabet.{alphabet_len, IsLeastPowerOfTwo}
@@ -9,7 +9,8 @@ use Rattle.ac_noncontiguous.specs.declared.nfa.NFA.{NFA}
 use Rattle.ac_noncontiguous.specs.Nfa.ReadCalls.{state_len, fail_in, FailsIn, ListsIn, edges_in, AreEdges}
 use Rattle.ac_noncontiguous.specs.Nfa.Reads.{matches_at}
 use Rattle.ac_input.specs.declared.search.StartKind.TheVariants.{Unanchored}
-use Rattle.ac_tables.specs.Contiguous.ContiguousRows.{row_len}
+use Rattle.ac_tables.specs.Contiguous.ContiguousRows.{bytes_of_rows, row_len}
+use Rattle.ac_tables.specs.Contiguous.RowMemory.{AreRowsSmall}
 use Rattle.ac_tables.specs.Dfa.Filling.{IsFit, AreRowsUpTo}
 use Rattle.ac_tables.specs.declared.contiguous.rows.Rows.{Rows}
 use Rattle.ac_tables.specs.Contiguous.ContiguousTable.{placed_edge, place_in, words_at, AreWordsOf, ArePlacesTooGreat}
@@ -80,6 +81,14 @@ pub record AreRowsFrom (nfa : NFA) (classes places : List ℕ) (rows : Rows) : T
   pub at : rows.places.items ≡ places
   pub fit : IsFit (record { nfa = nfa; kind = Unanchored; classes = classes; stride = (row_len rows) })
   pub filled : AreRowsUpTo (record { nfa = nfa; kind = Unanchored; classes = classes; stride = (row_len rows) }) (state_len nfa) (state_len nfa) rows.trans.items
+
+-- The rows for the states of an automaton, in these classes: there are some exactly if they are small, and they take at most this
+-- memory.
+pub record AreRowsWithin (nfa : NFA) (dense_depth : ℕ) (classes : List ℕ) (memory : ℕ) (rows : Option Rows) : Type 0 where
+  pub places : List ℕ
+  pub placed : ArePlacesIn nfa dense_depth classes places
+  pub asked : IsSome rows ↔ AreRowsSmall classes places memory
+  pub taken : IfSome rows (λ r. bytes_of_rows r ≤ memory)
 
 -- a row has as many entries as the least power of two that is enough for the classes
 pub record HasStride (classes : List ℕ) (stride : ℕ) : Type 0 where

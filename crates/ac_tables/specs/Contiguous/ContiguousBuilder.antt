@@ -13,6 +13,8 @@ use Rattle.ac_noncontiguous.specs.Standing.{IsBuildRefused}
 use Rattle.ac_tables.specs.declared.contiguous.NFA.{NFA}
 use Rattle.ac_tables.specs.declared.contiguous.builder.Laid.{Laid}
 use Rattle.ac_tables.specs.TableClasses.{AreClassesFor}
+use Rattle.ac_tables.specs.Contiguous.ContiguousBuild.{AreRowsWithin}
+use Rattle.ac_tables.specs.Contiguous.ContiguousRows.{AreSameIfAny}
 use Rattle.ac_tables.specs.Contiguous.ContiguousTable.{AreWordsOf, ArePlacesTooGreat, AreSomeStates, IsContiguousTooLarge}
 use Rattle.ac_tables.specs.Contiguous.ContiguousReads.{contiguous_built_as}
 use Rattle.ac_input.specs.Limits.{IsWithinLimits}
@@ -23,18 +25,20 @@ contiguous_dense_depth s = unwrap_or s.dense_depth 2
 
 -- ---- from a noncontiguous automaton
 
--- The words are those of the automaton's states, and no state's place is past the greatest number.
-pub record IsLaidFrom (s : Settings) (from : Noncontiguous) (laid : List ℕ) : Type 0 where
+-- The words are those of the automaton's states, and no state's place is past the greatest number. There are rows if they take no
+-- more memory than is set.
+pub record IsLaidFrom (s : Settings) (from : Noncontiguous) (made : NFA) : Type 0 where
   pub classes : List ℕ
   pub serve : AreClassesFor from s.byte_classes classes
-  pub words : AreWordsOf from (contiguous_dense_depth s) classes laid
+  pub words : AreWordsOf from (contiguous_dense_depth s) classes made.table.words.items
   pub within : ¬ ArePlacesTooGreat from (contiguous_dense_depth s) classes
+  pub rows : AreRowsWithin from (contiguous_dense_depth s) classes s.row_memory made.rows
 
--- An automaton was made from a noncontiguous one. Its dictionary and its prefilter are those of that one, and its words are those
--- of that one's states.
+-- An automaton was made from a noncontiguous one. Its dictionary and its prefilter are those of that one, and its words and rows
+-- are those of that one's states.
 pub record IsMadeFrom (s : Settings) (from : Noncontiguous) (made : NFA) : Type 0 where
   pub built : contiguous_built_as made ≡ built_as from
-  pub laid : IsLaidFrom s from made.table.words.items
+  pub laid : IsLaidFrom s from made
 
 -- Why no automaton was made: the first word of a state would be past the greatest number, or out of memory.
 abbrev pub IsRefusedFrom : Settings → Noncontiguous → BuildErrorKind → Type 0
@@ -43,10 +47,11 @@ IsRefusedFrom s from Memory = Unit {0}
 IsRefusedFrom s from other = ⊥
 
 -- The words and the rows are those of a noncontiguous automaton, in these classes.
-pub record IsLaidOf (from : Noncontiguous) (dense_depth : ℕ) (classes : List ℕ) (laid : Laid) : Type 0 where
+pub record IsLaidOf (from : Noncontiguous) (dense_depth row_memory : ℕ) (classes : List ℕ) (laid : Laid) : Type 0 where
   pub words : AreWordsOf from dense_depth classes laid.table.words.items
   pub small : ¬ ArePlacesTooGreat from dense_depth classes
   pub stands : AreSomeStates (dictionary from) laid.table laid.rows
+  pub rows : AreRowsWithin from dense_depth classes row_memory laid.rows
   pub within : ∥ IsWithinLimits (dictionary from) ∥₁
 
 -- ---- from patterns
@@ -68,3 +73,4 @@ pub record IsContiguousCopy (old new : NFA) : Type 0 where
   pub words : new.table.words.items ≡ old.table.words.items
   pub start : new.table.start ≡ old.table.start
   pub start_anchored : new.table.start_anchored ≡ old.table.start_anchored
+  pub rows : AreSameIfAny old.rows new.rows

@@ -7,6 +7,7 @@ use Rattle.ac_input.specs.Dictionary.{Dictionary, dictionary_of}
 use Rattle.ac_automaton.specs.Automaton.{Built}
 use Rattle.ac_automaton.specs.Named.{Naming, OfNames, IsPaidStep, IsReadBy}
 use Rattle.ac_tables.specs.declared.contiguous.NFA.{NFA}
+use Rattle.ac_tables.specs.declared.contiguous.rows.Rows.{Rows}
 use Rattle.ac_tables.specs.declared.contiguous.table.Table.{Table}
 use Rattle.ac_tables.specs.Contiguous.Words.{StateParts}
 use Rattle.ac_tables.specs.Contiguous.ContiguousRows.{AreRowsIfAny}
@@ -54,8 +55,9 @@ LooksUp nfa anchored done sid byte next before after = OfNames (IsLaidOut nfa) a
 
 -- ---- how it is made
 
--- the automaton is made for this dictionary, from this table, and has this prefilter
-pub record IsContiguousMadeOf (m : Dictionary) (from : Table) (held : Option Filter) (nfa : NFA) : Type 0 where
+-- the automaton is made for this dictionary, from this table, and has these rows and this prefilter, if any
+pub record IsContiguousMadeOf (m : Dictionary) (from : Table) (beside : Option Rows) (held : Option Filter) (nfa : NFA) : Type 0 where
   pub dictionary : contiguous_dictionary nfa ≡ m
   pub table : nfa.table ≡ from
+  pub rows : nfa.rows ≡ beside
   pub prefilter : nfa.prefilter ≡ held

@@ -6,6 +6,7 @@ use Rattle.ac_automaton.specs.Named.{Naming, IsStep}
 use Rattle.ac_automaton.specs.ReadOn.{is_between}
 use Rattle.ac_automaton.specs.declared.ahead.Note.{Note}
 use Rattle.ac_automaton.specs.declared.look.Between.{Between}
+use Rattle.ac_tables.specs.Contiguous.RowMemory.{entry_bytes}
 use Rattle.ac_tables.specs.declared.contiguous.rows.Rows.{Rows}
 
 -- ---- rows of one stride, for the states at given places
@@ -35,6 +36,10 @@ pub record AreUnanchoredRows (m : Dictionary) (classes : List ℕ) (names : Nami
 -- how many entries a row has
 abbrev pub row_len : Rows → ℕ
 row_len rows = 2 ^ rows.stride2
+
+-- how many bytes the automaton's rows take
+abbrev pub bytes_of_rows : Rows → ℕ
+bytes_of_rows rows = entry_bytes * (length rows.trans.items + length rows.places.items + length rows.index.items)
 
 -- one of the automaton's rows begins at the number
 abbrev pub IsRowIn : Rows → ℕ → Type 0
@@ -68,6 +73,7 @@ AreRowsBetween rows places between = (row : ℕ) → IsRowIn rows row → is_bet
 pub record AreSameRows (old new : Rows) : Type 0 where
   pub trans : new.trans.items ≡ old.trans.items
   pub places : new.places.items ≡ old.places.items
+  pub index : new.index.items ≡ old.index.items
   pub stride2 : new.stride2 ≡ old.stride2
 
 -- a copy of the rows, if there are any

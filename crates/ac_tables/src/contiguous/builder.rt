@@ -40,7 +40,7 @@ struct Laid {
     rows: Option<Rows>,
 }
 
-/// The words and the rows of the automaton. States less deep than this depth are dense, and rows take so many bytes at most.
+/// The words and the rows of the automaton. States less deep than this depth are dense, and rows take at most so many bytes.
 fn lay(
     alloc: Global,
     nfa: &nfa::NFA,
@@ -50,7 +50,7 @@ fn lay(
 ) -> Result<Laid, BuildError>
     requires chosen { (classed : Bool) × AreClassesFor nfa.now classed classes }
     requires serve { AreServing (dictionary nfa.now) classes }
-    ensures made { IfOk result (IsLaidOf nfa.now dense_depth classes) }
+    ensures made { IfOk result (IsLaidOf nfa.now dense_depth row_memory classes) }
     ensures refused { IfErr result (IsRefusedFor nfa.now dense_depth classes) }
 {
     let special = nfa.special();
@@ -193,8 +193,9 @@ impl Builder {
     /// Sets how many bytes of memory rows may take. At first it is [`ROW_MEMORY`], 16 MiB; 0 is for none.
     ///
     /// It changes no result. With rows an unanchored search looks at one state for a byte, as a DFA does, and is about as fast. There
-    /// are rows if they take no more than this: four bytes for each state, and for each state and each class of bytes, rounded up to
-    /// a power of two of classes. They are made for all states or for none.
+    /// are rows exactly if they take no more than this, and have at most 2147483646 entries. They take four bytes for each state, for
+    /// each state and each class of bytes, rounded up to a power of two of classes, and for every four words. They are made for all
+    /// states or for none.
     pub fn row_memory(&mut self, bytes: usize) -> &mut Builder
         ensures same { result.ghost_name ≡ self.entry.ghost_name }
         ensures value { result.now ≡ record self.old { row_memory = bytes } }

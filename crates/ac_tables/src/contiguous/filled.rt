@@ -1,12 +1,14 @@
 //! How the rows of a contiguous automaton are made, if they are small enough.
-ghost use Rattle.std.specs.Prelude.{◌≡◌, ◌+◌, ◌*◌, ◌≤◌, IsTrue, length, IfOk, IfSome, Bool};
+ghost use Rattle.std.specs.Prelude.{◌≡◌, ◌↔◌, ◌+◌, ◌*◌, ◌<◌, ◌≤◌, IsTrue, length, IfOk, IfSome, IsSome, Bool};
 ghost use Rattle.ac_input.specs.Number.{greatest_number};
 ghost use Rattle.ac_noncontiguous.specs.Nfa.ReadCalls.{state_len};
 ghost use Rattle.ac_tables.specs.Contiguous.ContiguousBuild.{HasStride, AreRowsFrom};
+ghost use Rattle.ac_tables.specs.Contiguous.ContiguousRows.{bytes_of_rows};
+ghost use Rattle.ac_tables.specs.Contiguous.RowMemory.{AreRowsSmall, AreSmall, rows_bytes};
 ghost use Rattle.ac_tables.specs.TableClasses.{AreClassesFor};
 ghost use Rattle.ac_tables.specs.Contiguous.Cut.{Rise};
 
-use crate::contiguous::rows::{Rows, index_len, index_of};
+use crate::contiguous::rows::{ENTRY, Rows, index_len, index_of};
 use crate::dfa::fill::Filler;
 use crate::dfa::numbers::Numbers;
 use ac_input::alphabet::ByteClasses;
@@ -15,14 +17,17 @@ use ac_input::search::StartKind;
 use ac_noncontiguous::nfa::NFA;
 use std::alloc::{AllocError, Global};
 
-/// Whether so many rows of this length, with their places and an index of so many entries, take no more than this many bytes, and
-/// each row begins at a number.
-fn are_small(rows: usize, stride: usize, index: usize, memory: usize) -> bool
-    requires rows { rows ≤ greatest_number + 1 }
+/// Whether rows of this length, one for each of these places, take no more than this many bytes, with the places and their index,
+/// and each row begins at a number.
+fn are_small(places: &[StateID], stride: usize, memory: usize) -> bool
+    requires some { 0 < length places.now }
+    requires few { length places.now ≤ greatest_number + 1 }
     requires stride { stride ≤ 256 }
-    ensures { IsTrue result → rows * stride ≤ greatest_number }
+    ensures { IsTrue result ↔ AreSmall stride places.now memory }
 {
-    rows * stride <= GREATEST && (rows * stride + rows).saturating_add(index) <= memory / 4
+    let rows = places.len();
+    let entries = rows * stride;
+    entries <= GREATEST && (entries + rows).saturating_add(index_len(places)) <= memory / ENTRY
 }
 
 /// The rows of an automaton whose states have these places. Each row has this many entries.
@@ -38,7 +43,9 @@ fn fill(
     requires rise { Rise places.items }
     requires stride { HasStride classes.now stride }
     requires small { state_len nfa.now * stride ≤ greatest_number }
-    ensures { IfOk result (AreRowsFrom nfa.now classes.now places.items) }
+    requires some { 0 < length places.items }
+    ensures made { IfOk result (AreRowsFrom nfa.now classes.now places.items) }
+    ensures bytes { IfOk result (λ rows. bytes_of_rows rows ≡ rows_bytes stride places.items) }
 {
     let start = nfa.special().start_unanchored_id;
     let index = index_of(alloc, &places)?;
@@ -74,10 +81,13 @@ pub(super) fn rows_of(
     requires chosen { (classed : Bool) × AreClassesFor nfa.now classed classes.now }
     requires places { length places.items ≡ state_len nfa.now }
     requires rise { Rise places.items }
-    ensures { IfOk result (λ rows. IfSome rows (AreRowsFrom nfa.now classes.now places.items)) }
+    requires some { 0 < length places.items }
+    ensures made { IfOk result (λ rows. IfSome rows (AreRowsFrom nfa.now classes.now places.items)) }
+    ensures asked { IfOk result (λ rows. IsSome rows ↔ AreRowsSmall classes.now places.items memory) }
+    ensures taken { IfOk result (λ rows. IfSome rows (λ r. bytes_of_rows r ≤ memory)) }
 {
     let stride = classes.stride();
-    if are_small(nfa.state_len(), stride, index_len(&places), memory) {
+    if are_small(&places, stride, memory) {
         Ok(Some(fill(alloc, nfa, classes, places, stride)?))
     } else {
         Ok(None)

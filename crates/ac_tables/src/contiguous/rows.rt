@@ -6,8 +6,9 @@
 //! A search begins and stops at places. The row of a place is found by an index, which has an entry for every few words. The states
 //! at which a search stops are nearly always those up to a start, or up to the last one before the starts: their rows are a range.
 //! Where the row of a place or the range isn't found so, the search goes on by the words.
-ghost use Rattle.std.specs.Prelude.{◌≡◌, ◌+◌, ◌*◌, ◌^◌, ◌≤◌, length};
+ghost use Rattle.std.specs.Prelude.{◌≡◌, ◌+◌, ◌*◌, ◌^◌, ◌<◌, ◌≤◌, length, IfOk};
 ghost use Rattle.ac_input.specs.Number.{greatest_number};
+ghost use Rattle.ac_tables.specs.Contiguous.RowMemory.{index_entries};
 ghost use Rattle.ac_tables.specs.Contiguous.Cut.{Rise};
 
 use ac_automaton::ahead::Note;
@@ -17,6 +18,9 @@ use std::alloc::{AllocError, Global};
 
 /// How many words share an entry of the index. No more than two states begin within them.
 const BLOCK: usize = 4;
+
+/// How many bytes an entry takes, of a row, of the places or of the index.
+pub(super) const ENTRY: usize = 4;
 
 /// The rows. Each is as long as the least power of two that is enough for the classes.
 #[derive(Drop)]
@@ -38,7 +42,10 @@ pub(crate) struct Rows {
 }
 
 /// How many entries the index has of rows whose states have these places.
-pub(super) fn index_len(places: &[StateID]) -> usize {
+pub(super) fn index_len(places: &[StateID]) -> usize
+    requires { 0 < length places.now }
+    ensures { result ≡ index_entries places.now }
+{
     match places.last() {
         Some(place) => place.as_usize() / BLOCK + 1,
         None => 0,
@@ -47,7 +54,9 @@ pub(super) fn index_len(places: &[StateID]) -> usize {
 
 /// Adds a row to the index, for each block up to this one that has none yet.
 fn push_to(index: &mut Vec<StateID>, block: usize, row: StateID) -> Result<(), AllocError>
-    requires { block ≤ greatest_number }
+    requires block { block ≤ greatest_number }
+    requires before { length index.old.items ≤ block + 1 }
+    ensures { IfOk result (λ _. length index.new.items ≡ block + 1) }
 {
     for _ in index.len()..block + 1 {
         index.push(row)?;
@@ -57,9 +66,12 @@ fn push_to(index: &mut Vec<StateID>, block: usize, row: StateID) -> Result<(), A
 
 /// The index of rows whose states have these places.
 pub(super) fn index_of(alloc: Global, places: &[StateID]) -> Result<Vec<StateID>, AllocError>
-    requires { length places.now ≤ greatest_number + 1 }
+    requires some { 0 < length places.now }
+    requires few { length places.now ≤ greatest_number + 1 }
+    requires rise { Rise places.now }
+    ensures { IfOk result (λ index. length index.items ≡ index_entries places.now) }
 {
-    let mut index = Vec::new(alloc);
+    let mut index = Vec::with_capacity(alloc, index_len(places))?;
     for (row, place) in places.iter().enumerate() {
         push_to(&mut index, place.as_usize() / BLOCK, StateID::must(row))?;
     }
@@ -67,7 +79,7 @@ pub(super) fn index_of(alloc: Global, places: &[StateID]) -> Result<Vec<StateID>
 }
 
 impl Rows {
-    ghost use Rattle.std.specs.Prelude.{◌<◌, ◌⊎◌, IsTrue, IfOk, IfSome};
+    ghost use Rattle.std.specs.Prelude.{◌⊎◌, IsTrue, IfSome};
     ghost use Rattle.ac_automaton.specs.Ahead.{IsBlank};
     ghost use Rattle.ac_tables.specs.Contiguous.Cut.{AreBelow, AreNotBelow, IsCountBelow};
     ghost use Rattle.ac_tables.specs.Contiguous.ContiguousRows.{row_len, place_in_row, IsRowIn, IsLastUpTo, IsNotePlaced, AreRowsBetween, AreSameRows};
@@ -256,8 +268,8 @@ impl Rows {
 
     /// How many bytes of memory they take, beside themselves.
     pub(super) fn memory_usage(&self) -> usize {
-        (self.trans.len().saturating_mul(4))
-            .saturating_add(self.places.len().saturating_mul(4))
-            .saturating_add(self.index.len().saturating_mul(4))
+        (self.trans.len().saturating_mul(ENTRY))
+            .saturating_add(self.places.len().saturating_mul(ENTRY))
+            .saturating_add(self.index.len().saturating_mul(ENTRY))
     }
 }

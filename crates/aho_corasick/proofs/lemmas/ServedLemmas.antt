@@ -8,7 +8,7 @@ use Rattle.ac_input.specs.Candidate.{Filter}
 use Rattle.ac_input.specs.Dfa.{Serves}
 use Rattle.ac_automaton.specs.Automaton.{Built}
 use Rattle.ac_input.specs.Dictionary.{Dictionary}
-use Rattle.ac_noncontiguous.specs.Builder.{IsBuiltBy, IsHeld}
+use Rattle.ac_noncontiguous.specs.Builder.{HasRowsBy, IsBuiltBy, IsHeld}
 use Rattle.ac_noncontiguous.specs.Nfa.Reads.{built_as, dictionary}
 use Rattle.ac_noncontiguous.specs.declared.error.BuildErrorKind.{BuildErrorKind}
 use Rattle.ac_noncontiguous.specs.declared.error.BuildErrorKind.TheVariants.{StateIDOverflow, PatternIDOverflow, PatternTooLong, Memory}
@@ -140,10 +140,10 @@ pub built-for : (s : Settings) (m : Dictionary) (from : NFA) (engine : Engine) (
 built-for s m from engine b own made is = ap (λ (c : Built). c.dictionary) is ∙ (made-follows s from engine made).dictionary ∙ own.dictionary
 
 -- and is made by the settings for it
-pub made-as : (s : Settings) (m : Dictionary) (from : NFA) (engine : Engine) (b : Built) (settings : Settings) → IsBuiltBy s.prefilter m (built_as from) → IsMadeBy s from engine → b ≡ engine_built_as engine → settings ≡ s → IsMadeAs settings b.dictionary engine
-made-as s m from engine b settings own made is same =
+pub made-as : (s : Settings) (m : Dictionary) (from : NFA) (engine : Engine) (b : Built) (settings : Settings) → IsBuiltBy s.prefilter m (built_as from) → HasRowsBy s from → IsMadeBy s from engine → b ≡ engine_built_as engine → settings ≡ s → IsMadeAs settings b.dictionary engine
+made-as s m from engine b settings own rows made is same =
     let own_m = subst (λ (n : Dictionary). IsBuiltBy s.prefilter n (built_as from)) (sym (built-for s m from engine b own made is)) own in
-    subst (λ (t : Settings). IsMadeAs t b.dictionary engine) (sym same) (from, own_m, made)
+    subst (λ (t : Settings). IsMadeAs t b.dictionary engine) (sym same) (from, own_m, rows, made)
 
 -- an `AhoCorasick` over it is built of the patterns
 pub front-built : (b : AhoCorasickBuilder) (patterns : List (List ℕ)) (from : NFA) (ac : AhoCorasick) → IsBuiltBy b.settings.prefilter (front_dictionary b.settings patterns) (built_as from) → IsEngineOf b.kind b.settings from (serving_engine ac) → settings_of ac ≡ b → IsFrontBuilt b patterns ac

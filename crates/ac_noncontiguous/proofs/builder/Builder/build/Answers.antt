@@ -4,7 +4,8 @@ use Rattle.ac_input.specs.Dictionary.{dictionary_of}
 use Rattle.ac_literal.specs.Packed.{bytes_of}
 use Rattle.std.specs.Prelude.{IfSome}
 use Rattle.ac_literal.specs.Openings.{AreOpenings}
-use Rattle.ac_noncontiguous.specs.Builder.{dictionary_by}
+use Rattle.ac_noncontiguous.specs.Builder.{dictionary_by, noncontiguous_dense_depth}
+use Rattle.ac_noncontiguous.specs.Nfa.{AreRowsBelow}
 use Rattle.ac_noncontiguous.specs.declared.settings.Settings.{Settings}
 use Rattle.ac_noncontiguous.proofs.builder.BuilderLemmas.{opened-kind, parts-of}
 use Rattle.ac_noncontiguous.proofs.builder.Builder.build.Goals as goal
@@ -22,3 +23,6 @@ from_parts-requires-clause-opened c =
     let kind = c.self.inside.settings.match_kind in
     subst (λ (q : List (List ℕ)). ∥ IfSome c.new-openings.result (AreOpenings (dictionary_of q pairing kind)) ∥₁) (sym c.in_ok-lens.ensures)
     ∣ opened-kind (bytes_of c.args.patterns.now) pairing kind c.new-openings.result c.new-openings.ensures ∣₁
+
+pub returns-clause-rows : goal.returns-clause-rows
+returns-clause-rows c = subst (AreRowsBelow (noncontiguous_dense_depth c.args.self.now)) (sym c.from_parts.ensures.tables) c.in_ok-tables.ensures.rows

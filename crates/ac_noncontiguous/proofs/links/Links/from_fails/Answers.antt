@@ -58,7 +58,7 @@ loop-id-preserved c =
           (c.loop-id.invariant.known m t leads);
     })
 
-pub returns : goal.returns
-returns c m t leads =
+pub returns-clause-links : goal.returns-clause-links
+returns-clause-links c m t leads =
     let s = stands-of c.args.trie.now m t in
     record { fails = leads; lists = lists-all m _ _ _ _ c.args.order.now c.loop-id.id-index s c.requires.order (omega arith) c.loop-id.invariant.room (c.loop-id.invariant.known m t leads) }

@@ -12,6 +12,12 @@ use Rattle.ac_tables.proofs.contiguous.StatesLemmas.{IsWordTableOf}
 pub rows_of-requires-clause-rise : goal.rows_of-requires-clause-rise
 rows_of-requires-clause-rise c = places-rise c.args.nfa.now c.args.dense_depth c.args.classes c.in_ok-layout.layout.places.items c.in_ok-layout.ensures.made
 
+pub rows_of-requires-clause-some : goal.rows_of-requires-clause-some
+rows_of-requires-clause-some c =
+    let bounds : OfTexts c.args.nfa.now (λ text. AreBounds c.args.nfa.now text (special_in c.args.nfa.now)) = subst (λ special. OfTexts c.args.nfa.now (λ text. AreBounds c.args.nfa.now text special)) c.special-special.ensures.value c.special-special.ensures.order in
+    let within = specials-within c.args.nfa.now c.special-special.ensures.whole.stand bounds in
+    omega (arith, within.0, c.in_ok-layout.ensures.made.counted)
+
 pub returns-clause-made : goal.returns-clause-made
 returns-clause-made c =
     let nfa = c.args.nfa.now in
@@ -49,6 +55,7 @@ returns-clause-made c =
     record {
       words = c.in_ok-words.ensures.0;
       small = places-small nfa depth classes places h;
-      stands = some-states nfa depth table c.in_ok-rows.rows places whole.stand whole.begin c.in_ok-words.ensures.1 bounds whole.paired c.requires.serve h made c.in_ok-rows.ensures;
+      stands = some-states nfa depth table c.in_ok-rows.rows places whole.stand whole.begin c.in_ok-words.ensures.1 bounds whole.paired c.requires.serve h made c.in_ok-rows.ensures.made;
+      rows = record { places = places; placed = h; asked = c.in_ok-rows.ensures.asked; taken = c.in_ok-rows.ensures.taken };
       within = whole.within;
     }

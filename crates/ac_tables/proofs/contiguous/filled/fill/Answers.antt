@@ -23,8 +23,8 @@ invariant_of-rows c =
       rise = c.requires.rise;
     }
 
-pub returns : goal.returns
-returns c =
+pub returns-clause-made : goal.returns-clause-made
+returns-clause-made c =
     let is = stride-is _ c.args.stride c.stride2.result c.requires.stride.least c.stride2.ensures.value in
     rows-from c.args.nfa.now c.args.classes.now c.args.places.items _ c.args.stride refl is
     (plan-fit c.args.nfa.now c.args.classes.now c.args.stride c.special-start.ensures.whole c.requires.chosen c.requires.stride c.requires.small) c.in_ok-trans.ensures

@@ -1,8 +1,11 @@
 -- The row is made from the failure's row.
-use Rattle.std.proofs.Common.{◌≡◌, ◌∙◌, List, ℕ, length, ap, subst, arith, slice_index}
+use Rattle.std.proofs.Common.{◌≡◌, ◌∙◌, List, ℕ, length, refl, ap, subst, arith, slice_index}
 use Rattle.std.proofs.lemmas.List.{get_or_read}
-use Rattle.ac_noncontiguous.specs.Compiler.Layout.{AreWithFailures}
+use Rattle.ac_noncontiguous.specs.declared.trie.State.{State}
+use Rattle.ac_noncontiguous.specs.Trie.Tree.{depth}
+use Rattle.ac_noncontiguous.specs.Compiler.Layout.{AreWithFailures, IsRowAppended}
 use Rattle.ac_noncontiguous.proofs.compiler.RowLemmas.{lead-alike, failures-alike, failure-within, have-more}
+use Rattle.ac_noncontiguous.proofs.compiler.RowedLemmas.{rowed-added}
 use Rattle.ac_noncontiguous.proofs.compiler.rows.Rows.push_state.Goals as goal
 
 pub with_failures-leads-requires : goal.with_failures-leads-requires
@@ -30,8 +33,8 @@ index_mut-requires c =
     let is = get_or_read of c.as_usize-2.result c.index.result.now (omega (arith, c.requires.within, c.requires.numbering.numbers.counted, c.as_usize-2.ensures.value)) c.index.ensures 0 ∙ ap (slice_index of) c.as_usize-2.ensures.value in
     omega (arith, own.1, is, c.as_usize-state.ensures.value, c.requires.have.counted)
 
-pub returns : goal.returns
-returns c =
+pub returns-clause-have : goal.returns-clause-have
+returns-clause-have c =
     let offsets = c.args.self.now.offsets.items in
     let of = c.args.numbering.now.of.items in
     let rows = c.args.self.now.rows.items in
@@ -44,3 +47,14 @@ returns c =
     subst (λ (xs : List ℕ). AreWithFailures c.args.classes.now c.edges-edges.result xs c.index-from.result.now c.with_failures-leads.result) c.deref.ensures.value c.with_failures-leads.ensures in
     have-more c.args.trie.now c.args.numbering.now c.args.links.now c.args.back c.args.id c.as_usize-state.result c.failure.result c.index-from.result.now c.len-row.result c.args.classes.now offsets c.edges-edges.result c.with_failures-leads.result rows c.push_row.new.rows.items
     c.requires.numbering c.requires.links c.requires.within is c.failure.ensures from c.if-from.false c.edges-edges.ensures with (omega (arith, c.len-row.ensures)) c.in_ok-push_row.ensures c.requires.have
+
+pub returns-clause-rowed : goal.returns-clause-rowed
+returns-clause-rowed c =
+    let of = c.args.numbering.now.of.items in
+    let own = c.requires.numbering.numbers.numbers c.args.id c.requires.within in
+    let is : c.as_usize-state.result ≡ slice_index of c.args.id =
+    c.as_usize-state.ensures.value ∙ (get_or_read of c.as_usize-2.result c.index.result.now (omega (arith, c.requires.within, c.requires.numbering.numbers.counted, c.as_usize-2.ensures.value)) c.index.ensures 0 ∙ ap (slice_index of) c.as_usize-2.ensures.value) in
+    let appended : IsRowAppended c.args.classes.now c.with_failures-leads.result 256 c.args.self.now.rows.items c.push_row.new.rows.items = c.in_ok-push_row.ensures in
+    let deep : c.state-depth.result.depth ≡ depth c.args.trie.now.states.items c.args.id = ap (λ (s : State). s.depth) c.state-depth.ensures in
+    rowed-added c.args.trie.now c.args.numbering.now c.args.dense_depth c.args.id c.as_usize-state.result c.len-row.result c.args.self.now _ refl is
+    (omega (arith, own.1, is, c.requires.have.counted)) (omega (arith, deep)) (omega arith) appended.keeps.longer

@@ -1,11 +1,12 @@
 -- The tables are those of every dictionary whose trie and links these are.
-use Rattle.std.proofs.Common.{ℕ, List, length, sym, subst, arith}
+use Rattle.std.proofs.Common.{ℕ, List, length, refl, sym, subst, arith}
 use Rattle.ac_input.specs.Limits.{HasStates}
 use Rattle.ac_noncontiguous.specs.Compiler.Assembly.{AreKept}
 use Rattle.ac_noncontiguous.proofs.nfa.CountLemmas.{stand-counts}
 use Rattle.ac_noncontiguous.proofs.nfa.MeaningLemmas.{text_of, are-texts}
 use Rattle.ac_noncontiguous.proofs.nfa.TableLemmas.{setting, are-transitions, are-rows, are-failures, are-lists}
 use Rattle.ac_noncontiguous.proofs.nfa.ByteLemmas.{trie-classed}
+use Rattle.ac_noncontiguous.proofs.compiler.RowedLemmas.{rows-below}
 use Rattle.ac_noncontiguous.proofs.nfa.tables.Tables.from_trie.Goals as goal
 
 pub returns-clause-stands : goal.returns-clause-stands
@@ -29,11 +30,23 @@ returns-clause-stands c m t l =
         has = subst (HasStates m) (sym made.places.counted) (stand-counts m trie.states.items trie.ends.items trie.tree t.stands);
         texts = are-texts m trie numbering back s;
         transitions = are-transitions m trie links numbering back offsets row_offsets states c.in_ok-layout.layout.transitions.items s c.in_ok-layout.ensures kept;
-        rows = are-rows m trie links numbering back offsets row_offsets c.in_ok-rows.rows.rows.items c.classes-classes.result states s l c.in_ok-rows.ensures kept;
+        rows = are-rows m trie links numbering back offsets row_offsets c.in_ok-rows.rows.rows.items c.classes-classes.result states s l c.in_ok-rows.ensures.rows kept;
         failures = are-failures m trie links numbering back offsets row_offsets states s l kept;
         lists = are-lists m trie links numbering back offsets row_offsets states s l c.in_ok-numbering.ensures.matches kept;
       },
     )
+
+pub returns-clause-rowed : goal.returns-clause-rowed
+returns-clause-rowed c =
+    let trie = c.args.trie.now in
+    let links = c.args.links in
+    let numbering = c.in_ok-numbering.numbering in
+    let offsets = c.in_ok-layout.layout.offsets.items in
+    let row_offsets = c.in_ok-rows.rows.offsets.items in
+    let states = c.in_ok-states.states.items in
+    let kept : AreKept trie numbering links offsets row_offsets states =
+    subst (λ (xs : List ℕ). AreKept trie numbering links offsets xs states) c.deref-2.ensures.value (subst (λ (xs : List ℕ). AreKept trie numbering links xs c.deref-2.result.now states) c.deref.ensures.value c.in_ok-states.ensures) in
+    rows-below trie numbering links c.args.order.now c.start_back-back.result c.args.dense_depth offsets c.in_ok-rows.rows _ refl c.in_ok-numbering.ensures.made c.in_ok-numbering.ensures.runs c.requires.order c.in_ok-rows.ensures.rows c.in_ok-rows.ensures.rowed kept
 
 pub returns-clause-classed : goal.returns-clause-classed
 returns-clause-classed c m t = trie-classed c.args.trie.now c.classes-classes.result c.classes-classes.ensures.made m t

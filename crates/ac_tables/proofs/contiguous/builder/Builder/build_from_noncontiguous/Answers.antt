@@ -11,7 +11,7 @@ use Rattle.ac_tables.specs.declared.contiguous.table.Table.{Table}
 use Rattle.ac_tables.specs.Contiguous.ContiguousTable.{AreWordsOf, AreSomeStates}
 use Rattle.ac_noncontiguous.specs.declared.settings.Settings.{Settings}
 use Rattle.ac_tables.specs.Contiguous.ContiguousBuilder.{IsLaidOf, IsMadeFrom, contiguous_dense_depth}
-use Rattle.ac_tables.specs.Contiguous.ContiguousBuild.{IsRefusedFor}
+use Rattle.ac_tables.specs.Contiguous.ContiguousBuild.{AreRowsWithin, IsRefusedFor}
 use Rattle.ac_tables.specs.TableClasses.{AreClassesFor}
 use Rattle.ac_tables.proofs.contiguous.WordTableLemmas.{same-dictionary, refused-laid}
 use Rattle.ac_tables.proofs.contiguous.builder.Builder.build_from_noncontiguous.Goals as goal
@@ -49,7 +49,7 @@ pub returns-clause-made : goal.returns-clause-made
 returns-clause-made c =
     let nfa = c.args.nfa.now in
     let depth = c.unwrap_or-dense_depth.ensures in
-    let made = subst (λ (n : ℕ). IsLaidOf nfa n c.in_ok-classes.classes c.in_ok-laid.laid) depth c.in_ok-laid.ensures.made in
+    let made = subst (λ (n : ℕ). IsLaidOf nfa n c.self.inside.settings.row_memory c.in_ok-classes.classes c.in_ok-laid.laid) depth c.in_ok-laid.ensures.made in
     let e = same-dictionary (dictionary nfa) c.in_ok-lens.lens c.pairing-pairing.result.now c.match_kind-kind.result (c.in_ok-lens.ensures ∙ c.pattern_lens.ensures) c.pairing-pairing.ensures.value c.match_kind-kind.ensures in
     let words : c.from_parts.result.table.words.items ≡ c.in_ok-laid.laid.table.words.items = ap (λ (t : Table). t.words.items) c.from_parts.ensures.table in
     subst (λ (s : Settings). IsMadeFrom s nfa c.from_parts.result) c.self.view_is
@@ -62,5 +62,6 @@ returns-clause-made c =
         serve = c.in_ok-classes.ensures.classes;
         words = subst (AreWordsOf nfa (contiguous_dense_depth c.self.inside.settings) c.in_ok-classes.classes) (sym words) made.words;
         within = made.small;
+        rows = subst (AreRowsWithin nfa (contiguous_dense_depth c.self.inside.settings) c.in_ok-classes.classes c.self.inside.settings.row_memory) (sym c.from_parts.ensures.rows) made.rows;
       };
     })

@@ -2,7 +2,7 @@
 use Rattle.std.proofs.Common.{ap, refl, subst, sym, ◌∙◌}
 use Rattle.ac_input.specs.Dictionary.{Dictionary}
 use Rattle.ac_literal.specs.Packed.{bytes_of}
-use Rattle.ac_noncontiguous.specs.Builder.{IsBuiltOf}
+use Rattle.ac_noncontiguous.specs.Builder.{HasRowsBy, IsBuiltOf}
 use Rattle.ac_noncontiguous.specs.Nfa.Reads.{built_as}
 use Rattle.ac_noncontiguous.specs.declared.settings.Settings.{Settings}
 use Rattle.aho_corasick.specs.Builder.{front_dictionary}
@@ -18,10 +18,11 @@ invariant_of-shared c =
     let patterns = bytes_of c.args.patterns.now in
     let nfa = c.in_ok-nfa.nfa in
     let own = subst (λ (t : Settings). IsBuiltOf t c.args.patterns.now (built_as nfa)) c.from.ensures c.in_ok-nfa.ensures.built in
+    let rows = subst (λ (t : Settings). HasRowsBy t nfa) c.from.ensures c.in_ok-nfa.ensures.rows in
     let by = ap (λ (b : AhoCorasickBuilder). b.settings) c.of-2.ensures in
     record {
       same = c.of.ensures;
-      made = ∣ made-as s (front_dictionary s patterns) nfa c.in_ok-engine.engine c.of.result.value c.of-2.result.value.settings own c.in_ok-engine.ensures.served.0 c.of.ensures by ∣₁;
+      made = ∣ made-as s (front_dictionary s patterns) nfa c.in_ok-engine.engine c.of.result.value c.of-2.result.value.settings own rows c.in_ok-engine.ensures.served.0 c.of.ensures by ∣₁;
     }
 
 pub invariant_of-result : goal.invariant_of-result

@@ -24,8 +24,11 @@
  * - Threads. A search reads an automaton and writes nothing of it, so any number of threads may search with one at the same time.
  *   No thread may free it, or build over it, before all searches with it have returned. No call waits for another, and there is
  *   no state but what the caller holds. With the same stream or replacer, one call at a time; threads may pass it on.
- * - Memory. Where a call says that it takes memory, it is of `malloc`, and DADO_NO_MEMORY says that there was none; nothing is
- *   lost then, and nothing changed. All other calls take none. A haystack is never copied; a stream copies each piece once.
+ * - Memory. Where a call says that it takes memory, it is of `malloc`, and DADO_NO_MEMORY says that there was none. Nothing is
+ *   lost then: the automaton, text, stream or replacer that the call was to replace is still there. All other calls take none. A
+ *   haystack is never copied; a stream copies each piece once.
+ * - Cost. Where a call says how many states it looks at, or how many bytes it moves, a counted body of the library proves that: see
+ *   docs/TRUST.md. How long a call takes, and how much memory, is proved of none.
  * - Bytes that a call is given must stay the same until it returns, and what it writes to must not overlap what it reads.
  *
  * What is proved of this library, and what a caller in C must not do, is in docs/TRUST.md. The functions `dado_raw_` are those that
@@ -150,7 +153,7 @@ typedef struct dado_settings {
 
 /* More about a failed build. `pattern` is the pattern's number at DADO_PATTERN_TOO_LONG, or the byte that was named twice at
  * DADO_BAD_PAIRS; `count` is the length of that pattern, or at DADO_TOO_MANY_STATES and DADO_TOO_MANY_PATTERNS a number past the
- * greatest that would be needed. Both are 0 elsewhere. */
+ * greatest that would be needed. Both are 0 elsewhere, also where pairs stand beside `fold`. */
 typedef struct dado_fault {
     uint64_t count;
     uint32_t pattern;
@@ -312,10 +315,11 @@ DADO_INLINE dado_settings dado_settings_default(void) {
  * An empty pattern occurs at every place. The same pattern may be given several times. No patterns at all make an automaton that
  * finds nothing. With `settings` NULL, those of dado_settings_default() are taken. The patterns are not needed after the call.
  *
- * On any status but DADO_OK, `*handle` is unchanged, and what is known of the fault is written to `*fault`, if that isn't NULL. The
- * statuses, in the order in which they are tested: DADO_BAD_KIND, DADO_BAD_START_KIND, DADO_BAD_ENGINE, DADO_BAD_PAIRS; then
- * DADO_TOO_MANY_PATTERNS, DADO_PATTERN_TOO_LONG and DADO_TOO_MANY_STATES, only where the patterns pass that limit of the library or
- * of the engine that was named; and DADO_NO_MEMORY.
+ * On any status but DADO_OK, `*handle` is unchanged. What is known of the fault is written to `*fault` on every status, if that isn't
+ * NULL. The statuses, in the order in which they are tested: DADO_BAD_ARGUMENT: `handle`, or an array that isn't empty, is NULL;
+ * DADO_BAD_KIND, DADO_BAD_START_KIND, DADO_BAD_ENGINE, DADO_BAD_PAIRS. Up to here no memory is taken. Then, of the first pattern that
+ * passes a limit of the library, DADO_TOO_MANY_PATTERNS, DADO_PATTERN_TOO_LONG or DADO_TOO_MANY_STATES; at last DADO_TOO_MANY_STATES,
+ * where the patterns pass the limit of the engine that was named. DADO_NO_MEMORY may come in the place of these.
  *
  * Takes memory. Time and memory are in proportion to the bytes of the patterns; for a DFA times the classes of bytes, at most 256.
  * With the same `*handle`, one call at a time.
@@ -524,8 +528,8 @@ DADO_INLINE void dado_text_free(dado_text *text) {
  * The same text, in memory of the library, to `*text`: DADO_NO_TEXT, or a text of an earlier call, which is freed once the new one is
  * made. So the haystack and the replacements may lie in that earlier text. The new one belongs to the caller until dado_text_free, or
  * until the next dado_replace to `text`. The statuses are those of dado_replace_into, but DADO_NO_MEMORY in place of DADO_TOO_SHORT and
- * DADO_TOO_MANY_BYTES; on any but DADO_OK `*text` is unchanged. Takes memory. Any number of threads at the same time, each with a text
- * of its own.
+ * DADO_TOO_MANY_BYTES, and DADO_BAD_ARGUMENT if `text` is NULL; on any but DADO_OK `*text` is unchanged. Takes memory. Any number of
+ * threads at the same time, each with a text of its own.
  */
 DADO_INLINE dado_status dado_replace(const dado_automaton *ac, const uint8_t *haystack, size_t len, const dado_bytes *replacements,
                                 size_t count, dado_text *text) {

@@ -332,6 +332,9 @@ static void replacements(void) {
     CHECK(dado_replace(ac, BYTES(TEXT), NULL, 3, &text) == DADO_BAD_ARGUMENT);
     CHECK(dado_replace(ac, BYTES(TEXT), SLOTH, 3, &text) == DADO_OK && holds(&text, expected));
     CHECK(dado_replace(ac, BYTES("fox"), SLOTH, 3, &text) == DADO_OK && holds(&text, "sloth"));
+    CHECK(dado_replace(NULL, BYTES(TEXT), SLOTH, 3, &text) == DADO_NO_AUTOMATON && holds(&text, "sloth"));
+    CHECK(dado_replace(ac, NULL, 1, SLOTH, 3, &text) == DADO_BAD_ARGUMENT && holds(&text, "sloth"));
+    CHECK(dado_replace(ac, BYTES(TEXT), SLOTH, 2, &text) == DADO_WRONG_COUNT && holds(&text, "sloth"));
     replaced_again(ac, &text);
     CHECK(dado_replace(ac, NULL, 0, SLOTH, 3, &text) == DADO_OK && text.len == 0);
     dado_text_free(&text);

@@ -75,7 +75,9 @@ int main(void) {
     dado_held there;
     dado_bytes slice;
     dado_text text = DADO_NO_TEXT;
-    dado_pair pairs[] = {{'a', 'b'}, {'c', 'd'}, {'e', 'f'}, {'g', 'h'}, {'i', 'j'}};
+    dado_pair pairs[] = {{'a', 'b'}, {'c', 'd'}, {'e', 'f'}, {'g', 'h'}, {'i', 'j'}}, twice[] = {{'a', 'b'}, {'c', 'b'}};
+    dado_fault fault = {1, 1};
+    void *owner;
     uint8_t out[80];
     size_t needed;
     for (engine = DADO_AUTO; engine <= DADO_DFA; engine++) {
@@ -86,6 +88,12 @@ int main(void) {
         failed += build_fails(&s);
     }
     CHECK(held == begun);
+    { /* the settings are tested before memory is taken */
+        dado_settings s = dado_settings_default();
+        s.pairs = twice, s.pair_count = 2, left = 0;
+        CHECK(dado_build(FOX, 3, &s, &ac, &fault) == DADO_BAD_PAIRS && fault.pattern == 'b' && fault.count == 0);
+        left = -1;
+    }
     CHECK(dado_build(FOX, 3, NULL, &ac, NULL) == DADO_OK);
     for (n = 0;; n++, failed++) {
         dado_status status;
@@ -96,15 +104,17 @@ int main(void) {
         CHECK(status == DADO_NO_MEMORY && two == NULL && held == before);
     }
     dado_free(&two);
+    CHECK(dado_replace(ac, BYTES("fox"), SLOTH, 3, &text) == DADO_OK);
+    owner = text.owner;
     for (n = 0;; n++, failed++) {
         dado_status status;
         before = held, left = n;
         status = dado_replace(ac, BYTES(TEXT), SLOTH, 3, &text);
         left = -1;
         if (status == DADO_OK || n > 1000) break;
-        CHECK(status == DADO_NO_MEMORY && text.owner == NULL && held == before);
+        CHECK(status == DADO_NO_MEMORY && text.owner == owner && holds(&text, "sloth and more") && held == before);
     }
-    CHECK(holds(&text, REPLACED));
+    CHECK(n >= 2 && holds(&text, REPLACED) && held == before);
     before = held, left = 0;
     CHECK(dado_replace(ac, BYTES(TEXT), SLOTH, 3, &text) == DADO_NO_MEMORY && holds(&text, REPLACED) && held == before);
     left = -1;

@@ -66,11 +66,10 @@ abbrev pub IsPairingOf : Bool → List Pair → List ℕ → Type 0
 IsPairingOf true pairs pairing = (pairs ≡ []) × IsFolded true pairing
 IsPairingOf false pairs pairing = IsDistinct (named (pairs_of pairs)) × ((b : ℕ) → other pairing b ≡ partner (pairs_of pairs) b)
 
--- Why there is no pairing: pairs are given beside folding; or a byte is named twice; or memory ran out.
+-- why there is no pairing: pairs are given beside folding; or a byte is named twice
 abbrev pub IsPairingRefused : Bool → List Pair → Refusal → Type 0
 IsPairingRefused true pairs refusal = (pairs ≢ []) × (refusal ≡ plain bad_pairs)
-IsPairingRefused false pairs refusal = ((byte : ℕ) × IsFirstTwice (named (pairs_of pairs)) byte × (refusal ≡ record { status = bad_pairs; fault = record { count = 0; pattern = byte } }))
-    ⊎ (refusal ≡ plain no_memory)
+IsPairingRefused false pairs refusal = (byte : ℕ) × IsFirstTwice (named (pairs_of pairs)) byte × (refusal ≡ record { status = bad_pairs; fault = record { count = 0; pattern = byte } })
 
 abbrev pub PairsBy : ℕ → List Pair → Result (List ℕ) Refusal → Type 0
 PairsBy fold pairs (Ok pairing) = IsPairingOf (is_set fold) pairs pairing

@@ -3,9 +3,10 @@ use Rattle.std.specs.Prelude.{◌≡◌, ◌⊎◌, ℕ, ◌==◌, if◌then◌e
 use Rattle.ac_input.specs.declared.search.Anchored.{Anchored}
 use Rattle.ac_input.specs.declared.search.Anchored.TheVariants.{No, Yes}
 use Rattle.ac_input.specs.declared.search.Span.{Span}
+use Rattle.ac_input.specs.declared.steps.Steps.{Steps}
 use Rattle.ac_input.specs.Input.{Asked, IsSpanOf}
 use Rattle.ac_input.specs.Occurrence.{Occurrence}
-use Rattle.ac_automaton.specs.Automaton.{IsFound, refusal_of}
+use Rattle.ac_automaton.specs.Automaton.{IsFindCost, IsFound, refusal_of}
 use Rattle.aho_corasick.specs.AhoCorasick.{as_built, supported_by}
 use Rattle.aho_corasick.specs.declared.ahocorasick.AhoCorasick.{AhoCorasick}
 use Rattle.ac_c.specs.declared.find.Answer.{Answer}
@@ -43,6 +44,11 @@ IsRefusedStart ac asked status = (¬ supported_by ac asked.anchored) × (status 
 abbrev pub IsFoundBy : AhoCorasick → List ℕ → Bounds → Result (Option Occurrence) ℕ → Type 0
 IsFoundBy ac haystack b (Ok r) = IsSpanIn haystack b × supported_by ac (anchoring b.anchored) × IsFound (as_built ac) (asked_by haystack b) r
 IsFoundBy ac haystack b (Err status) = ((status ≡ bad_span) × ¬ IsSpanIn haystack b) ⊎ (IsSpanIn haystack b × IsRefusedStart ac (asked_by haystack b) status)
+
+-- what a search within bounds may cost; one that is refused costs nothing
+abbrev pub CostsFindIn : AhoCorasick → List ℕ → Bounds → Steps → Steps → Result (Option Occurrence) ℕ → Type 0
+CostsFindIn ac haystack b before after (Ok r) = IsFindCost (as_built ac) (asked_by haystack b) before after r
+CostsFindIn ac haystack b before after (Err status) = after ≡ before
 
 -- the result of a search, as C sees it
 abbrev pub answer_of : Result (Option Occurrence) ℕ → Answer

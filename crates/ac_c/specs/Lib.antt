@@ -14,3 +14,4 @@ pub mod Stream
 pub mod Tell
 pub mod Text
 pub mod Walk
+pub mod Walking

@@ -1,13 +1,15 @@
 -- What a listing returns, from a place that C keeps.
-use Rattle.std.specs.Prelude.{◌≡◌, ◌⊎◌, ℕ, zero, suc, ◌+◌, ◌-◌, ◌==◌, if◌then◌else◌, min, max, List, length, Option, Some, None, Result, Ok, Err, slice_get, filter, drop}
+use Rattle.std.specs.Prelude.{◌≡◌, ◌⊎◌, ℕ, zero, suc, ◌+◌, ◌-◌, ◌<◌, ◌==◌, if◌then◌else◌, min, max, List, length, Option, Some, None, Result, Ok, Err, slice_get, filter, drop}
 use Rattle.ac_input.specs.Computed.{is_after, listing_after}
 use Rattle.ac_input.specs.Input.{Asked}
 use Rattle.ac_input.specs.Occurrence.{Occurrence}
+use Rattle.ac_input.specs.Work.{longest}
+use Rattle.ac_input.specs.declared.steps.Steps.{Steps}
 use Rattle.ac_automaton.specs.Automaton.{searched}
-use Rattle.ac_automaton.specs.Overlapping.OverlappingIter.{Run, rest_of}
+use Rattle.ac_automaton.specs.Overlapping.OverlappingIter.{CountsRun, IsWithinOneWalk, Run, RunCounts, fresh_run, rest_of}
 use Rattle.ac_automaton.specs.declared.error.MatchErrorKind.{MatchErrorKind}
 use Rattle.ac_automaton.specs.Overlapping.{CanOverlap, IsOverlappingRefusal}
-use Rattle.aho_corasick.specs.AhoCorasick.{as_built, supported_by}
+use Rattle.aho_corasick.specs.AhoCorasick.{as_built, patterns_of, supported_by}
 use Rattle.aho_corasick.specs.declared.ahocorasick.AhoCorasick.{AhoCorasick}
 use Rattle.ac_c.specs.declared.find.Bounds.{Bounds}
 use Rattle.ac_c.specs.declared.found.Found.{Found}
@@ -68,6 +70,29 @@ IsListedBy ac haystack p old new (Ok count) =
     IsPlaceOver haystack p × CanOverlap (as_built ac) (supported_by ac) (asked_from haystack p p.start) × AreGiven (left_of_listing ac haystack p) old new count
     × (left_of_listing ac haystack (place_after p new count) ≡ drop count (left_of_listing ac haystack p))
 IsListedBy ac haystack p old new (Err status) = IsRefusedListing ac haystack p status × (new ≡ old)
+
+-- A run went on to where the second one stands, and counted exactly what it did. So far it costs no more than one walk over its span.
+pub record RunsTo (run later : Run) (before after : Steps) : Type 0 where
+  pub built : later.built ≡ run.built
+  pub asked : later.asked ≡ run.asked
+  pub counts : RunCounts run later before after
+  pub paid : IsWithinOneWalk later
+
+-- the run through all occurrences from where the next search starts
+abbrev pub run_from : AhoCorasick → List ℕ → Place → Run
+run_from ac haystack p = fresh_run (as_built ac) (asked_from haystack p (begins_at p (longest (patterns_of ac))))
+
+-- A run that filled a buffer has counted each byte up to the end of the last occurrence given; or every byte of its span, if there is
+-- room left after n of them.
+pub record CountsFilled (later : Run) (p : Place) (out : List Found) (n : ℕ) : Type 0 where
+  pub last : 0 < n → n ≡ length out → CountsRun later (before_of (place_after p out n))
+  pub all : n < length out → CountsRun later None
+
+-- The next occurrences cost what the run does from where it starts, and each byte that it passes is counted. A call that is refused
+-- costs nothing.
+abbrev pub CostsListing : AhoCorasick → List ℕ → Place → List Found → Steps → Steps → Result ℕ ℕ → Type 0
+CostsListing ac haystack p new before after (Ok count) = (later : Run) × RunsTo (run_from ac haystack p) later before after × CountsFilled later p new count
+CostsListing ac haystack p new before after (Err status) = after ≡ before
 
 -- the result of a listing as C sees it, with the place after what was returned
 abbrev pub listed_of : Place → List Found → Result ℕ ℕ → Listed

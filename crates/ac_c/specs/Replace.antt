@@ -2,16 +2,20 @@
 use Rattle.std.specs.Prelude.{◌≡◌, ◌≢◌, ◌⊎◌, ℕ, ◌<◌, ◌≤◌, ◌^◌, List, ◌++◌, length, map, drop, Some, Result, Ok, Err}
 use Rattle.std.specs.Global.{Vec}
 use denote.Ref.{Bor}
+use Rattle.ac_input.specs.declared.steps.Steps.{Steps}
+use Rattle.ac_input.specs.Input.{whole_of}
 use Rattle.ac_input.specs.declared.search.Anchored.TheVariants.{No}
 use Rattle.ac_input.specs.Occurrence.{Occurrence}
 use Rattle.ac_automaton.specs.Automaton.{refusal_of}
-use Rattle.ac_automaton.specs.Replace.{matches_in}
+use Rattle.ac_automaton.specs.Iter.{Walk, fresh_walk, left_of}
+use Rattle.ac_automaton.specs.Replace.{LieInOrder, matches_in}
 use Rattle.ac_input.specs.Text.{replaced_from}
 use Rattle.aho_corasick.specs.AhoCorasick.{as_built, supported_by, pattern_count}
 use Rattle.aho_corasick.specs.declared.ahocorasick.AhoCorasick.{AhoCorasick}
 use Rattle.ac_c.specs.declared.replace.Length.{Length}
 use Rattle.ac_c.specs.Status.{ok, no_memory, too_short, too_many_bytes, wrong_count, refusal_status}
 use Rattle.ac_c.specs.Text.{HeldText}
+use Rattle.ac_c.specs.Walking.{WalksOn, WalksToEnd}
 
 -- a haystack with each of these replaced by the replacement of its pattern
 abbrev pub text_of : List ℕ → List (Bor (List ℕ)) → List Occurrence → List ℕ
@@ -20,6 +24,14 @@ text_of haystack replacements os = replaced_from 0 haystack (map (λ r. r.now) r
 -- the same with each match of the haystack
 abbrev pub text_by : AhoCorasick → List ℕ → List (Bor (List ℕ)) → List ℕ
 text_by ac haystack replacements = text_of haystack replacements (matches_in (as_built ac) haystack)
+
+-- the same with each match that is left of a walk
+abbrev pub text_along : List ℕ → List (Bor (List ℕ)) → Walk → List ℕ
+text_along haystack replacements w = text_of haystack replacements (left_of w)
+
+-- the matches that are left of a walk lie in order in the haystack, and each has a replacement
+abbrev pub AreReplaceable : List ℕ → List (Bor (List ℕ)) → Walk → Type 0
+AreReplaceable haystack replacements w = LieInOrder (length replacements) (length haystack) 0 (left_of w)
 
 -- Why there is no text: there isn't one replacement for each pattern; or the automaton has no search that isn't anchored.
 abbrev pub IsReplaceRefused : AhoCorasick → List (Bor (List ℕ)) → ℕ → Type 0
@@ -59,6 +71,21 @@ abbrev pub AnswersInto : AhoCorasick → List ℕ → List (Bor (List ℕ)) → 
 AnswersInto ac haystack replacements old new made =
     (IsReplaced ac replacements × PutsText (text_by ac haystack replacements) old new made)
     ⊎ (IsReplaceRefused ac replacements made.status × (made.len ≡ 0) × (new ≡ old))
+
+-- the walk over all matches of a haystack, before its first step
+abbrev pub walk_over : AhoCorasick → List ℕ → Walk
+walk_over ac haystack = fresh_walk (as_built ac) (whole_of haystack)
+
+-- What it costs to know the length: a walk to its end. If no number of 64 bits says the length, the walk may stop before.
+abbrev pub CostsLen : Walk → Steps → Steps → Result ℕ ℕ → Type 0
+CostsLen w before after (Ok len) = WalksToEnd w before after
+CostsLen w before after (Err status) = WalksOn w before after
+
+-- What a text into a buffer costs: a walk over the haystack for the length, and another one to write the text, if there is room.
+pub record CostsInto (ac : AhoCorasick) (haystack : List ℕ) (status : ℕ) (before after : Steps) : Type 0 where
+  pub written : status ≡ ok → (between : Steps) × WalksToEnd (walk_over ac haystack) before between × WalksToEnd (walk_over ac haystack) between after
+  pub measured : status ≡ too_short → WalksToEnd (walk_over ac haystack) before after
+  pub refused : status ≢ ok → status ≢ too_short → WalksOn (walk_over ac haystack) before after
 
 -- ---- into memory of the library's
 

@@ -1,7 +1,8 @@
 -- What a walk returns, from a cursor that C keeps.
 use Rattle.std.specs.Prelude.{◌≡◌, ◌⊎◌, ℕ, ◌==◌, ◌<◌, ◌≤◌, ◌^◌, ◌-◌, ◌&&◌, nat_lt, if◌then◌else◌, min, List, [], ◌∷◌, length, map, take, drop, Option, Some, None, IfSome, MatchOption, Result, Ok, Err}
+use Rattle.ac_input.specs.declared.steps.Steps.{Steps}
 use Rattle.ac_input.specs.Occurrence.{Occurrence}
-use Rattle.ac_automaton.specs.Iter.{IsPlaceIn, Walk, left_of, walk_from_place}
+use Rattle.ac_automaton.specs.Iter.{IsPickCost, IsPlaceIn, PickCounts, Walk, left_of, walk_from_place}
 use Rattle.ac_automaton.specs.declared.iter.WalkPlace.{WalkPlace}
 use Rattle.aho_corasick.specs.AhoCorasick.{as_built, supported_by}
 use Rattle.aho_corasick.specs.declared.ahocorasick.AhoCorasick.{AhoCorasick}
@@ -13,6 +14,7 @@ use Rattle.ac_c.specs.declared.walk.Step.{Step}
 use Rattle.ac_c.specs.Find.{IsRefusedStart, IsSpanIn, anchoring, asked_by}
 use Rattle.ac_c.specs.Found.{shown, nothing}
 use Rattle.ac_c.specs.Status.{ok, none, bad_cursor}
+use Rattle.ac_c.specs.Walking.{WalksTo}
 
 -- the number that stands for the last match's end, where there is no last match
 abbrev pub no_place : ℕ
@@ -40,9 +42,12 @@ IsCursorIn haystack c = IsSpanIn haystack (bounds_of c) × IfSome (last_of c) (�
 abbrev pub Goes : Cursor → WalkPlace → Cursor → Type 0
 Goes c place d = (d ≡ record c { start = place.start; last = d.last }) × (IfSome place.last (λ last. last < no_place) → last_of d ≡ place.last)
 
--- the matches that are left of the walk
+-- the walk that stands at the cursor, and the matches that are left of it
+abbrev pub walk_of_cursor : AhoCorasick → List ℕ → Cursor → Walk
+walk_of_cursor ac haystack c = walk_from_place (as_built ac) (asked_by haystack (bounds_of c)) (place_of_cursor c)
+
 abbrev pub left_of_walk : AhoCorasick → List ℕ → Cursor → List Occurrence
-left_of_walk ac haystack c = left_of (walk_from_place (as_built ac) (asked_by haystack (bounds_of c)) (place_of_cursor c))
+left_of_walk ac haystack c = left_of (walk_of_cursor ac haystack c)
 
 -- the second cursor stands further on in the walk of the first, and these matches are left
 pub record IsCursorAfter (ac : AhoCorasick) (haystack : List ℕ) (c d : Cursor) (left : List Occurrence) : Type 0 where
@@ -67,6 +72,11 @@ abbrev pub IsStepBy : AhoCorasick → List ℕ → Cursor → Result (Option Occ
 IsStepBy ac haystack c (Ok step) = IsWalkBy ac haystack c × (rest : List Occurrence) × IsFirstLeft (left_of_walk ac haystack c) step.0 rest × IsCursorAfter ac haystack c step.1 rest
 IsStepBy ac haystack c (Err status) = IsRefusedWalk ac haystack c status
 
+-- What a step may cost, and that it counts each byte that it passes. One that is refused costs nothing.
+abbrev pub CostsStep : AhoCorasick → List ℕ → Cursor → Steps → Steps → Result (Option Occurrence × Cursor) ℕ → Type 0
+CostsStep ac haystack c before after (Ok step) = IsPickCost (as_built ac) (asked_by haystack (bounds_of c)) before after step.0 × PickCounts (as_built ac) (asked_by haystack (bounds_of c)) step.0 before after
+CostsStep ac haystack c before after (Err status) = after ≡ before
+
 -- as C sees it
 abbrev pub step_of : Cursor → Result (Option Occurrence × Cursor) ℕ → Step
 step_of c (Ok (Some o, d)) = record { cursor = d; found = shown o; status = ok }
@@ -82,19 +92,23 @@ pub record AreGiven (left : List Occurrence) (old new : List Found) (n : ℕ) : 
   pub given : take n new ≡ map shown (take n left)
 
 -- The walk stands at the first cursor, and its next matches went to the buffer. It stands at the second cursor after them.
-pub record TakesSome (w : Walk) (c : Cursor) (old new : List Found) (taken : ℕ × Cursor) : Type 0 where
+pub record TakesSome (w : Walk) (c : Cursor) (old new : List Found) (before after : Steps) (taken : ℕ × Cursor) : Type 0 where
   pub given : AreGiven (left_of w) old new taken.0
-  pub after : Walk
-  pub rest : left_of after ≡ drop taken.0 (left_of w)
-  pub built : after.built ≡ w.built
-  pub asked : after.asked ≡ w.asked
-  pub within : IsPlaceIn after.asked (record { start = after.at; last = after.last })
-  pub goes : Goes c (record { start = after.at; last = after.last }) taken.1
+  pub moved : Walk
+  pub rest : left_of moved ≡ drop taken.0 (left_of w)
+  pub cost : WalksTo w moved before after
+  pub within : IsPlaceIn moved.asked (record { start = moved.at; last = moved.last })
+  pub goes : Goes c (record { start = moved.at; last = moved.last }) taken.1
 
 -- the next matches of a walk, and the cursor after them; or why the walk doesn't go on, and the buffer is unchanged
 abbrev pub IsSomeBy : AhoCorasick → List ℕ → Cursor → List Found → List Found → Result (ℕ × Cursor) ℕ → Type 0
 IsSomeBy ac haystack c old new (Ok taken) = IsWalkBy ac haystack c × AreGiven (left_of_walk ac haystack c) old new taken.0 × IsCursorAfter ac haystack c taken.1 (drop taken.0 (left_of_walk ac haystack c))
 IsSomeBy ac haystack c old new (Err status) = IsRefusedWalk ac haystack c status × (new ≡ old)
+
+-- The next matches cost what the walk does from one cursor to the other. A call that is refused costs nothing.
+abbrev pub CostsSome : AhoCorasick → List ℕ → Cursor → Steps → Steps → Result (ℕ × Cursor) ℕ → Type 0
+CostsSome ac haystack c before after (Ok taken) = (v : Walk) × WalksTo (walk_of_cursor ac haystack c) v before after × (v.at ≡ taken.1.start)
+CostsSome ac haystack c before after (Err status) = after ≡ before
 
 -- the status of a call that returned this count, for a buffer with this room
 abbrev pub given_status : ℕ → ℕ → ℕ

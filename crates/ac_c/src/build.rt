@@ -1,7 +1,7 @@
 //! How C builds an automaton, and shares it.
 ghost use Rattle.std.specs.Prelude.{◌≡◌, Ok, Err, IfOk, IfErr};
 ghost use Rattle.ac_literal.specs.Packed.{bytes_of};
-ghost use Rattle.ac_c.specs.Build.{AnswersBuilder, AreDefaults, IsBuiltFrom, PairsBy, IsShared, engine_by, kind_by, no_fault, pairs_of, plain, build_refusal, start_kind_by};
+ghost use Rattle.ac_c.specs.Build.{AnswersBuilder, AreDefaults, IsBuiltFrom, PairsBy, IsShared, engine_by, kind_by, no_fault, plain, build_refusal, start_kind_by};
 
 use crate::handle::Handle;
 use crate::status::{
@@ -13,7 +13,7 @@ use aho_corasick::{
     AhoCorasick, AhoCorasickBuilder, AhoCorasickKind, BuildError, BuildErrorKind, MatchKind,
     Pairing, PairingError, StartKind,
 };
-use std::alloc::{AllocError, Global};
+use std::alloc::Global;
 
 /// How an automaton is built, without its pairs. A flag is 0 or else set.
 #[repr(C)]
@@ -161,32 +161,20 @@ fn engine_by(engine: u32) -> Option<Option<AhoCorasickKind>>
     }
 }
 
-/// The pairs as the library takes them.
-fn pairs_of(alloc: Global, pairs: &[Pair]) -> Result<Vec<(u8, u8)>, AllocError>
-    ensures { IfOk result (λ v. v.items ≡ pairs_of pairs.now) }
-{
-    let mut all = Vec::new(alloc);
-    for pair in pairs {
-        all.push((pair.a, pair.b))?;
-    }
-    Ok(all)
-}
+/// So many pairs name a byte twice, since there are 256 bytes.
+const TOO_MANY_PAIRS: usize = 129;
 
-/// Which bytes match each other.
-fn pairing_by(alloc: Global, fold: u32, pairs: &[Pair]) -> Result<Pairing, Refusal>
-    ensures { PairsBy fold pairs.now result }
+/// The pairing of these pairs. It takes no memory, since no more than the first so many are needed.
+fn pairing_of(pairs: &[Pair]) -> Result<Pairing, Refusal>
+    ensures { PairsBy 0 pairs.now result }
 {
-    if fold != 0 {
-        return if pairs.is_empty() {
-            Ok(Pairing::ascii())
-        } else {
-            Err(Refusal::plain(BAD_PAIRS))
-        };
+    let count = pairs.len().min(TOO_MANY_PAIRS);
+    let mut first = [(0u8, 0u8); TOO_MANY_PAIRS];
+    for at in 0..count {
+        let (a, b) = (pairs[at].a, pairs[at].b);
+        first[at] = (a, b);
     }
-    let Ok(all) = pairs_of(alloc, pairs) else {
-        return Err(Refusal::plain(NO_MEMORY));
-    };
-    match Pairing::new(&all) {
+    match Pairing::new(&first[..count]) {
         Ok(pairing) => Ok(pairing),
         Err(PairingError::Twice(byte)) => Err(Refusal {
             status: BAD_PAIRS,
@@ -198,12 +186,22 @@ fn pairing_by(alloc: Global, fold: u32, pairs: &[Pair]) -> Result<Pairing, Refus
     }
 }
 
+/// Which bytes match each other.
+fn pairing_by(fold: u32, pairs: &[Pair]) -> Result<Pairing, Refusal>
+    ensures { PairsBy fold pairs.now result }
+{
+    if fold == 0 {
+        return pairing_of(pairs);
+    }
+    if pairs.is_empty() {
+        Ok(Pairing::ascii())
+    } else {
+        Err(Refusal::plain(BAD_PAIRS))
+    }
+}
+
 /// A builder by the settings.
-fn builder_by(
-    alloc: Global,
-    settings: &Settings,
-    pairs: &[Pair],
-) -> Result<AhoCorasickBuilder, Refusal>
+fn builder_by(settings: &Settings, pairs: &[Pair]) -> Result<AhoCorasickBuilder, Refusal>
     ensures { AnswersBuilder settings.now pairs.now result }
 {
     let Some(kind) = kind_by(settings.kind) else {
@@ -215,7 +213,7 @@ fn builder_by(
     let Some(engine) = engine_by(settings.engine) else {
         return Err(Refusal::plain(BAD_ENGINE));
     };
-    let pairing = pairing_by(alloc, settings.fold, pairs)?;
+    let pairing = pairing_by(settings.fold, pairs)?;
     let mut builder = AhoCorasick::builder();
     builder.match_kind(kind);
     builder.start_kind(start_kind);
@@ -239,7 +237,7 @@ fn built_by(
 ) -> Result<AhoCorasick, Refusal>
     ensures { IsBuiltFrom (bytes_of patterns.now) settings.now pairs.now result }
 {
-    match builder_by(alloc, settings, pairs)?.build(alloc, patterns) {
+    match builder_by(settings, pairs)?.build(alloc, patterns) {
         Ok(ac) => Ok(ac),
         Err(error) => Err(Refusal::of(&error)),
     }

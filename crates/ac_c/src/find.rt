@@ -1,10 +1,10 @@
 //! A search for one match.
 ghost use Rattle.std.specs.Prelude.{◌≡◌, MatchOption};
-ghost use Rattle.ac_c.specs.Find.{AnswersFindIn, IsFoundBy, IsSpanIn, answer_of, asked_by, bounds};
+ghost use Rattle.ac_c.specs.Find.{AnswersFindIn, CostsFindIn, IsFoundBy, IsSpanIn, answer_of, asked_by, bounds};
 
 use crate::found::Found;
 use crate::status::{BAD_SPAN, NONE, OK, refused};
-use aho_corasick::{AhoCorasick, Anchored, Input, Match, Span};
+use aho_corasick::{AhoCorasick, Anchored, Input, Match, Span, Steps};
 
 /// Where a search looks in a haystack, and how. A flag is 0 or else set.
 #[derive(Clone, Copy)]
@@ -48,14 +48,20 @@ pub fn input_of<'h>(haystack: &'h [u8], bounds: Bounds) -> Option<Input<'h>>
     })
 }
 
-/// The match, if there is one, or the status of a search that isn't one of the automaton's.
-fn find_by(ac: &AhoCorasick, haystack: &[u8], bounds: Bounds) -> Result<Option<Match>, u32>
-    ensures { IsFoundBy ac.now haystack.now bounds result }
+/// The match, if there is one, or the status of a search that isn't one of the automaton's; counts what it does.
+fn find_counted(
+    ac: &AhoCorasick,
+    haystack: &[u8],
+    bounds: Bounds,
+    steps: &mut Steps,
+) -> Result<Option<Match>, u32>
+    ensures found { IsFoundBy ac.now haystack.now bounds result }
+    ensures cost { CostsFindIn ac.now haystack.now bounds steps.old steps.new result }
 {
     let Some(input) = input_of(haystack, bounds) else {
         return Err(BAD_SPAN);
     };
-    match ac.try_find(input) {
+    match ac.try_find_counted(input, steps) {
         Ok(found) => Ok(found),
         Err(error) => Err(refused(&error)),
     }
@@ -98,5 +104,5 @@ pub fn find(
         anchored,
         earliest,
     };
-    as_answer(find_by(ac, haystack, bounds))
+    as_answer(find_counted(ac, haystack, bounds, &mut Steps::new()))
 }

@@ -2,16 +2,18 @@
 //!
 //! A place holds the occurrence that was given last. A call begins as many bytes before the end of that one as the longest pattern
 //! has: no later occurrence starts before there. It passes over the few that aren't later.
-ghost use Rattle.std.specs.Prelude.{◌≡◌, ◌<◌, ◌≤◌, ◌^◌, IfOk, MatchOption, length, map, min, take};
+ghost use Rattle.std.specs.Prelude.{◌≡◌, ◌<◌, ◌≤◌, ◌^◌, IfOk, MatchOption, length};
 ghost use Rattle.std.specs.Iterator.{YieldsFirst};
 ghost use Rattle.ac_input.specs.Computed.{is_after};
-ghost use Rattle.ac_c.specs.Found.{found, shown};
-ghost use Rattle.ac_c.specs.List.{AnswersListed, IsListedBy, IsPlaceOver, asked_from, before_of, begins_at, later_of, listed_of, place, place_after};
+ghost use Rattle.ac_automaton.specs.Overlapping.OverlappingIter.{CountsRun, IsWithinOneWalk};
+ghost use Rattle.ac_c.specs.Found.{found};
+ghost use Rattle.ac_c.specs.Walk.{AreGiven};
+ghost use Rattle.ac_c.specs.List.{AnswersListed, CostsListing, CountsFilled, IsListedBy, IsPlaceOver, RunsTo, asked_from, before_of, begins_at, later_of, listed_of, place, place_after};
 
 use crate::find::{Bounds, input_of};
 use crate::found::Found;
 use crate::status::{BAD_CURSOR, NONE, OK, refused};
-use aho_corasick::{AhoCorasick, FindOverlappingIter, Input, Match};
+use aho_corasick::{AhoCorasick, FindOverlappingIter, Input, Match, Steps};
 
 /// Where a listing stands: its span, and the occurrence that was given last, if `begun` isn't 0.
 #[repr(C)]
@@ -78,11 +80,18 @@ fn input_at<'h>(haystack: &'h [u8], place: Place, longest: usize) -> Option<Inpu
     input_of(haystack, bounds)
 }
 
-/// The next occurrence after the one that was given last.
-fn next_later(matches: &mut FindOverlappingIter<'_, '_>, place: Place) -> Option<Match>
-    ensures { YieldsFirst (later_of place) matches.old result matches.new }
+/// The next occurrence after the one that was given last; counts what it does.
+fn next_later(
+    matches: &mut FindOverlappingIter<'_, '_>,
+    place: Place,
+    steps: &mut Steps,
+) -> Option<Match>
+    requires { IsWithinOneWalk matches.old }
+    ensures later { YieldsFirst (later_of place) matches.old result matches.new }
+    ensures cost { RunsTo matches.old matches.new steps.old steps.new }
+    ensures counted { CountsRun matches.new result }
 {
-    while let Some(found) = matches.next() {
+    while let Some(found) = matches.next_counted(steps) {
         if is_later(place, &found) {
             return Some(found);
         }
@@ -90,13 +99,20 @@ fn next_later(matches: &mut FindOverlappingIter<'_, '_>, place: Place) -> Option
     None
 }
 
-/// Fills a buffer with the occurrences that come next; returns how many these are.
-fn fill(matches: &mut FindOverlappingIter<'_, '_>, place: Place, out: &mut [Found]) -> usize
-    ensures count { result ≡ min (length out.old) (length (later_of place matches.old)) }
-    ensures given { take result out.new ≡ map shown (take result (later_of place matches.old)) }
+/// Fills a buffer with the occurrences that come next; returns how many these are, and counts what it does.
+fn fill(
+    matches: &mut FindOverlappingIter<'_, '_>,
+    place: Place,
+    out: &mut [Found],
+    steps: &mut Steps,
+) -> usize
+    requires { IsWithinOneWalk matches.old }
+    ensures given { AreGiven (later_of place matches.old) out.old out.new result }
+    ensures cost { RunsTo matches.old matches.new steps.old steps.new }
+    ensures counted { CountsFilled matches.new place out.new result }
 {
     for at in 0..out.len() {
-        match next_later(matches, place) {
+        match next_later(matches, place, steps) {
             Some(found) => out[at] = Found::of(&found),
             None => return at,
         }
@@ -119,21 +135,24 @@ fn moved(place: Place, out: &[Found], count: usize) -> Place
     }
 }
 
-/// The next occurrences, and where the listing stands then.
-fn listed_by(
+/// The next occurrences, and where the listing stands then; counts what it does.
+fn listed_counted(
     ac: &AhoCorasick,
     haystack: &[u8],
     place: Place,
     out: &mut [Found],
+    steps: &mut Steps,
 ) -> Result<usize, u32>
-    ensures { IsListedBy ac.now haystack.now place out.old out.new result }
+    ensures listed { IsListedBy ac.now haystack.now place out.old out.new result }
+    ensures cost { CostsListing ac.now haystack.now place out.new steps.old steps.new
+        result }
 {
     let Some(input) = input_at(haystack, place, ac.max_pattern_len()) else {
         return Err(BAD_CURSOR);
     };
     match ac.try_find_overlapping_iter(input) {
         Err(error) => Err(refused(&error)),
-        Ok(mut matches) => Ok(fill(&mut matches, place, out)),
+        Ok(mut matches) => Ok(fill(&mut matches, place, out, steps)),
     }
 }
 
@@ -185,6 +204,6 @@ pub fn list(
         },
         begun,
     };
-    let listed = listed_by(ac, haystack, place, out);
+    let listed = listed_counted(ac, haystack, place, out, &mut Steps::new());
     as_listed(place, out, listed)
 }

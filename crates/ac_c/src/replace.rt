@@ -1,11 +1,10 @@
 //! Replacement: into a buffer of the caller's, and into memory of the library's.
 //!
 //! For a buffer the haystack is searched twice: for the length of the text, and then to write it, if the buffer has room. So no memory
-//! is taken, and a buffer that is too short stays as it was.
+//! is taken, and a buffer that is too short stays as it was. A text that C holds is freed once the new one is made, and not before.
 ghost use Rattle.std.specs.Prelude.{◌≡◌, ◌≤◌, ◌+◌, ◌++◌, length, take, drop, Some};
-ghost use Rattle.ac_automaton.specs.Iter.{left_of};
-ghost use Rattle.ac_automaton.specs.Replace.{LieInOrder};
-ghost use Rattle.ac_c.specs.Replace.{AnswersInto, AnswersText, IsLenBy, IsLenOf, IsReplaced, IsReplacedBy, begun_with, text_by, text_of};
+ghost use Rattle.ac_c.specs.Walking.{IsAccounted, WalksToEnd};
+ghost use Rattle.ac_c.specs.Replace.{AnswersInto, AnswersText, AreReplaceable, CostsInto, CostsLen, IsLenBy, IsLenOf, IsReplaced, IsReplacedBy, begun_with, text_along, text_by, walk_over};
 
 use crate::bytes::Bytes;
 use crate::status::{NO_MEMORY, OK, TOO_MANY_BYTES, TOO_SHORT, WRONG_COUNT, refused};
@@ -22,20 +21,21 @@ pub struct Length {
     pub status: u32,
 }
 
-/// How many bytes a haystack has with each of the matches replaced, if a number says it.
+/// How many bytes a haystack has with each of the matches replaced, if a number says it; counts what the walk does.
 fn text_len<W: Walking + Drop>(
     mut matches: W,
     haystack: &[u8],
     replacements: &[&[u8]],
+    steps: &mut Steps,
 ) -> Result<usize, u32>
-    requires { LieInOrder (length replacements.now) (length haystack.now) 0
-        (left_of (W.walk matches)) }
-    ensures { IsLenOf (text_of haystack.now replacements.now (left_of (W.walk matches))) result }
+    requires lie { AreReplaceable haystack.now replacements.now (W.walk matches) }
+    requires counted { IsAccounted (W.walk matches) }
+    ensures len { IsLenOf (text_along haystack.now replacements.now (W.walk matches)) result }
+    ensures cost { CostsLen (W.walk matches) steps.old steps.new result }
 {
-    let mut steps = Steps::new();
     let mut at = 0;
     let mut len: usize = 0;
-    while let Some(found) = matches.next_match(&mut steps) {
+    while let Some(found) = matches.next_match(steps) {
         let Some(before) = len.checked_add(found.start() - at) else {
             return Err(TOO_MANY_BYTES);
         };
@@ -62,24 +62,25 @@ fn put(out: &mut [u8], at: usize, bytes: &[u8]) -> usize
     end
 }
 
-/// Writes a haystack with each of the matches replaced to the start of a buffer.
+/// Writes a haystack with each of the matches replaced to the start of a buffer; counts what the walk does.
 fn write_text<W: Walking + Drop>(
     mut matches: W,
     haystack: &[u8],
     replacements: &[&[u8]],
     out: &mut [u8],
+    steps: &mut Steps,
 )
-    requires lie { LieInOrder (length replacements.now) (length haystack.now) 0
-        (left_of (W.walk matches)) }
-    requires fits { length (text_of haystack.now replacements.now (left_of (W.walk matches)))
+    requires lie { AreReplaceable haystack.now replacements.now (W.walk matches) }
+    requires fits { length (text_along haystack.now replacements.now (W.walk matches))
         ≤ length out.old }
-    ensures { out.new
-        ≡ begun_with (text_of haystack.now replacements.now (left_of (W.walk matches))) out.old }
+    requires counted { IsAccounted (W.walk matches) }
+    ensures text { out.new
+        ≡ begun_with (text_along haystack.now replacements.now (W.walk matches)) out.old }
+    ensures cost { WalksToEnd (W.walk matches) steps.old steps.new }
 {
-    let mut steps = Steps::new();
     let mut at = 0;
     let mut len = 0;
-    while let Some(found) = matches.next_match(&mut steps) {
+    while let Some(found) = matches.next_match(steps) {
         len = put(out, len, &haystack[at..found.start()]);
         len = put(out, len, replacements[found.pattern().as_usize()]);
         at = found.end();
@@ -90,9 +91,15 @@ fn write_text<W: Walking + Drop>(
 /// A haystack of this length is read ahead. For a shorter one the notes take longer to make than they save.
 const LONG: usize = 4096;
 
-/// How many bytes the text has, or the status.
-fn len_by(ac: &AhoCorasick, haystack: &[u8], replacements: &[&[u8]]) -> Result<usize, u32>
-    ensures { IsLenBy ac.now haystack.now replacements.now result }
+/// How many bytes the text has, or the status; counts what it does.
+fn len_counted(
+    ac: &AhoCorasick,
+    haystack: &[u8],
+    replacements: &[&[u8]],
+    steps: &mut Steps,
+) -> Result<usize, u32>
+    ensures len { IsLenBy ac.now haystack.now replacements.now result }
+    ensures cost { CostsLen (walk_over ac.now haystack.now) steps.old steps.new result }
 {
     if replacements.len() != ac.patterns_len() {
         return Err(WRONG_COUNT);
@@ -100,34 +107,54 @@ fn len_by(ac: &AhoCorasick, haystack: &[u8], replacements: &[&[u8]]) -> Result<u
     if haystack.len() < LONG {
         return match ac.try_find_iter(Input::new(haystack)) {
             Err(error) => Err(refused(&error)),
-            Ok(matches) => text_len(matches, haystack, replacements),
+            Ok(matches) => text_len(matches, haystack, replacements, steps),
         };
     }
     match ac.try_find_iter_ahead(Input::new(haystack)) {
         Err(error) => Err(refused(&error)),
-        Ok(matches) => text_len(matches, haystack, replacements),
+        Ok(matches) => text_len(matches, haystack, replacements, steps),
     }
 }
 
-/// Writes the text to the start of a buffer.
-fn write_by(ac: &AhoCorasick, haystack: &[u8], replacements: &[&[u8]], out: &mut [u8])
+/// Writes the text to the start of a buffer; counts what it does.
+fn write_counted(
+    ac: &AhoCorasick,
+    haystack: &[u8],
+    replacements: &[&[u8]],
+    out: &mut [u8],
+    steps: &mut Steps,
+)
     requires replaced { IsReplaced ac.now replacements.now }
     requires fits { length (text_by ac.now haystack.now replacements.now) ≤ length out.old }
-    ensures { out.new ≡ begun_with (text_by ac.now haystack.now replacements.now) out.old }
+    ensures text { out.new ≡ begun_with (text_by ac.now haystack.now replacements.now) out.old }
+    ensures cost { WalksToEnd (walk_over ac.now haystack.now) steps.old steps.new }
 {
     let input = Input::new(haystack);
     if haystack.len() < LONG {
-        write_text(ac.find_iter(input), haystack, replacements, out);
+        write_text(ac.find_iter(input), haystack, replacements, out, steps);
     } else {
-        write_text(ac.find_iter_ahead(input), haystack, replacements, out);
+        write_text(
+            ac.find_iter_ahead(input),
+            haystack,
+            replacements,
+            out,
+            steps,
+        );
     }
 }
 
-/// The text into a buffer, and its length.
-pub fn into(ac: &AhoCorasick, haystack: &[u8], replacements: &[&[u8]], out: &mut [u8]) -> Length
-    ensures { AnswersInto ac.now haystack.now replacements.now out.old out.new result }
+/// The text into a buffer, and its length; counts what it does.
+fn into_counted(
+    ac: &AhoCorasick,
+    haystack: &[u8],
+    replacements: &[&[u8]],
+    out: &mut [u8],
+    steps: &mut Steps,
+) -> Length
+    ensures answer { AnswersInto ac.now haystack.now replacements.now out.old out.new result }
+    ensures cost { CostsInto ac.now haystack.now result.status steps.old steps.new }
 {
-    match len_by(ac, haystack, replacements) {
+    match len_counted(ac, haystack, replacements, steps) {
         Err(status) => Length { len: 0, status },
         Ok(len) => {
             if len > out.len() {
@@ -136,10 +163,17 @@ pub fn into(ac: &AhoCorasick, haystack: &[u8], replacements: &[&[u8]], out: &mut
                     status: TOO_SHORT,
                 };
             }
-            write_by(ac, haystack, replacements, out);
+            write_counted(ac, haystack, replacements, out, steps);
             Length { len, status: OK }
         }
     }
+}
+
+/// The text into a buffer, and its length.
+pub fn into(ac: &AhoCorasick, haystack: &[u8], replacements: &[&[u8]], out: &mut [u8]) -> Length
+    ensures { AnswersInto ac.now haystack.now replacements.now out.old out.new result }
+{
+    into_counted(ac, haystack, replacements, out, &mut Steps::new())
 }
 
 /// The haystack with each match replaced, or the status.

@@ -3,7 +3,7 @@
 //! The library's replacement hands out the replaced text, as far as it is decided, in slices: of the bytes that it holds, and of the
 //! replacements. A call gives C the place and the length of one slice, so no byte is copied again.
 ghost use Rattle.std.specs.Prelude.{◌≡◌, IfErr, IfOk, OnOk};
-ghost use Rattle.ac_automaton.specs.Stream.{CanStream};
+ghost use Rattle.ac_automaton.specs.Stream.{CanStream, StreamCounts};
 ghost use Rattle.ac_automaton.specs.declared.stream.StreamKinds.TheVariants.{AnyKind};
 ghost use Rattle.aho_corasick.specs.AhoCorasick.{as_built, supported_by};
 ghost use Rattle.ac_c.specs.Replacing.{IsGivenText, IsPushedOn, IsReplacementOfPieces, ended_by, replacing_by};
@@ -13,7 +13,7 @@ use crate::replace::Length;
 use crate::searching::{Count, shared};
 use crate::status::{FINISHED, NO_MEMORY, NONE, OK, TOO_MANY_BYTES, WRONG_COUNT, refused};
 use ac_automaton::stream::StreamReplacer;
-use aho_corasick::{AhoCorasick, StreamError};
+use aho_corasick::{AhoCorasick, Steps, StreamError};
 use std::alloc::Global;
 use std::ptr::NonNull;
 
@@ -53,13 +53,22 @@ impl Replacing {
     pub fn push(&mut self, piece: &[u8]) -> Count
         ensures { IsPushedOn self.old piece.now self.new result }
     {
+        self.push_counted(piece, &mut Steps::new())
+    }
+
+    /// The same; counts the bytes that it moves.
+    fn push_counted(&mut self, piece: &[u8], steps: &mut Steps) -> Count
+        ensures pushed { IsPushedOn self.old piece.now self.new result }
+        ensures cost { StreamCounts self.old.replacer.search self.new.replacer.search steps.old
+            steps.new }
+    {
         if self.replacer.is_finished() {
             return Count {
                 count: 0,
                 status: FINISHED,
             };
         }
-        match self.replacer.push(piece) {
+        match self.replacer.push_counted(piece, steps) {
             Ok(count) => Count { count, status: OK },
             Err(_) => Count {
                 count: 0,
@@ -72,13 +81,27 @@ impl Replacing {
     pub fn next(&mut self, replacements: &[&[u8]], at: &mut *const u8) -> Length
         ensures { IsGivenText self.old replacements.now self.new result }
     {
+        self.next_counted(replacements, at, &mut Steps::new())
+    }
+
+    /// The same; counts what it does.
+    fn next_counted(
+        &mut self,
+        replacements: &[&[u8]],
+        at: &mut *const u8,
+        steps: &mut Steps,
+    ) -> Length
+        ensures given { IsGivenText self.old replacements.now self.new result }
+        ensures cost { StreamCounts self.old.replacer.search self.new.replacer.search steps.old
+            steps.new }
+    {
         if replacements.len() != self.replacer.patterns_len() {
             return Length {
                 len: 0,
                 status: WRONG_COUNT,
             };
         }
-        match self.replacer.next(replacements) {
+        match self.replacer.next_counted(replacements, steps) {
             None => Length {
                 len: 0,
                 status: NONE,

@@ -3,7 +3,7 @@
 //! The library's search takes a piece only once all matches of what came before were returned. It holds a match back until no byte
 //! that follows can change it, and the bytes that are still undecided. A caller passes on what lies before the cut.
 ghost use Rattle.std.specs.Prelude.{◌≡◌, IfErr, IfOk, Ok, OnOk, drop};
-ghost use Rattle.ac_automaton.specs.Stream.{CanStream, IsConfigRefusal, IsOnCourse, read_by};
+ghost use Rattle.ac_automaton.specs.Stream.{CanStream, IsConfigRefusal, IsOnCourse, StreamCounts, read_by};
 ghost use Rattle.ac_automaton.specs.declared.stream.StreamKinds.TheVariants.{AnyKind};
 ghost use Rattle.aho_corasick.specs.AhoCorasick.{MeansSame, as_built, supported_by};
 ghost use Rattle.ac_c.specs.Searching.{AreNext, IsGiven, IsPushed, IsRefusedSearch, IsSearchOfPieces, begun_by, finished_by, is_finished, view_of};
@@ -12,7 +12,7 @@ use crate::found::Found;
 use crate::status::{FINISHED, NO_MEMORY, NONE, OK, TOO_MANY_BYTES, refused};
 use ac_automaton::stream::StreamSearch;
 use aho_corasick::automaton::Automaton;
-use aho_corasick::{AhoCorasick, Anchored, MatchError, StreamError};
+use aho_corasick::{AhoCorasick, Anchored, MatchError, Steps, StreamError};
 use std::alloc::Global;
 
 /// A search of pieces under any kind, and whether it was told that no more come.
@@ -80,12 +80,13 @@ fn search_by(ac: &AhoCorasick, alloc: Global) -> Result<StreamSearch<AhoCorasick
     }
 }
 
-/// Fills a buffer with the matches that come next; returns how many these are.
-fn fill(search: &mut StreamSearch<AhoCorasick>, out: &mut [Found]) -> usize
-    ensures { AreNext search.old search.new out.old out.new result }
+/// Fills a buffer with the matches that come next; returns how many these are, and counts what it does.
+fn fill(search: &mut StreamSearch<AhoCorasick>, out: &mut [Found], steps: &mut Steps) -> usize
+    ensures next { AreNext search.old search.new out.old out.new result }
+    ensures cost { StreamCounts search.old search.new steps.old steps.new }
 {
     for at in 0..out.len() {
-        match search.next() {
+        match search.next_counted(steps) {
             Some(found) => out[at] = Found::of(&found),
             None => return at,
         }
@@ -122,13 +123,21 @@ impl Searching {
     pub fn push(&mut self, piece: &[u8]) -> Count
         ensures { IsPushed self.old piece.now self.new result }
     {
+        self.push_counted(piece, &mut Steps::new())
+    }
+
+    /// The same; counts the bytes that it moves.
+    fn push_counted(&mut self, piece: &[u8], steps: &mut Steps) -> Count
+        ensures pushed { IsPushed self.old piece.now self.new result }
+        ensures cost { StreamCounts self.old.search self.new.search steps.old steps.new }
+    {
         if self.is_finished() {
             return Count {
                 count: 0,
                 status: FINISHED,
             };
         }
-        match self.search.push(piece) {
+        match self.search.push_counted(piece, steps) {
             Ok(count) => Count { count, status: OK },
             Err(_) => Count {
                 count: 0,
@@ -141,8 +150,16 @@ impl Searching {
     pub fn some(&mut self, out: &mut [Found]) -> Count
         ensures { IsGiven self.old self.new out.old out.new result }
     {
+        self.some_counted(out, &mut Steps::new())
+    }
+
+    /// The same; counts what it does.
+    fn some_counted(&mut self, out: &mut [Found], steps: &mut Steps) -> Count
+        ensures given { IsGiven self.old self.new out.old out.new result }
+        ensures cost { StreamCounts self.old.search self.new.search steps.old steps.new }
+    {
         let room = out.len();
-        let count = fill(&mut self.search, out);
+        let count = fill(&mut self.search, out, steps);
         Count {
             count,
             status: if count == 0 && room > 0 { NONE } else { OK },

@@ -1,8 +1,8 @@
 //! The walk over a haystack, from a cursor that C keeps.
-ghost use Rattle.std.specs.Prelude.{◌≡◌, MatchOption, drop, length, map, min, take};
-ghost use Rattle.ac_automaton.specs.Iter.{IsOnItsWay, left_of};
-ghost use Rattle.ac_c.specs.Found.{shown};
-ghost use Rattle.ac_c.specs.Walk.{AnswersSome, AnswersStep, Goes, IsCursorIn, IsSomeBy, IsStepBy, TakesSome, batch_of, bounds_of, cursor, place_of_cursor, step_of};
+ghost use Rattle.std.specs.Prelude.{◌≡◌, MatchOption, drop};
+ghost use Rattle.ac_automaton.specs.Iter.{left_of};
+ghost use Rattle.ac_c.specs.Walking.{IsAccounted, WalksTo};
+ghost use Rattle.ac_c.specs.Walk.{AnswersSome, AnswersStep, AreGiven, CostsSome, CostsStep, Goes, IsCursorIn, IsSomeBy, IsStepBy, TakesSome, batch_of, bounds_of, cursor, place_of_cursor, step_of};
 ghost use Rattle.ac_c.specs.Find.{asked_by};
 
 use crate::find::{Bounds, input_of};
@@ -91,13 +91,15 @@ fn input_at<'h>(haystack: &'h [u8], cursor: Cursor) -> Option<Input<'h>>
     input_of(haystack, bounds_of(cursor))
 }
 
-/// The next match, and where the walk stands then.
-fn step_by(
+/// The next match, and where the walk stands then; counts what it does.
+fn step_counted(
     ac: &AhoCorasick,
     haystack: &[u8],
     cursor: Cursor,
+    steps: &mut Steps,
 ) -> Result<(Option<Match>, Cursor), u32>
-    ensures { IsStepBy ac.now haystack.now cursor result }
+    ensures step { IsStepBy ac.now haystack.now cursor result }
+    ensures cost { CostsStep ac.now haystack.now cursor steps.old steps.new result }
 {
     let Some(input) = input_at(haystack, cursor) else {
         return Err(BAD_CURSOR);
@@ -105,25 +107,21 @@ fn step_by(
     match ac.try_find_iter_from(input, place_at(cursor)) {
         Err(error) => Err(refused(&error)),
         Ok(mut matches) => {
-            let mut steps = Steps::new();
-            let found = matches.next_counted(&mut steps);
+            let found = matches.next_counted(steps);
             Ok((found, moved(cursor, matches.place())))
         }
     }
 }
 
-/// Fills a buffer with the matches that come next; returns how many these are.
-fn fill<W: Walking>(matches: &mut W, out: &mut [Found]) -> usize
-    requires within { IsOnItsWay (W.walk matches.old) }
-    ensures count { result ≡ min (length out.old) (length (left_of (W.walk matches.old))) }
-    ensures given { take result out.new ≡ map shown (take result (left_of (W.walk matches.old))) }
+/// Fills a buffer with the matches that come next; returns how many these are, and counts what it does.
+fn fill<W: Walking>(matches: &mut W, out: &mut [Found], steps: &mut Steps) -> usize
+    requires { IsAccounted (W.walk matches.old) }
+    ensures given { AreGiven (left_of (W.walk matches.old)) out.old out.new result }
     ensures rest { left_of (W.walk matches.new) ≡ drop result (left_of (W.walk matches.old)) }
-    ensures built { (W.walk matches.new).built ≡ (W.walk matches.old).built }
-    ensures asked { (W.walk matches.new).asked ≡ (W.walk matches.old).asked }
+    ensures cost { WalksTo (W.walk matches.old) (W.walk matches.new) steps.old steps.new }
 {
-    let mut steps = Steps::new();
     for at in 0..out.len() {
-        match matches.next_match(&mut steps) {
+        match matches.next_match(steps) {
             Some(found) => out[at] = Found::of(&found),
             None => return at,
         }
@@ -132,26 +130,33 @@ fn fill<W: Walking>(matches: &mut W, out: &mut [Found]) -> usize
 }
 
 /// The next matches of a walk that stands at the cursor, how many these are, and where it stands then.
-fn taken<W: Walking + Drop>(matches: W, cursor: Cursor, out: &mut [Found]) -> (usize, Cursor)
-    requires { IsOnItsWay (W.walk matches) }
-    ensures { TakesSome (W.walk matches) cursor out.old out.new result }
+fn taken<W: Walking + Drop>(
+    matches: W,
+    cursor: Cursor,
+    out: &mut [Found],
+    steps: &mut Steps,
+) -> (usize, Cursor)
+    requires { IsAccounted (W.walk matches) }
+    ensures { TakesSome (W.walk matches) cursor out.old out.new steps.old steps.new result }
 {
     let mut matches = matches;
-    let count = fill(&mut matches, out);
+    let count = fill(&mut matches, out, steps);
     (count, moved(cursor, matches.stands()))
 }
 
 /// With room for fewer matches nothing is read ahead, since the notes for it would take longer to make than they save.
 const FEW: usize = 16;
 
-/// The next matches, and where the walk stands then.
-fn some_by(
+/// The next matches, and where the walk stands then; counts what it does.
+fn some_counted(
     ac: &AhoCorasick,
     haystack: &[u8],
     cursor: Cursor,
     out: &mut [Found],
+    steps: &mut Steps,
 ) -> Result<(usize, Cursor), u32>
-    ensures { IsSomeBy ac.now haystack.now cursor out.old out.new result }
+    ensures some { IsSomeBy ac.now haystack.now cursor out.old out.new result }
+    ensures cost { CostsSome ac.now haystack.now cursor steps.old steps.new result }
 {
     let Some(input) = input_at(haystack, cursor) else {
         return Err(BAD_CURSOR);
@@ -159,12 +164,12 @@ fn some_by(
     if out.len() < FEW {
         return match ac.try_find_iter_from(input, place_at(cursor)) {
             Err(error) => Err(refused(&error)),
-            Ok(matches) => Ok(taken(matches, cursor, out)),
+            Ok(matches) => Ok(taken(matches, cursor, out, steps)),
         };
     }
     match ac.try_find_iter_ahead_from(input, place_at(cursor)) {
         Err(error) => Err(refused(&error)),
-        Ok(matches) => Ok(taken(matches, cursor, out)),
+        Ok(matches) => Ok(taken(matches, cursor, out, steps)),
     }
 }
 
@@ -210,7 +215,10 @@ pub fn next(
         anchored,
         earliest,
     };
-    as_step(cursor, step_by(ac, haystack, cursor))
+    as_step(
+        cursor,
+        step_counted(ac, haystack, cursor, &mut Steps::new()),
+    )
 }
 
 /// A batch as C sees it.
@@ -253,5 +261,6 @@ pub fn some(
         earliest,
     };
     let room = out.len();
-    as_batch(cursor, room, some_by(ac, haystack, cursor, out))
+    let taken = some_counted(ac, haystack, cursor, out, &mut Steps::new());
+    as_batch(cursor, room, taken)
 }

@@ -6,16 +6,17 @@ use aho_corasick::{FindIter, FindIterAhead, Match, Steps, WalkPlace};
 /// An iterator over the matches of a walk.
 pub trait Walking {
     ghost use Rattle.std.specs.Iterator.{YieldsFirst};
-    ghost use Rattle.ac_automaton.specs.Iter.{GivesPick, IsOnItsWay, IsPlaceIn, Walk, left_of};
+    ghost use Rattle.ac_automaton.specs.Iter.{GivesPick, IsPlaceIn, Walk, left_of};
+    ghost use Rattle.ac_c.specs.Walking.{WalksTo};
 
     /// The walk, where it stands.
     ghost walk: { Self → Walk };
 
-    /// The next match.
+    /// The next match; counts what it does.
     fn next_match(&mut self, steps: &mut Steps) -> Option<Match>
         ensures gives { GivesPick (walk self.old) result (walk self.new) }
         ensures yields { YieldsFirst left_of (walk self.old) result (walk self.new) }
-        ensures kept { IsOnItsWay (walk self.new) };
+        ensures cost { WalksTo (walk self.old) (walk self.new) steps.old steps.new };
 
     /// Where the walk stands.
     fn stands(&self) -> WalkPlace

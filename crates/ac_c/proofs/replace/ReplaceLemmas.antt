@@ -4,14 +4,19 @@ use Rattle.std.specs.Prelude.{slice_range}
 use Rattle.std.proofs.lemmas.List.{append-nil, drop-drop, drop_at, take_at}
 use Rattle.std.proofs.lemmas.List.Edits.{length-between}
 use denote.Ref.{Bor}
+use Rattle.ac_input.specs.declared.steps.Steps.{Steps}
+use Rattle.ac_input.specs.Input.{whole_of}
 use Rattle.ac_input.specs.Occurrence.{Occurrence}
 use Rattle.ac_input.specs.Text.{replaced_from}
 use Rattle.ac_input.proofs.lemmas.TextLemmas.{replaced-pick}
+use Rattle.ac_automaton.specs.Iter.{Walk}
 use Rattle.ac_automaton.specs.Replace.{LieInOrder, matches_in}
 use Rattle.ac_automaton.proofs.lemmas.ReplaceLemmas.{matches-lie}
 use Rattle.aho_corasick.specs.AhoCorasick.{as_built, pattern_count}
 use Rattle.aho_corasick.specs.declared.ahocorasick.AhoCorasick.{AhoCorasick}
-use Rattle.ac_c.specs.Replace.{IsLenBy, IsLenOf, IsReplaced, begun_with, text_of}
+use Rattle.ac_c.specs.Replace.{CostsLen, IsLenBy, IsLenOf, IsReplaced, begun_with, text_of, walk_over}
+use Rattle.ac_c.specs.Walking.{IsAccounted, WalksOn}
+use Rattle.ac_c.proofs.walking.WalkingLemmas.{begun-accounted, walks-none}
 
 -- the matches of a whole haystack lie in order, where there is one replacement for each pattern
 pub matches-in_order : (ac : AhoCorasick) (x : List ℕ) (count : ℕ) (os : List Occurrence) → count ≡ pattern_count ac → os ≡ matches_in (as_built ac) x → LieInOrder count (length x) 0 os
@@ -34,6 +39,12 @@ pub len-first : (at : ℕ) (x : List ℕ) (rs : List (List ℕ)) (os rest : List
 len-first at x rs os rest o is within =
     ap length (text-first at x rs os rest o is)
     ∙ omega (arith, length-append (slice_range x at o.start) (get_or rs o.pattern [] ++ replaced_from o.end x rs rest), length-append (get_or rs o.pattern []) (replaced_from o.end x rs rest), length-between x at o.start within)
+
+-- the length so far and that of the rest stay the length of the text, with one more match
+pub sum-more : (at len before after whole : ℕ) (x : List ℕ) (rs : List (List ℕ)) (os rest : List Occurrence) (o : Occurrence) (replacement : List ℕ) → len + length (replaced_from at x rs os) ≡ whole
+    → os ≡ o ∷ rest → o.start ≤ length x → before ≡ len + (o.start - at) → replacement ≡ get_or rs o.pattern [] → after ≡ before + length replacement
+    → after + length (replaced_from o.end x rs rest) ≡ whole
+sum-more at len before after whole x rs os rest o replacement sum is within first same then = omega (arith, len-first at x rs os rest o is within, ap length same)
 
 -- and where no match is left, so many
 pub len-end : (at : ℕ) (x : List ℕ) (rs : List (List ℕ)) (os : List Occurrence) → os ≡ [] → length (replaced_from at x rs os) ≡ length x - at
@@ -78,6 +89,23 @@ written-more text old out new bytes rest more at w is put =
           ∙ sym (append_assoc w.front bytes (drop (at + length bytes) old));
     }
 
+-- where the bytes before a match are written, its replacement is next
+written-half : (text old out mid : List ℕ) (at len between : ℕ) (x : List ℕ) (rs : List (List ℕ)) (os rest : List Occurrence) (o : Occurrence) (before replacement : List ℕ)
+    → IsWritten text old out len (replaced_from at x rs os) → os ≡ o ∷ rest
+    → before ≡ slice_range x at o.start → mid ≡ take len out ++ begun_with before (drop len out) → between ≡ len + length before
+    → replacement ≡ get_or rs o.pattern [] → IsWritten text old mid between (replacement ++ replaced_from o.end x rs rest)
+written-half text old out mid at len between x rs os rest o before replacement w is before_is first_put first_end replacement_is =
+    let parts = text-first at x rs os rest o is ∙ ap₂ (λ (b r : List ℕ). b ++ (r ++ replaced_from o.end x rs rest)) (sym before_is) (sym replacement_is) in
+    subst (λ (n : ℕ). IsWritten text old mid n (replacement ++ replaced_from o.end x rs rest)) (sym first_end) (written-more text old out mid before _ _ len w parts first_put)
+
+-- there is room for it, where the text fits
+pub written-fits : (text old out mid : List ℕ) (at len between : ℕ) (x : List ℕ) (rs : List (List ℕ)) (os rest : List Occurrence) (o : Occurrence) (before replacement : List ℕ)
+    → IsWritten text old out len (replaced_from at x rs os) → os ≡ o ∷ rest
+    → before ≡ slice_range x at o.start → mid ≡ take len out ++ begun_with before (drop len out) → between ≡ len + length before
+    → replacement ≡ get_or rs o.pattern [] → length text ≤ length old → between + length replacement ≤ length mid
+written-fits text old out mid at len between x rs os rest o before replacement w is before_is first_put first_end replacement_is fits =
+    written-room text old mid replacement _ _ between (written-half text old out mid at len between x rs os rest o before replacement w is before_is first_put first_end replacement_is) refl fits
+
 -- one more turn: the bytes before a match, and its replacement
 pub written-turn : (text old out mid new : List ℕ) (at len between len' : ℕ) (x : List ℕ) (rs : List (List ℕ)) (os rest : List Occurrence) (o : Occurrence) (before replacement : List ℕ)
     → IsWritten text old out len (replaced_from at x rs os) → os ≡ o ∷ rest
@@ -85,10 +113,20 @@ pub written-turn : (text old out mid new : List ℕ) (at len between len' : ℕ)
     → replacement ≡ get_or rs o.pattern [] → new ≡ take between mid ++ begun_with replacement (drop between mid) → len' ≡ between + length replacement
     → IsWritten text old new len' (replaced_from o.end x rs rest)
 written-turn text old out mid new at len between len' x rs os rest o before replacement w is before_is first_put first_end replacement_is then_put then_end =
-    let parts = text-first at x rs os rest o is ∙ ap₂ (λ (b r : List ℕ). b ++ (r ++ replaced_from o.end x rs rest)) (sym before_is) (sym replacement_is) in
-    let one : IsWritten text old mid between (replacement ++ replaced_from o.end x rs rest) =
-    subst (λ (n : ℕ). IsWritten text old mid n (replacement ++ replaced_from o.end x rs rest)) (sym first_end) (written-more text old out mid before _ _ len w parts first_put) in
+    let one = written-half text old out mid at len between x rs os rest o before replacement w is before_is first_put first_end replacement_is in
     subst (λ (n : ℕ). IsWritten text old new n (replaced_from o.end x rs rest)) (sym then_end) (written-more text old mid new replacement _ _ between one refl then_put)
+
+-- a walk over all matches of a haystack, before its first step, is accounted for
+pub over-accounted : (ac : AhoCorasick) (x : List ℕ) → IsAccounted (walk_over ac x)
+over-accounted ac x = begun-accounted (as_built ac) (whole_of x) (omega arith) (omega arith)
+
+-- where nothing is searched, no step is taken
+pub refused-cost : (ac : AhoCorasick) (x : List ℕ) (steps : Steps) → WalksOn (walk_over ac x) steps steps
+refused-cost ac x steps = (walk_over ac x, walks-none (walk_over ac x) steps (over-accounted ac x))
+
+-- what the walk over a haystack costs, to know the length
+pub len-cost : (ac : AhoCorasick) (x : List ℕ) (w : Walk) (before after : Steps) (r : Result ℕ ℕ) → w ≡ walk_over ac x → CostsLen w before after r → CostsLen (walk_over ac x) before after r
+len-cost ac x w before after r is cost = subst (λ (z : Walk). CostsLen z before after r) is cost
 
 -- the length of the text of all matches, or why it has none, answers for the haystack
 pub len-answers : (ac : AhoCorasick) (x : List ℕ) (rs : List (Bor (List ℕ))) (os : List Occurrence) (r : Result ℕ ℕ) → IsReplaced ac rs → os ≡ matches_in (as_built ac) x → IsLenOf (text_of x rs os) r → IsLenBy ac x rs r

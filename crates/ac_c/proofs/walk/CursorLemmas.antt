@@ -1,19 +1,22 @@
 -- A walk that goes on from a cursor: which matches are left, and where it stands.
-use Rattle.std.proofs.Common.{◌≡◌, ℕ, zero, suc, ◌+◌, ◌-◌, ◌*◌, ◌^◌, ◌<◌, ◌≤◌, List, ◌∷◌, length, drop, Option, Some, None, IfSome, refl, sym, ap, subst, ◌∙◌, arith}
+use Rattle.std.proofs.Common.{◌≡◌, ℕ, zero, suc, ◌+◌, ◌-◌, ◌*◌, ◌^◌, ◌<◌, ◌≤◌, List, ◌∷◌, length, drop, Option, Some, None, IfSome, Ok, refl, sym, ap, subst, ◌∙◌, arith}
 use Rattle.ac_input.specs.declared.search.MatchKind.{MatchKind}
 use Rattle.ac_input.specs.Computed.{pick_of, walk_from, walk_after}
 use Rattle.ac_input.specs.Input.{Asked}
 use Rattle.ac_input.specs.Occurrence.{Search, Occurrence, starting_at}
+use Rattle.ac_input.specs.declared.steps.Steps.{Steps}
 use Rattle.ac_input.proofs.lemmas.WalkLemmas.{walk_from-none, walk_from-some}
 use Rattle.ac_automaton.specs.Automaton.{Built, kind_asked, searched}
-use Rattle.ac_automaton.specs.Iter.{Walk, GivesPick, IsOnItsWay, IsPlaceIn, left_of, walk_from_place, walk_after_pick}
+use Rattle.ac_automaton.specs.Iter.{CostsPick, GivesPick, IsOnItsWay, IsPickCost, IsPickWork, IsPlaceIn, PickCounts, Walk, left_of, walk_kind}
 use Rattle.ac_automaton.proofs.iter.IterLemmas.{pick-yields}
 use Rattle.aho_corasick.specs.AhoCorasick.{as_built}
 use Rattle.aho_corasick.specs.declared.ahocorasick.AhoCorasick.{AhoCorasick}
 use Rattle.ac_c.specs.declared.found.Found.{Found}
 use Rattle.ac_c.specs.declared.walk.Cursor.{Cursor}
 use Rattle.ac_c.specs.Find.{asked_by}
-use Rattle.ac_c.specs.Walk.{AreGiven, Goes, IsCursorAfter, IsCursorIn, IsFirstLeft, TakesSome, bounds_of, last_of, left_of_walk, no_place, place_of_cursor}
+use Rattle.ac_c.specs.Walk.{AreGiven, CostsSome, Goes, IsCursorAfter, IsCursorIn, IsFirstLeft, TakesSome, bounds_of, last_of, left_of_walk, no_place, walk_of_cursor}
+use Rattle.ac_c.specs.Walking.{WalksTo}
+use Rattle.ac_c.proofs.walking.WalkingLemmas.{after-same}
 
 -- the matches of a walk from a place on don't depend on where its search began
 one-more : (turns : ℕ) (kind : MatchKind) (s : Search) (begun at : ℕ) (last : Option ℕ) (r : Option Occurrence) → pick_of kind s at last ≡ r
@@ -54,14 +57,9 @@ cursor-after ac haystack c d v fits inside built asked within goes =
           ∙ (wherever (2 * (s.end + 1 - v.at) + 1) kind s v.at v.at v.last ∙ sym (λ i. walk_after (kind_asked (built i) (asked i)) (searched (built i) (asked i)) v.at v.last)));
     }
 
--- the next match of a walk changes neither its automaton nor its input
-pub after-same : (w : Walk) (r : Option Occurrence) (v : Walk) → (v ≡ record (walk_after_pick w r) { looked = v.looked; scanned = v.scanned; moved = v.moved }) → (v.built ≡ w.built) × (v.asked ≡ w.asked)
-after-same w None v h = (ap (λ (z : Walk). z.built) h, ap (λ (z : Walk). z.asked) h)
-after-same w (Some o) v h = (ap (λ (z : Walk). z.built) h, ap (λ (z : Walk). z.asked) h)
-
 -- one step from a cursor gives the first match left, and moves the cursor after it
 pub cursor-step : (ac : AhoCorasick) (haystack : List ℕ) (c d : Cursor) (w v : Walk) (r : Option Occurrence) → length haystack < 2 ^ 63 → IsCursorIn haystack c
-    → w ≡ walk_from_place (as_built ac) (asked_by haystack (bounds_of c)) (place_of_cursor c) → GivesPick w r v → IsOnItsWay v → IsPlaceIn v.asked (record { start = v.at; last = v.last }) → Goes c (record { start = v.at; last = v.last }) d
+    → w ≡ walk_of_cursor ac haystack c → GivesPick w r v → IsOnItsWay v → IsPlaceIn v.asked (record { start = v.at; last = v.last }) → Goes c (record { start = v.at; last = v.last }) d
     → (rest : List Occurrence) × IsFirstLeft (left_of_walk ac haystack c) r rest × IsCursorAfter ac haystack c d rest
 cursor-step ac haystack c d w v r fits valid e gives way within goes =
     let same = after-same w r v gives.1 in (
@@ -70,13 +68,28 @@ cursor-step ac haystack c d w v r fits valid e gives way within goes =
       cursor-after ac haystack c d v fits valid.0.1 (same.0 ∙ ap (λ (z : Walk). z.built) e) (same.1 ∙ ap (λ (z : Walk). z.asked) e) within goes,
     )
 
+-- one step from a cursor costs what the next pick of its walk may
+pub step-cost : (ac : AhoCorasick) (haystack : List ℕ) (c : Cursor) (w v : Walk) (r : Option Occurrence) (before after : Steps)
+    → w ≡ walk_of_cursor ac haystack c → CostsPick w v before after r
+    → IsPickCost (as_built ac) (asked_by haystack (bounds_of c)) before after r × PickCounts (as_built ac) (asked_by haystack (bounds_of c)) r before after
+step-cost ac haystack c w v r before after e cost = (
+  subst (λ (z : Walk). IsPickWork (walk_kind z) z.built.deterministic (searched z.built z.asked) z.at r before after) e cost.1.pick,
+  subst (λ (z : Walk). PickCounts z.built (record z.asked { span = record z.asked.span { start = z.at } }) r before after) e cost.2.pick,
+)
+
 -- several steps from a cursor fill the buffer, and move the cursor after the last match
-pub cursor-some : (ac : AhoCorasick) (haystack : List ℕ) (c : Cursor) (w : Walk) (old new : List Found) (taken : ℕ × Cursor) → length haystack < 2 ^ 63 → IsCursorIn haystack c
-    → w ≡ walk_from_place (as_built ac) (asked_by haystack (bounds_of c)) (place_of_cursor c) → TakesSome w c old new taken
+pub cursor-some : (ac : AhoCorasick) (haystack : List ℕ) (c : Cursor) (w : Walk) (old new : List Found) (before after : Steps) (taken : ℕ × Cursor) → length haystack < 2 ^ 63 → IsCursorIn haystack c
+    → w ≡ walk_of_cursor ac haystack c → TakesSome w c old new before after taken
     → AreGiven (left_of_walk ac haystack c) old new taken.0 × IsCursorAfter ac haystack c taken.1 (drop taken.0 (left_of_walk ac haystack c))
-cursor-some ac haystack c w old new taken fits valid e h =
+cursor-some ac haystack c w old new before after taken fits valid e h =
     let all : left_of w ≡ left_of_walk ac haystack c = ap left_of e in (
       subst (λ (os : List Occurrence). AreGiven os old new taken.0) all h.given,
       subst (IsCursorAfter ac haystack c taken.1) (h.rest ∙ ap (drop taken.0) all)
-          (cursor-after ac haystack c taken.1 h.after fits valid.0.1 (h.built ∙ ap (λ (z : Walk). z.built) e) (h.asked ∙ ap (λ (z : Walk). z.asked) e) h.within h.goes),
+          (cursor-after ac haystack c taken.1 h.moved fits valid.0.1 (h.cost.built ∙ ap (λ (z : Walk). z.built) e) (h.cost.asked ∙ ap (λ (z : Walk). z.asked) e) h.within h.goes),
     )
+
+-- and cost what the walk does from one cursor to the other
+pub some-cost : (ac : AhoCorasick) (haystack : List ℕ) (c : Cursor) (w : Walk) (old new : List Found) (before after : Steps) (taken : ℕ × Cursor)
+    → w ≡ walk_of_cursor ac haystack c → TakesSome w c old new before after taken → CostsSome ac haystack c before after (Ok taken)
+some-cost ac haystack c w old new before after taken e h =
+    (h.moved, subst (λ (z : Walk). WalksTo z h.moved before after) e h.cost, sym (ap (λ (z : Cursor). z.start) h.goes.0))

@@ -5,6 +5,7 @@ use Rattle.ac_automaton.specs.Iter.{left_of}
 use Rattle.ac_automaton.specs.Replace.{LieInOrder}
 use Rattle.ac_c.specs.Replace.{text_of}
 use Rattle.ac_c.proofs.replace.ReplaceLemmas.{IsWritten}
+use Rattle.ac_c.specs.Walking.{WalksTo}
 use Rattle.ac_c.proofs.replace.write_text.Given as goal
 
 abbrev pub invariant-loop-found : goal.invariant-loop-found
@@ -12,6 +13,7 @@ invariant-loop-found g l = let walk = g.W.Walking.walk in record {
   written : IsWritten (text_of l.haystack l.replacements (left_of (walk l.fn.matches))) l.fn.out l.out l.len (replaced_from l.at l.haystack (map (λ r. r.now) l.replacements) (left_of (walk l.matches)));
   lies : LieInOrder (length l.replacements) (length l.haystack) l.at (left_of (walk l.matches));
   within : l.at ≤ length l.haystack;
+  cost : WalksTo (walk l.fn.matches) (walk l.matches) l.fn.steps l.steps;
 }
 
 abbrev pub decreases-loop-found : goal.decreases-loop-found

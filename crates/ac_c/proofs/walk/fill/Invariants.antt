@@ -1,7 +1,8 @@
 -- The buffer begins with the matches given so far, and the walk has the rest.
 use Rattle.std.proofs.Common.{◌≡◌, ◌≤◌, length, map, take, drop}
-use Rattle.ac_automaton.specs.Iter.{IsOnItsWay, left_of}
+use Rattle.ac_automaton.specs.Iter.{left_of}
 use Rattle.ac_c.specs.Found.{shown}
+use Rattle.ac_c.specs.Walking.{WalksTo}
 use Rattle.ac_c.proofs.walk.fill.Given as goal
 
 abbrev pub invariant-loop-at : goal.invariant-loop-at
@@ -9,7 +10,5 @@ invariant-loop-at g l = let walk = g.W.Walking.walk in record {
   rest : left_of (walk l.matches) ≡ drop l.at (left_of (walk l.fn.matches));
   enough : l.at ≤ length (left_of (walk l.fn.matches));
   given : take l.at l.out ≡ map shown (take l.at (left_of (walk l.fn.matches)));
-  built : (walk l.matches).built ≡ (walk l.fn.matches).built;
-  asked : (walk l.matches).asked ≡ (walk l.fn.matches).asked;
-  way : IsOnItsWay (walk l.matches);
+  cost : WalksTo (walk l.fn.matches) (walk l.matches) l.fn.steps l.steps;
 }

@@ -8,4 +8,4 @@ returns g c =
     let f = c.fill-count.ensures in let v = g.W.Walking.walk c.fill-count.new.matches in
     let goes : Goes c.args.cursor (record { start = v.at; last = v.last }) c.moved.result = rw c.stands.ensures.value at c.moved.ensures in
     let within : IsPlaceIn v.asked (record { start = v.at; last = v.last }) = rw c.stands.ensures.value at c.stands.ensures.within in
-    record { given = record { count = f.count; given = f.given }; after = v; rest = f.rest; built = f.built; asked = f.asked; within = within; goes = goes }
+    record { given = f.given; moved = v; rest = f.rest; cost = f.cost; within = within; goes = goes }

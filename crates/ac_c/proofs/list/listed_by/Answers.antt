@@ -1,9 +1,0 @@
--- A search from where the next one starts finds what is left of the listing.
-use Rattle.ac_c.proofs.list.ListLemmas.{listed}
-use Rattle.ac_c.proofs.list.listed_by.Goals as goal
-
-pub returns-in-Ok : goal.returns-in-Ok
-returns-in-Ok c =
-    let valid = c.in-Some.ensures.0 in let can = rw c.in-Some.ensures.1 at c.in-Ok.ensures.answer.0 in
-    let l = listed c.args.ac.now c.args.haystack.now c.args.place c.in-Some.input c.in-Ok.matches c.args.out.now c.fill.new.out c.max_pattern_len.result c.fill.result valid c.max_pattern_len.ensures c.in-Some.ensures.1 c.in-Ok.ensures.answer.2 c.fill.ensures.count c.fill.ensures.given in
-    (valid, can.0, l.0, l.1)

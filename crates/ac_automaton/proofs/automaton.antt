@@ -1,3 +1,4 @@
+pub mod FreeLemmas
 pub mod LinkedLemmas
 pub mod NamedLemmas
 pub mod NamedPassingLemmas

@@ -4,6 +4,7 @@ pub mod CutLemmas
 pub mod DecodeLemmas
 pub mod EntryLemmas
 pub mod FollowLemmas
+pub mod FreeLemmas
 pub mod LaidRowLemmas
 pub mod LayLemmas
 pub mod LenLemmas

@@ -1,6 +1,7 @@
 pub mod CellLemmas
 pub mod DfaBuildLemmas
 pub mod DfaCopyLemmas
+pub mod DfaFreeLemmas
 pub mod DfaIdleLemmas
 pub mod DfaListLemmas
 pub mod DfaPassingLemmas

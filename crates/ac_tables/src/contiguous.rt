@@ -61,6 +61,7 @@ ghost use Rattle.ac_literal.specs.Openings.{AreOpenings};
 ghost use Rattle.ac_automaton.specs.Starters.{SkipsBelow};
 ghost use Rattle.ac_tables.specs.Contiguous.ContiguousTable.{AreSomeStates, AreContiguousParts};
 ghost use Rattle.ac_tables.specs.Contiguous.WordReads.{IsIdleAt};
+ghost use Rattle.ac_tables.specs.TableClasses.{ShareClasses};
 
 use crate::contiguous::rows::Rows;
 use crate::contiguous::table::Table;
@@ -86,12 +87,13 @@ pub struct NFA {
     lens: PatternLens,
     /// The last state at which a search has more to do than to read on.
     max_special: StateID,
-    /// Bytes that no pattern has.
+    /// Bytes that no pattern has; each shares its class with another.
     unused: ByteSet,
     prefilter: Option<Prefilter>,
     pairing: Pairing,
     kind: MatchKind,
     ghost paired: { IsPairing pairing },
+    ghost shared: { ∥ ShareClasses table.classes unused ∥₁ },
     ghost within: { ∥ IsWithinLimits (dictionary_of lens pairing kind) ∥₁ },
     ghost stands: { AreSomeStates (dictionary_of lens pairing kind) table rows },
     ghost begins: { skips.start ≡ table.start },

@@ -50,6 +50,7 @@ ghost use Rattle.ac_literal.specs.Openings.{AreOpenings};
 ghost use Rattle.ac_automaton.specs.Starters.{SkipsBelow};
 ghost use Rattle.ac_tables.specs.Dfa.DfaLookups.{IsIdleIn};
 ghost use Rattle.ac_tables.specs.Dfa.DfaTable.{AreDfaParts, AreDfaRows};
+ghost use Rattle.ac_tables.specs.TableClasses.{ShareClasses};
 ghost use Rattle.ac_automaton.specs.Named.{Naming};
 
 use crate::dfa::table::Table;
@@ -73,12 +74,13 @@ pub struct DFA {
     lens: PatternLens,
     /// The last state at which a search has more to do than to read on.
     max_special: StateID,
-    /// Bytes that no pattern has.
+    /// Bytes that no pattern has; each shares its class with another.
     unused: ByteSet,
     prefilter: Option<Prefilter>,
     pairing: Pairing,
     kind: MatchKind,
     ghost paired: { IsPairing pairing },
+    ghost shared: { ∥ ShareClasses table.classes unused ∥₁ },
     ghost stands: { ∥ ((names : Naming) × AreDfaRows (dictionary_of lens pairing kind) table names) ∥₁ },
     ghost special: { max_special ≡ last_special_of prefilter table.start_anchored table.max_match },
     ghost begins: { skips.start ≡ table.start },

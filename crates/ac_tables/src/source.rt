@@ -3,7 +3,7 @@ ghost use Rattle.std.specs.Prelude.{IfErr, IfOk};
 ghost use Rattle.ac_noncontiguous.specs.Builder.{IsBuiltOf, dictionary_by};
 ghost use Rattle.ac_noncontiguous.specs.Nfa.Reads.{built_as, dictionary};
 ghost use Rattle.ac_noncontiguous.specs.Standing.{IsBuildRefused};
-ghost use Rattle.ac_tables.specs.TableClasses.{AreClassesFor, AreServing};
+ghost use Rattle.ac_tables.specs.TableClasses.{AreClassesFor, AreServing, ShareClasses};
 
 use ac_input::alphabet::{ByteClasses, ByteSet};
 use ac_noncontiguous::builder::Builder;
@@ -42,9 +42,9 @@ pub(crate) fn classes_of(nfa: &NFA, byte_classes: bool) -> Result<ByteClasses, A
 
 /// Bytes that no pattern has, nor their partners: those that share their class with the byte before or after them. A byte that a
 /// pattern has is alone in its class. One that none has is left out where both of its neighbours are used.
-///
-/// They only choose where lanes begin, so no contract says what they are.
-pub(crate) fn unused(classes: &ByteClasses) -> ByteSet {
+pub(crate) fn unused(classes: &ByteClasses) -> ByteSet
+    ensures { ShareClasses classes.now result }
+{
     let mut unused = ByteSet::empty();
     for byte in 1..256usize {
         let (before, here) = (byte as u8 - 1, byte as u8);

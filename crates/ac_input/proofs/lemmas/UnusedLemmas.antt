@@ -1,20 +1,27 @@
--- No occurrence covers a byte that no pattern has, so a search splits after it.
-use Rattle.std.proofs.Common.{◌≡◌, ◌≢◌, ◌⊎◌, inl, inr, ⊎_elim, ℕ, zero, suc, ◌+◌, ◌-◌, ◌<◌, ◌≤◌, false, List, [], ◌∷◌, ◌++◌, length, drop, Option, Some, None, IsTrue, Contains, slice_get, slice_index, slice_range, Less, Greater, sym, ap, subst, ◌∙◌, arith}
+-- No occurrence covers a byte that no pattern has, so a search splits after it, and the standard kind begins anew there.
+use Rattle.std.proofs.Common.{◌≡◌, ◌≢◌, ◌⊎◌, inl, inr, ⊎_elim, ℕ, zero, suc, ◌+◌, ◌-◌, ◌<◌, ◌≤◌, false, List, [], ◌∷◌, ◌++◌, length, drop, map, Option, Some, None, IsTrue, Contains, slice_get, slice_index, slice_range, Less, Greater, sym, ap, subst, ◌∙◌, arith, length-append}
 use Rattle.std.specs.Cmp.{nat_cmp_is}
 use Rattle.std.proofs.lemmas.Bool.{and_parts, false≢true, cases_lt}
 use Rattle.std.proofs.lemmas.Option.{same_Some, none-some}
-use Rattle.std.proofs.lemmas.List.{get_or-take, get_or-drop}
+use Rattle.std.proofs.lemmas.List.{get_or-take, get_or-drop, drop-append-le, drop_all}
 use Rattle.std.proofs.lemmas.Grind.{get_or_default_zero}
 use Rattle.std.proofs.lemmas.List.Elements.{Contains-append_left, Contains-append_right, Contains-append_cases}
 use Rattle.ac_input.specs.declared.search.MatchKind.{MatchKind}
 use Rattle.ac_input.specs.declared.search.MatchKind.TheVariants.{Standard, LeftmostFirst, LeftmostLongest}
+use Rattle.ac_input.specs.Alphabet.Classes.{IsByteOf}
+use Rattle.ac_input.specs.Dictionary.{Dictionary, BeginsEntered, IsLive}
+use Rattle.ac_input.specs.Laws.LiveLaws.{IsOwnInverse, canonical}
 use Rattle.ac_input.specs.Same.{same, same_text}
+use Rattle.ac_input.specs.States.{LeadsTo}
 use Rattle.ac_input.specs.Occurrence.{Search, Occurrence, Occurs, starting_at}
 use Rattle.ac_input.specs.Best.{preference, IsBest}
 use Rattle.ac_input.specs.Walk.{Repeats, IsPick, Here, Further, IsWalk}
 use Rattle.ac_input.specs.Computed.{walk_after, listing_of}
 use Rattle.ac_input.specs.Work.{shortest}
 use Rattle.ac_input.specs.Unused.{IsAfterUnused}
+use Rattle.ac_input.proofs.lemmas.ClassLemmas.{unknown-ends}
+use Rattle.ac_input.proofs.lemmas.LeadsLemmas.{leads-one}
+use Rattle.ac_input.proofs.lemmas.LiveLemmas.{alive-end}
 use Rattle.ac_input.proofs.lemmas.OrderLemmas.{occurs-end, less-not_greater, same_text-length, slice_range-length}
 use Rattle.ac_input.proofs.lemmas.RisingLemmas.{less_by_end, IsRising-append}
 use Rattle.ac_input.proofs.lemmas.WalkLemmas.{occurs-earlier, walk_after-walk, walk-computed}
@@ -208,3 +215,25 @@ listing-splits s place inside free some le to after =
             (unused-besides s place o inside some after occurs),
       ),
     ))
+
+-- ---- where an unused byte leads
+
+-- under standard, no byte of a text is live just after a byte that stands in no entered pattern
+unused-live : (m : Dictionary) (text : List ℕ) (byte : ℕ) → IsOwnInverse m.pairing → m.kind ≡ Standard → (¬ IsByteOf m byte) → IsLive m false (text ++ byte ∷ []) (Some (length (text ++ byte ∷ [])))
+unused-live m text byte inverse standard unused = (
+  alive-end m (text ++ byte ∷ []) (inl standard),
+  λ other alive. ⊎_elim
+      (λ (early : other < length (text ++ byte ∷ [])).
+      let long = length-append text (byte ∷ []) in
+      let inside : other ≤ length text = omega (arith, early, long) in
+      absurd (unknown-ends m (drop other text) byte inverse unused (subst (BeginsEntered m) (drop-append-le other text (byte ∷ []) inside) alive.begins)))
+      (λ (late : length (text ++ byte ∷ []) ≤ other). late)
+      (cases_lt other (length (text ++ byte ∷ []))),
+)
+
+-- under standard, a byte that stands in no entered pattern leads back to the start, whatever was read before it
+pub unused-starts : (m : Dictionary) (text : List ℕ) (byte : ℕ) (r : Option (List ℕ)) → IsOwnInverse m.pairing → m.kind ≡ Standard → (¬ IsByteOf m byte) → LeadsTo m false (text ++ byte ∷ []) r → r ≡ Some []
+unused-starts m text byte r inverse standard unused leads =
+    let all = text ++ byte ∷ [] in
+    let empty : [] ≡ map (canonical m.pairing) (drop (length all) all) = sym (ap (map (canonical m.pairing)) (drop_all (length all) all (omega arith))) in
+    leads-one m false all r (Some []) leads (length all, unused-live m text byte inverse standard unused, empty)

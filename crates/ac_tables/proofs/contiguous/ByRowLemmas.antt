@@ -1,14 +1,15 @@
 -- Reading on by rows leads where the words do: each row that is read is that of a place that is read.
-use Rattle.std.proofs.Common.{◌≡◌, ℕ, ◌+◌, ◌<◌, false, IsTrue, List, [], ◌∷◌, ◌++◌, length, Option, Some, refl, sym, subst, ◌∙◌, arith}
+use Rattle.std.proofs.Common.{◌≡◌, ℕ, ◌+◌, ◌<◌, Bool, false, true, IsTrue, List, [], ◌∷◌, ◌++◌, length, take, Option, Some, refl, sym, subst, ◌∙◌, arith}
 use Rattle.std.specs.Coded.{le_prop, Coded-set, coded_ℕ, coded_bool}
 use Rattle.std.proofs.Math.Logic.{∥∥₁_elim}
 use Rattle.ac_input.specs.Alphabet.{class}
 use Rattle.ac_input.specs.declared.search.Anchored.{Anchored}
 use Rattle.ac_input.specs.declared.search.Anchored.TheVariants.{No}
 use Rattle.ac_input.specs.declared.steps.Steps.{Steps}
-use Rattle.ac_input.specs.Dictionary.{IsLive}
+use Rattle.ac_input.specs.Dictionary.{IsLive, live_len}
 use Rattle.ac_input.specs.Input.{is_anchored}
 use Rattle.ac_input.specs.Tells.{Tells}
+use Rattle.ac_input.specs.Work.{IsLookups}
 use Rattle.ac_automaton.specs.Automaton.{IsReached, Leads}
 use Rattle.ac_automaton.specs.Named.{Naming, IsStep}
 use Rattle.ac_automaton.specs.ReadOn.{ReadsTo}
@@ -84,6 +85,16 @@ row-leads by anchored row byte next small is text reads =
 
 -- ---- reading on
 
+-- exactly one look for each byte is within what any automaton may look
+lookups-any : (deterministic : Bool) (n before after : ℕ) (s t : Steps) → IsLookups true n before after s t → IsLookups deterministic n before after s t
+lookups-any deterministic n before after s t h = record {
+  some = h.some;
+  bound = h.bound;
+  one = λ is. h.one refl;
+  scanned = h.scanned;
+  moved = h.moved;
+}
+
 -- where reading on by rows stops, reading on by places stops
 pub reads-by_rows : (by : ByRows) (row : ℕ) (bytes : List ℕ) (two : Between) (stop : Advance) (s t : Steps) → IsRowIn by.rows.now row → IsReached (IsContiguousRead by.nfa.now No) (place_in_row by.rows.now row) → ReadsTo (by_rows_built_as by) (IsRowRead by) No two row bytes stop s t → ReadsRows by.nfa.now by.rows.now row bytes two (record { sid = place_in_row by.rows.now stop.sid; taken = stop.taken }) s t
 reads-by_rows by row bytes two stop s t one reached h to same =
@@ -101,5 +112,5 @@ reads-by_rows by row bytes two stop s t one reached h to same =
         );
         stops = λ lt. ∥∥₁_elim reached (Coded-set coded_bool _ _) (λ w. sym (same stop.sid (h.goes.reads w.0 (from w.0 w.1)).one) ∙ h.goes.stops lt);
       };
-      cost = λ text p q reads g l. h.cost text p q (from text reads) g l;
+      cost = λ text p q reads g l. lookups-any false (length (take stop.taken bytes)) (live_len text p) (live_len (text ++ take stop.taken bytes) q) s t (h.cost text p q (from text reads) g l);
     }

@@ -77,6 +77,7 @@ states nfa dense_depth table text h t =
     record {
       alphabet = t.alphabet;
       few_classes = t.few_classes;
+      alone = h.serving.alone;
       small = λ anchored. each anchored (λ sid. sid ≤ greatest_number) (λ i i_in i_met. h.fits i i_in);
       stand = λ anchored. each anchored (λ sid. AreWordsAt table.words.items sid (words_of table.alphabet_len (parts sid))) (λ i i_in i_met.
           subst (λ (s : StateParts). AreWordsAt table.words.items (place i) (words_of table.alphabet_len s)) (sym (at i i_in))

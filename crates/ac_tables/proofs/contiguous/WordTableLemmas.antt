@@ -111,6 +111,7 @@ words-copied : (m : Dictionary) (old new : Table) (names : Naming) (parts : ℕ 
 words-copied m old new names parts same h = record {
   alphabet = h.alphabet;
   few_classes = h.few_classes;
+  alone = h.alone;
   small = h.small;
   stand = λ anchored sid met. subst (λ (ws : List ℕ). AreWordsAt ws sid (words_of old.alphabet_len (parts sid))) (sym same) (h.stand anchored sid met);
   fits = h.fits;

@@ -46,6 +46,7 @@ moved-rows m old new names s h =
     let patterns = ap length s.lists.patterns in
     record {
       classes = h.classes;
+      alone = h.alone;
       within = λ a sid met. let w = h.within a sid met in (let room = w.0 in omega (arith, room, long), w.1);
       rows = h.rows;
       dead = h.dead;
@@ -60,6 +61,7 @@ moved-rows m old new names s h =
         within = λ k lt. let w = h.ranges.within k (omega (arith, lt, ends)) in let b = end-same old.lists new.lists k s.lists in omega (arith, w, b, patterns);
       };
       unanchored = h.unanchored;
+      only = h.only;
       greatest = h.greatest;
       wide = h.wide;
       starts = h.starts;

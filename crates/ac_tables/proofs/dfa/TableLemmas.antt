@@ -1,6 +1,8 @@
 -- A table made from an automaton is that of its dictionary: its numbers stand for what the automaton's states stand for.
 use Rattle.std.proofs.Common.{◌≡◌, ◌≢◌, ◌⊎◌, ◌↔◌, ℕ, ◌+◌, ◌*◌, ◌<◌, ◌≤◌, Bool, true, false, IsTrue, List, [], ◌∷◌, ◌++◌, length, Some, None, inl, inr, ⊎_elim, refl, sym, ap, subst, ◌∙◌, arith}
 use Rattle.std.specs.Prelude.{slice_index, nat_le, ◌==◌, ◌&&◌, ◌/◌, not}
+use Rattle.std.specs.Coded.{Coded-set, coded_ℕ}
+use Rattle.std.proofs.Math.Logic.{∥∥₁_elim}
 use Rattle.std.proofs.lemmas.Bool.{cases_lt, cases_Bool, cond-true, cond-false}
 use Rattle.std.proofs.lemmas.Bool.Decides.{nat_tests}
 use Rattle.std.proofs.lemmas.Nat.{mul-le}
@@ -12,14 +14,16 @@ use Rattle.ac_input.specs.Dfa.{Serves, dfa_states}
 use Rattle.ac_input.specs.Failure.{IsList}
 use Rattle.ac_input.specs.Input.{is_anchored}
 use Rattle.ac_input.specs.States.{LeadsTo}
+use Rattle.ac_input.proofs.lemmas.ClassLemmas.{byte-alone}
 use Rattle.ac_automaton.specs.Named.{Naming, IsStep, IsFirst}
 use Rattle.ac_noncontiguous.specs.declared.nfa.NFA.{NFA}
 use Rattle.ac_noncontiguous.specs.Nfa.Lookups.{other_start}
 use Rattle.ac_noncontiguous.specs.Nfa.{state_of, AreTables}
 use Rattle.ac_noncontiguous.specs.Nfa.Reads.{dictionary, matches_at}
-use Rattle.ac_noncontiguous.specs.Nfa.ReadCalls.{state_len, special_in, MayBeMet, IsReadable}
+use Rattle.ac_noncontiguous.specs.Nfa.ReadCalls.{state_len, classes_in, special_in, MayBeMet, IsReadable}
 use Rattle.ac_noncontiguous.proofs.nfa.NextLemmas.{state-some, state-none}
 use Rattle.ac_tables.specs.declared.dfa.table.Table.{Table}
+use Rattle.ac_tables.specs.TableClasses.{AreBytesAlone}
 use Rattle.ac_tables.specs.Dfa.DfaMade.{IsDfaTableOf}
 use Rattle.ac_tables.specs.Dfa.DfaTable.{dfa_row_of, stride_of, list_index, dfa_list_of, dfa_matches_by, start_by, AreDfaRows, dfa_number_of}
 use Rattle.ac_tables.proofs.contiguous.PlacesLemmas.{AreApartInTable, named-met, named-state, named-text, met-stands, met-unanchored, met-anchored, met-start, met-start_anchored, named_by, is_met}
@@ -150,25 +154,35 @@ table-first nfa table text h t =
           }),
     )
 
+-- a byte that stands in an entered pattern is a class of the table alone, since it is one of the automaton's classes alone
+table-alone : (nfa : NFA) (table : Table) → IsDfaTableOf nfa table → AreBytesAlone (dictionary nfa) table.classes
+table-alone nfa table h b small stands c c_small same =
+    ∥∥₁_elim h.fit.source.classes (Coded-set coded_ℕ c b) (λ are. byte-alone (dictionary nfa) (classes_in nfa) b are small stands c c_small (h.fit.finer c b c_small small same))
+
+-- a number that stands for the empty text is the start of its searches
+table-empty : (nfa : NFA) (table : Table) (text : ℕ → List ℕ) → IsDfaTableOf nfa table → AreTables (dictionary nfa) text nfa.tables → (a : Bool) (sid : ℕ) → IsTrue ((names_of nfa table text).met a sid) → (names_of nfa table text).text sid ≡ Some [] → sid ≡ start_by table a
+table-empty nfa table text h t a sid met empty =
+    let n = number-of nfa table text a sid h met in
+    let s = text-some text n.0 [] (met-stands (special_in nfa).start_unanchored_id a n.0 n.1.met) (sym n.1.named ∙ empty) in
+    by a n.0 ((texts-of nfa text t).others n.0 s.0 n.1.within (sym s.1)) n.1.met n.1.number
+  where
+    by : (b : Bool) (i : ℕ) → (i ≡ (special_in nfa).start_unanchored_id) ⊎ (i ≡ (special_in nfa).start_unanchored_id + 1) → IsTrue (is_met (special_in nfa).start_unanchored_id b i) → sid ≡ dfa_number_of table.kind (special_in nfa).start_unanchored_id (stride_of table) b i → sid ≡ start_by table b
+    by false i (inl here) met_i is = is ∙ (ap (dfa_number_of table.kind (special_in nfa).start_unanchored_id (stride_of table) false) here ∙ sym h.start)
+    by false i (inr other) met_i is = absurd (met-unanchored (special_in nfa).start_unanchored_id i met_i other)
+    by true i (inl other) met_i is = absurd (met-anchored (special_in nfa).start_unanchored_id i met_i other)
+    by true i (inr here) met_i is = is ∙ (ap (dfa_number_of table.kind (special_in nfa).start_unanchored_id (stride_of table) true) here ∙ sym h.start_anchored)
+
 -- a number stands for the empty text exactly if it is a start
 table-starting : (nfa : NFA) (table : Table) (text : ℕ → List ℕ) → IsDfaTableOf nfa table → AreTables (dictionary nfa) text nfa.tables → (a : Bool) (sid : ℕ) → IsTrue ((names_of nfa table text).met a sid) → ((names_of nfa table text).text sid ≡ Some []) ↔ ((sid ≡ table.start) ⊎ (sid ≡ table.start_anchored))
 table-starting nfa table text h t a sid met =
-    let start = (special_in nfa).start_unanchored_id in
-    let n = number-of nfa table text a sid h met in
-    let i = n.0 in
-    let texts = texts-of nfa text t in
     let first = table-first nfa table text h t in (
-      λ empty.
-          let s = text-some text i [] (met-stands start a i n.1.met) (sym n.1.named ∙ empty) in
-          by a i (texts.others i s.0 n.1.within (sym s.1)) n.1.met n.1.number,
+      λ empty. by a (table-empty nfa table text h t a sid met empty),
       λ is. ⊎_elim (λ (l : sid ≡ table.start). ap (names_of nfa table text).text l ∙ first.0.empty) (λ (r : sid ≡ table.start_anchored). ap (names_of nfa table text).text r ∙ first.1.empty) is,
     )
   where
-    by : (b : Bool) (i : ℕ) → (i ≡ (special_in nfa).start_unanchored_id) ⊎ (i ≡ (special_in nfa).start_unanchored_id + 1) → IsTrue (is_met (special_in nfa).start_unanchored_id b i) → sid ≡ dfa_number_of table.kind (special_in nfa).start_unanchored_id (stride_of table) b i → (sid ≡ table.start) ⊎ (sid ≡ table.start_anchored)
-    by false i (inl here) met_i is = inl (is ∙ (ap (dfa_number_of table.kind (special_in nfa).start_unanchored_id (stride_of table) false) here ∙ sym h.start))
-    by false i (inr other) met_i is = absurd (met-unanchored (special_in nfa).start_unanchored_id i met_i other)
-    by true i (inl other) met_i is = absurd (met-anchored (special_in nfa).start_unanchored_id i met_i other)
-    by true i (inr here) met_i is = inr (is ∙ (ap (dfa_number_of table.kind (special_in nfa).start_unanchored_id (stride_of table) true) here ∙ sym h.start_anchored))
+    by : (b : Bool) → sid ≡ start_by table b → (sid ≡ table.start) ⊎ (sid ≡ table.start_anchored)
+    by false is = inl is
+    by true is = inr is
 
 -- ---- lists
 
@@ -318,6 +332,7 @@ table-rows nfa table text h t =
     let stride = stride-some nfa table h in
     record {
       classes = h.fit.letters;
+      alone = table-alone nfa table h;
       within = λ a sid met.
           let n = number-of nfa table text a sid h met in
           let is = n.1.number in
@@ -340,6 +355,7 @@ table-rows nfa table text h t =
       listed = λ a sid met not_zero. (table-matching nfa table text h t a sid met not_zero).1;
       ranges = h.lists.2.ranges;
       unanchored = by-unanchored;
+      only = table-empty nfa table text h t false;
       greatest =
           ⊎_elim
           (λ (before : (special_in nfa).max_match_id + 1 ≡ start).

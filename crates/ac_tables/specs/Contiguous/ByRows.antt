@@ -1,5 +1,5 @@
 -- What is known of a row that a search has come to.
-use Rattle.std.specs.Prelude.{◌≡◌, ℕ, List, Option}
+use Rattle.std.specs.Prelude.{◌≡◌, ℕ, true, List, Option}
 use Rattle.ac_input.specs.declared.search.Anchored.{Anchored}
 use Rattle.ac_input.specs.declared.search.Anchored.TheVariants.{No}
 use Rattle.ac_input.specs.Dictionary.{IsLive}
@@ -17,9 +17,9 @@ use Rattle.ac_tables.specs.declared.contiguous.NFA.{NFA}
 use Rattle.ac_tables.specs.declared.contiguous.by_rows.ByRows.{ByRows}
 use Rattle.ac_tables.specs.declared.contiguous.rows.Rows.{Rows}
 
--- what the automaton was built as
+-- what the automaton was built as, except that exactly one row is looked at for a byte
 abbrev pub by_rows_built_as : ByRows → Built
-by_rows_built_as by = contiguous_built_as by.nfa.now
+by_rows_built_as by = record (contiguous_built_as by.nfa.now) { deterministic = true }
 
 -- the patterns that match at the place of a row
 abbrev pub row_matches_at : ByRows → ℕ → List ℕ

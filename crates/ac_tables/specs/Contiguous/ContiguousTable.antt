@@ -12,7 +12,7 @@ use Rattle.ac_noncontiguous.specs.declared.nfa.NFA.{NFA}
 use Rattle.ac_noncontiguous.specs.Nfa.{IsHeldFor}
 use Rattle.ac_noncontiguous.specs.Nfa.ReadCalls.{state_len, fail_in, depth_in, edges_in}
 use Rattle.ac_noncontiguous.specs.Nfa.Reads.{matches_at}
-use Rattle.ac_tables.specs.TableClasses.{AreClassesFor}
+use Rattle.ac_tables.specs.TableClasses.{AreBytesAlone, AreClassesFor}
 use Rattle.ac_tables.specs.Contiguous.Words.{StateParts, next_by, word_count, words_of, AreWordsAt}
 use Rattle.ac_tables.specs.Contiguous.ContiguousRows.{AreRowsIfAny}
 use Rattle.ac_tables.specs.declared.contiguous.rows.Rows.{Rows}
@@ -76,6 +76,7 @@ IsContiguousWithin nfa dense_depth byte_classes = (classes : List ℕ) × AreCla
 pub record AreStates (m : Dictionary) (table : Table) (names : Naming) (parts : ℕ → StateParts) : Type 0 where
   pub alphabet : table.alphabet_len ≡ alphabet_len table.classes
   pub few_classes : table.alphabet_len ≤ 256
+  pub alone : AreBytesAlone m table.classes
   pub small : (anchored : Bool) (sid : ℕ) → IsTrue (names.met anchored sid) → sid ≤ greatest_number
   pub stand : (anchored : Bool) (sid : ℕ) → IsTrue (names.met anchored sid) → AreWordsAt table.words.items sid (words_of table.alphabet_len (parts sid))
   pub fits : (anchored : Bool) (sid k : ℕ) (edge : ℕ × ℕ) → IsTrue (names.met anchored sid) → slice_get (parts sid).edges k ≡ Some edge → edge.0 < table.alphabet_len

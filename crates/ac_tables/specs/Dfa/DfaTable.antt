@@ -16,6 +16,7 @@ use Rattle.ac_noncontiguous.specs.Nfa.{IsHeldFor}
 use Rattle.ac_noncontiguous.specs.Nfa.ReadCalls.{state_len, special_in, MayBeMet, LeadsIn}
 use Rattle.ac_tables.specs.declared.dfa.lists.Lists.{Lists}
 use Rattle.ac_tables.specs.declared.dfa.table.Table.{Table}
+use Rattle.ac_tables.specs.TableClasses.{AreBytesAlone}
 
 -- ---- the rows
 
@@ -80,9 +81,11 @@ start_by table false = table.start
 start_by table true = table.start_anchored
 
 -- The table is that of a dictionary, by this naming of its numbers. Row 1 is that of the fail state, which no search meets. The
--- anchored start's row comes right after the unanchored one's.
+-- anchored start's row comes right after the unanchored one's. Of the numbers that unanchored searches reach, only the unanchored
+-- start stands for the empty text.
 pub record AreDfaRows (m : Dictionary) (table : Table) (names : Naming) : Type 0 where
   pub classes : (byte : ℕ) → byte < 256 → class table.classes byte < stride_of table
+  pub alone : AreBytesAlone m table.classes
   pub within : (anchored : Bool) (sid : ℕ) → IsTrue (names.met anchored sid) → (sid + stride_of table ≤ length table.trans.items) × ((sid ≡ 0) ⊎ (2 * stride_of table ≤ sid))
   pub rows : (anchored : Bool) (sid : ℕ) → IsTrue (names.met anchored sid) → (row : ℕ) × (sid ≡ row * stride_of table)
   pub dead : (anchored : Bool) (sid : ℕ) → IsTrue (names.met anchored sid) → (names.text sid ≡ None) ↔ (sid ≡ 0)
@@ -94,6 +97,7 @@ pub record AreDfaRows (m : Dictionary) (table : Table) (names : Naming) : Type 0
   pub listed : (anchored : Bool) (sid : ℕ) → IsTrue (names.met anchored sid) → sid ≢ 0 → sid ≤ table.max_match → list_index table.kind (sid / stride_of table) < length table.lists.ends.items
   pub ranges : AreListRanges table.lists
   pub unanchored : names.met true table.start ≡ false
+  pub only : (sid : ℕ) → IsTrue (names.met false sid) → names.text sid ≡ Some [] → sid ≡ table.start
   pub greatest : (table.max_match + stride_of table ≡ table.start) ⊎ (table.max_match ≡ table.start_anchored)
   pub wide : table.stride2 ≤ 8
   pub starts : (row : ℕ) × (2 ≤ row) × (table.start ≡ row * stride_of table) × (table.start_anchored ≡ (row + 1) * stride_of table)

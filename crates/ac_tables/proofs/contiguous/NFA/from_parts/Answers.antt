@@ -7,3 +7,6 @@ starters-requires c = start-place (dictionary_of c.args.lens c.args.pairing c.ar
 
 pub invariant_of-result-clause-idle : goal.invariant_of-result-clause-idle
 invariant_of-result-clause-idle c = ∣ c.starters.ensures ∣₁
+
+pub invariant_of-result-clause-shared : goal.invariant_of-result-clause-shared
+invariant_of-result-clause-shared c = ∣ c.unused-unused.ensures ∣₁

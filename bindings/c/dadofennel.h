@@ -27,8 +27,8 @@
  * - Memory. Where a call says that it takes memory, it is of `malloc`, and DADO_NO_MEMORY says that there was none. Nothing is
  *   lost then: the automaton, text, stream or replacer that the call was to replace is still there. All other calls take none. A
  *   haystack is never copied; a stream copies each piece once.
- * - Cost. Where a call says how many states it looks at, or how many bytes it moves, a counted body of the library proves that: see
- *   docs/TRUST.md. How long a call takes, and how much memory, is proved of none.
+ * - Cost. What a call says of looks at states and of bytes moved is proved of the body below it, which counts them: docs/TRUST.md says
+ *   of which calls. Neither the time of a call is proved, nor how much memory it takes.
  * - Bytes that a call is given must stay the same until it returns, and what it writes to must not overlap what it reads.
  *
  * What is proved of this library, and what a caller in C must not do, is in docs/TRUST.md. The functions `dado_raw_` are those that
@@ -435,11 +435,16 @@ DADO_INLINE dado_status dado_next(const dado_automaton *ac, const uint8_t *hayst
 /*
  * The next matches of a walk, as many as `out` has room for: the first `*count` of `room` are written, and `*cursor` is set to where
  * the walk stands then. They are those that dado_next gives in as many calls. A batch reads ahead within the call where the
- * automaton can, in several lanes, which is up to several times as fast on long haystacks; take a few hundred matches at a time.
+ * automaton can, in several lanes, which is up to several times as fast on long haystacks; take a few hundred matches at a time. With
+ * room for fewer than 16 it reads nothing ahead.
  *
  * DADO_OK: some were written, or `room` is 0. Fewer than `room` means that the walk is at its end. DADO_NONE: none is left. The other
  * statuses are those of dado_next; then `*count` is 0, and `*cursor` is unchanged. DADO_BAD_ARGUMENT also if `count`, or `out` with
- * room, is NULL. Of `out` the entries from `*count` on may have changed. It takes no memory. Threads as with dado_next.
+ * room, is NULL. Of `out` the entries from `*count` on may have changed.
+ *
+ * Under the standard kind a call looks at no more than two states for each byte that the walk passes in it, or at one with a DFA. Where
+ * it reads ahead, it also looks at one for each of at most 8192 bytes after these, and the next call looks at those again. It takes no
+ * memory. Threads as with dado_next.
  */
 DADO_INLINE dado_status dado_some(const dado_automaton *ac, const uint8_t *haystack, size_t len, dado_cursor *cursor, dado_match *out,
                              size_t room, size_t *count) {
@@ -473,8 +478,9 @@ DADO_INLINE dado_place dado_place_over(size_t start, size_t end) {
  * `out` the entries from `*count` on may have changed.
  *
  * A call goes on where the last one ended: it reads again at most as many bytes before the end of the last occurrence as the longest
- * pattern has, and then each byte once, with two looks at states at most. So take a few hundred occurrences at a time. It takes no
- * memory. Any number of threads at the same time.
+ * pattern has, and then each byte once, with two looks at states at most. Where the automaton can, it reads ahead: it looks at one state
+ * for each of at most 8192 bytes after the last occurrence that it gives, and the next call looks at those again. So take a few hundred
+ * occurrences at a time. It takes no memory. Any number of threads at the same time.
  */
 DADO_INLINE dado_status dado_overlapping_some(const dado_automaton *ac, const uint8_t *haystack, size_t len, dado_place *place,
                                          dado_match *out, size_t room, size_t *count) {
@@ -501,8 +507,9 @@ DADO_INLINE dado_status dado_overlapping_some(const dado_automaton *ac, const ui
  * empty, is NULL; DADO_WRONG_COUNT: `count` isn't the number of patterns; DADO_NOT_UNANCHORED: the automaton was built for anchored
  * searches alone. At all but the first two `*needed` is 0. `out` changes at DADO_OK alone, and there not after the text.
  *
- * Searches the haystack for the length, and again to write the text if there is room for it. Takes no memory. To ask for the length
- * alone, pass NULL and 0. dado_replace searches once, and takes memory. Any number of threads at the same time.
+ * Searches the haystack for the length, and again to write the text if there is room for it. Under the standard kind each of the two
+ * searches looks at no more than two states for each byte, or at one with a DFA, whether it reads ahead or not. Takes no memory. To ask
+ * for the length alone, pass NULL and 0. dado_replace searches once, and takes memory. Any number of threads at the same time.
  */
 DADO_INLINE dado_status dado_replace_into(const dado_automaton *ac, const uint8_t *haystack, size_t len, const dado_bytes *replacements,
                                      size_t count, uint8_t *out, size_t room, size_t *needed) {
@@ -612,8 +619,11 @@ DADO_INLINE dado_status dado_stream_push(dado_stream **stream, const uint8_t *pi
  * is left for now, and after dado_stream_finish none at all. DADO_BAD_ARGUMENT: `stream`, `count`, or `out` with room, is NULL;
  * DADO_NO_STREAM: `*stream` is NULL. At all but the first `*count` is 0. Of `out` the entries from `*count` on may have changed.
  *
- * All calls together look at no more than two states for each byte that was pushed, or at one with a DFA. Under a leftmost kind, at
- * most as many bytes as the longest pattern has, and one, are read again after each match. It takes no memory.
+ * All calls together look at no more than two states for each byte that was pushed, or at one with a DFA. A call may read ahead: under
+ * the standard kind it looks at one state for each of at most 8192 bytes past those that it searches, and none of these is looked at
+ * again. Under a leftmost kind, what was read ahead may be lost where the search begins again after a match, so each byte may be read
+ * once more than it would be without reading ahead; and after each match at most as many bytes as the longest pattern has, and one, are
+ * read again. It takes no memory.
  */
 DADO_INLINE dado_status dado_stream_some(dado_stream **stream, dado_match *out, size_t room, size_t *count) {
     dado_raw_count given;
@@ -728,8 +738,11 @@ DADO_INLINE dado_status dado_replacer_push(dado_replacer **replacer, const uint8
  * isn't empty, is NULL; DADO_NO_REPLACER: `*replacer` is NULL; DADO_WRONG_COUNT: `count` isn't the number of patterns, and the replacer is
  * unchanged. `*slice` is written at DADO_OK alone.
  *
- * All calls together look at no more than two states for each byte that was pushed, or at one with a DFA. Under a leftmost kind, at
- * most as many bytes as the longest pattern has, and one, are read again after each match. It takes no memory.
+ * All calls together look at no more than two states for each byte that was pushed, or at one with a DFA. A call may read ahead: under
+ * the standard kind it looks at one state for each of at most 8192 bytes past those that it searches, and none of these is looked at
+ * again. Under a leftmost kind, what was read ahead may be lost where the search begins again after a match, so each byte may be read
+ * once more than it would be without reading ahead; and after each match at most as many bytes as the longest pattern has, and one, are
+ * read again. It takes no memory.
  */
 DADO_INLINE dado_status dado_replacer_next(dado_replacer **replacer, const dado_bytes *replacements, size_t count, dado_bytes *slice) {
     const uint8_t *at = (const uint8_t *)"";

@@ -33,7 +33,8 @@ typedef struct dado_counted {
 /*
  * Turns the places of `*count` matches in a text of UTF-8 from bytes to characters. The matches are those of a walk or a listing: none
  * ends before the one before it, nor before `counted->bytes`, which is set to where the last one ends. A match that ends within a
- * character is left out, and `counted` stays: it is empty, where the patterns are whole characters. `*count` says how many are left.
+ * character is left out, and doesn't change `counted`; where the patterns are whole characters, only an empty match is. `*count` says
+ * how many are left.
  *
  * DADO_OK. DADO_BAD_ARGUMENT: `counted` or `count`, or an array that isn't empty, is NULL: nothing is written. DADO_BAD_SPAN: a match ends
  * past the text, before its start, or before `counted->bytes`: those before it are done, and `*count` says how many of them are left.

@@ -1,2 +1,3 @@
 pub mod ItemsLemmas
 pub mod IterLemmas
+pub mod WalkAheadLemmas

@@ -1,1 +1,9 @@
 pub mod LaneLemmas
+pub mod CountLemmas
+pub mod ChainLemmas
+pub mod StoreLemmas
+pub mod TurnLemmas
+pub mod GatherLemmas
+pub mod BeginLemmas
+pub mod NoteLemmas
+pub mod ReadLemmas

@@ -1,8 +1,11 @@
 pub mod BestOnLemmas
 pub mod DecideLemmas
 pub mod DecideWalkLemmas
+pub mod SearchAheadLemmas
 pub mod SearchLemmas
+pub mod StreamAheadLemmas
 pub mod StreamAnswerLemmas
+pub mod StreamBudgetLemmas
 pub mod StreamCountLemmas
 pub mod StreamCutLemmas
 pub mod StreamIterLemmas

@@ -11,6 +11,7 @@ use Rattle.ac_input.specs.Occurrence.{Search, Occurrence}
 use Rattle.ac_input.specs.Steps.{Done}
 use Rattle.ac_input.specs.Walk.{IsPick}
 use Rattle.ac_input.specs.Work.{CountsBytes, HasCounted, bytes_counted, come_at_least, lookups_per_byte, longest, shortest, over_at}
+use Rattle.ac_automaton.specs.Ahead.{most_ahead}
 use Rattle.ac_automaton.specs.Automaton.{Built, kind_asked, prefilter_for, searched, walk_in, refusal_of}
 use Rattle.ac_automaton.specs.declared.error.MatchErrorKind.{MatchErrorKind}
 use Rattle.ac_automaton.specs.declared.iter.WalkPlace.{WalkPlace}
@@ -127,14 +128,26 @@ pub record CountsPick (w v : Walk) (before after : Steps) (r : Option Occurrence
 
 -- the next pick costs no more than one pick may, the walk counts what it costs, and each byte that is passed is counted
 abbrev pub CostsPick : Walk → Walk → Steps → Steps → Option Occurrence → Type 0
-CostsPick w v before after r = WalkCounts w v before after × IsNextWork w r before after × CountsPick w v before after r
+CostsPick w v before after r = WalkCounts w v before after × IsNextWork w r before after × CountsPick w v before after r × IsWithinBudget v
+
+-- What a walk that reads ahead has cost so far. Under standard it made at most one look for each byte of the span, or two if the
+-- automaton isn't deterministic; and no more than those for the bytes that it has passed, and for `most_ahead` more. Under any kind
+-- it scanned at most 256 places for each byte that it has passed, and moved no byte.
+pub record IsWithinBudgetAhead (w : Walk) : Type 0 where
+  pub looked : walk_kind w ≡ Standard → w.looked ≤ lookups_per_byte w.built.deterministic * (w.asked.span.end - w.asked.span.start)
+  pub near : walk_kind w ≡ Standard → w.looked ≤ lookups_per_byte w.built.deterministic * passed w + most_ahead
+  pub scanned : w.scanned ≤ 256 * passed w
+  pub moved : w.moved ≡ 0
+
+-- the walk counts what a pick costs when it is done, it stays within its budget, and has counted each byte that it has passed
+abbrev pub CostsPickAhead : Walk → Walk → Steps → Steps → Type 0
+CostsPickAhead w v before after = WalkCounts w v before after × IsWithinBudgetAhead v × CountsWalk v
 
 -- what holds of a walk wherever it stands
 pub record IsOnItsWay (w : Walk) : Type 0 where
   pub begun : w.asked.span.start ≤ w.at
   pub within : (w.at ≤ w.asked.span.end + 1) × (w.asked.span.end ≤ length w.asked.haystack)
   pub last : IfSome w.last (λ end. end ≤ w.at)
-  pub paid : IsWithinBudget w
 
 -- the next pick of a search that stands at the start of its span
 abbrev pub IsPickOf : Built → Asked → Option ℕ → Option Occurrence → Type 0

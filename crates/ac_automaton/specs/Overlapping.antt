@@ -1,7 +1,7 @@
 -- What an overlapping search still has to show where it stands, and what its calls may cost in total.
 pub mod OverlappingIter
 pub mod OverlappingSearch
-use Rattle.std.specs.Prelude.{◌≡◌, ◌≢◌, ◌⊎◌, ℕ, ◌+◌, ◌-◌, ◌*◌, ◌<◌, ◌≤◌, nat_le, Bool, false, List, [], ◌∷◌, ◌++◌, map, drop, slice_get, IsTrue, Option, None, Some, Result, Ok, Err, is_some, filter, if◌then◌else◌}
+use Rattle.std.specs.Prelude.{◌≡◌, ◌≢◌, ◌⊎◌, ℕ, ◌+◌, ◌-◌, ◌*◌, ◌<◌, ◌≤◌, nat_le, Bool, false, List, [], ◌∷◌, ◌++◌, map, drop, take, slice_get, IsTrue, Option, None, Some, Result, Ok, Err, is_some, filter, if◌then◌else◌}
 use Rattle.ac_input.specs.Number.{StateID}
 use Rattle.ac_input.specs.declared.search.Anchored.{Anchored}
 use Rattle.ac_input.specs.declared.search.MatchKind.TheVariants.{Standard}
@@ -14,8 +14,10 @@ use Rattle.ac_input.specs.Occurrence.{Search, Occurrence, starting_at}
 use Rattle.ac_input.specs.Steps.{AreNone}
 use Rattle.ac_input.specs.Tells.{ending}
 use Rattle.ac_input.specs.Work.{CountsBytes, bytes_counted, come_at_least, lookups_per_byte}
+use Rattle.ac_automaton.specs.Ahead.{IsAhead, bytes_ahead}
 use Rattle.ac_automaton.specs.Automaton.{Built, listing_in, prefilter_for, searched, refusal_of}
 use Rattle.ac_automaton.specs.Cursor.{read_to, walked, counted, IsCursor}
+use Rattle.ac_automaton.specs.declared.ahead.Ahead.{Ahead}
 use Rattle.ac_automaton.specs.declared.error.MatchErrorKind.{MatchErrorKind}
 use Rattle.ac_automaton.specs.declared.error.MatchErrorKind.TheVariants.{UnsupportedOverlapping}
 use Rattle.ac_automaton.specs.declared.overlapping.OverlappingState.{OverlappingState}
@@ -52,10 +54,10 @@ abbrev pub stands_at_least : Search → Position → ℕ
 stands_at_least s (At sid from at index) = at
 stands_at_least s Over = come_at_least s None
 
--- A call showed the first occurrence that was left, if there was one, and the search has come at least to the end of that.
+-- A call showed the first occurrence that was left, if there was one, and the search has come to the end of that.
 abbrev pub ShowsFirst : (List ℕ → StateID → Type 0) → (StateID → List ℕ) → Dictionary → Search → List Occurrence → Shown → Type 0
 ShowsFirst Reaches matches m s left r =
-    (r.found ≡ slice_get left 0) × IsLeft Reaches matches m s r.place (drop 1 left) × (come_at_least s r.found ≤ stands_at_least s r.place)
+    (r.found ≡ slice_get left 0) × IsLeft Reaches matches m s r.place (drop 1 left) × (come_at_least s r.found ≡ stands_at_least s r.place)
 
 -- This many looks are paid for by the bytes up to a place of the span.
 abbrev pub IsPaidTo : Bool → Search → ℕ → ℕ → Type 0
@@ -146,6 +148,12 @@ pub record IsFreshState (state : OverlappingState) : Type 0 where
   pub place : state.place ≡ None
   pub shown : state.shown.value ≡ 0
   pub sums : AreNone state.sums
+
+-- What was read ahead of an unanchored search that stands at a position, of the haystack up to the end of the span. Nothing is left of
+-- it where the search is over.
+abbrev pub IsAheadOfPosition : Built → (List ℕ → StateID → Type 0) → (StateID → List ℕ) → Asked → Position → Ahead → Type 0
+IsAheadOfPosition b Reaches matches asked (At sid from at index) ahead = IsAhead b Reaches matches None (take asked.span.end asked.haystack) at sid ahead
+IsAheadOfPosition b Reaches matches asked Over ahead = bytes_ahead ahead ≡ 0
 
 -- This many occurrences of the listing were shown, the others are left where the search stands, and all looks and scans are paid
 -- for.

@@ -27,6 +27,7 @@ use Rattle.ac_input.specs.Dictionary.{Dictionary, IsLive, whole}
 use Rattle.ac_input.specs.Occurrence.{Occurrence}
 use Rattle.ac_input.specs.Steps.{Done}
 use Rattle.ac_input.specs.Work.{longest, shortest, lookups_per_byte}
+use Rattle.ac_automaton.specs.Ahead.{most_ahead}
 use Rattle.ac_automaton.specs.Automaton.{Built, refusal_of}
 use Rattle.ac_automaton.specs.Devices.Buffer.{room_for}
 use Rattle.ac_automaton.specs.Devices.Moved.{AllFit, HasGiven}
@@ -139,27 +140,29 @@ IsStreamRefusal kinds b supports other = ⊥
 abbrev pub IsDecided : StreamProgress → Type 0
 IsDecided s = (more : List ℕ) → (s.closed ≡ true → more ≡ []) → (rest : List Occurrence) × (matches_in s.built (read_by s ++ more) ≡ s.given ++ rest) × All (λ o. cut_of s ≤ o.start) rest
 
--- How many bytes may be read again after so many matches: none under standard; under a leftmost kind, after each of them, as many as
--- the longest pattern has, and one.
-abbrev pub again_for : MatchKind → ℕ → ℕ → ℕ
-again_for Standard longest matches = 0
-again_for LeftmostFirst longest matches = (longest + 1) * matches
-again_for LeftmostLongest longest matches = (longest + 1) * matches
+-- How many of n bytes may be looked at again, with so many matches: none under standard; under a leftmost kind each once, read ahead
+-- in vain, and after each match as many as the longest pattern has, and one.
+abbrev pub again_for : MatchKind → ℕ → ℕ → ℕ → ℕ
+again_for Standard longest n matches = 0
+again_for LeftmostFirst longest n matches = n + (longest + 1) * matches
+again_for LeftmostLongest longest n matches = n + (longest + 1) * matches
 
--- how many bytes may be read again after so many matches, by the dictionary's kind and patterns
-abbrev pub read_again : Dictionary → ℕ → ℕ
-read_again m matches = again_for m.kind (longest m.patterns) matches
+-- how many of n bytes may be looked at again, by the dictionary's kind and patterns
+abbrev pub read_again : Dictionary → ℕ → ℕ → ℕ
+read_again m n matches = again_for m.kind (longest m.patterns) n matches
 
--- how many bytes a search may have read, those that it read again included
+-- how many bytes a search may have looked at, those that it looked at again included
 abbrev pub read_in_all : StreamProgress → ℕ
-read_in_all s = s.at + read_again s.built.dictionary (length s.given)
+read_in_all s = length (read_by s) + read_again s.built.dictionary (length (read_by s)) (length s.given)
 
--- What a search has cost. It made at least one look for each byte that the automaton has read. In total it made at most one, or two
--- if the automaton isn't deterministic, for each byte, those read again included. It scanned nothing, and moved at most a seventh
--- of the bytes that were read.
+-- What a search has cost. It made at least one look for each byte that it has passed. In total it made at most one, or two if the
+-- automaton isn't deterministic, for each byte that was read, those looked at again included. Under standard it made at most as many
+-- for the bytes that it has passed, and one for each byte that was read ahead. It scanned nothing, and moved at most a seventh of the
+-- bytes that were read.
 pub record IsWithinStreamBudget (s : StreamProgress) : Type 0 where
   pub some : s.at ≤ s.looked
   pub looked : s.looked ≤ lookups_per_byte s.built.deterministic * read_in_all s
+  pub near : s.built.dictionary.kind ≡ Standard → s.looked ≤ lookups_per_byte s.built.deterministic * s.at + most_ahead
   pub scanned : s.scanned ≡ 0
   pub moved : 7 * s.moved ≤ length (read_by s)
 

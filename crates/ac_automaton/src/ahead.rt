@@ -5,26 +5,26 @@
 //! [`note_ahead`](crate::automaton::Automaton::note_ahead): from some places on, as from its start, and note to which states these
 //! bytes led and where one of them matched. When the search comes to such a place in the very state that a [`Note`] begins with, it
 //! takes what the note says in place of reading those bytes again. A note that begins with another state is never taken. So no
-//! result depends on notes; a place just after a byte that no pattern has always leaves a search in its start, and so is chosen.
+//! result depends on notes.
 //!
-//! What a note says is counted when the search takes it, with one look for each of its bytes. An automaton reads no byte ahead twice,
-//! and the search takes every note before more bytes are read; so the sum is what was looked at.
-ghost use Rattle.std.specs.Prelude.{◌≡◌, ◌≤◌, ◌<◌, drop, length, take, IfSome};
-ghost use Rattle.std.specs.List.{All};
-ghost use Rattle.ac_automaton.specs.Ahead.{AreNotes, IsBlank, IsUpcoming};
+//! A look is counted when it is made, so taking a note counts nothing. Under the standard kind a search takes every note: a note
+//! begins where the one before it ended, or just after a byte that no pattern has, which leaves each search in its start. So no byte
+//! is looked at twice, and the looks so far are those for the bytes passed and for at most 8192 bytes more. Under a leftmost kind a
+//! search may begin anew where no note begins. Then notes are lost, and their bytes are read again; no byte is read ahead twice.
+ghost use Rattle.std.specs.Prelude.{◌≡◌, ◌+◌, ◌≤◌, ◌<◌, List, [], ◌∷◌, drop, length, take, IfSome, nat_le, slice_get};
+ghost use Rattle.ac_automaton.specs.Ahead.{HasForgotten, HasSkipped, IsPaid, Settles, StaysReadOnce, bytes_ahead, left_notes, most_ahead, notes_from, onward};
+ghost use Rattle.ac_automaton.specs.FindAhead.{IsAheadOf};
 ghost use Rattle.ac_automaton.specs.Automaton.{AdvancesToMatch, IsReached, IsReadCost, is_matching};
 ghost use Rattle.ac_automaton.specs.Passing.{ReadsPart};
 
 use crate::automaton::{Advance, Automaton};
+use ac_input::history::Count;
 use ac_input::primitives::StateID;
 use ac_input::search::Anchored;
 use ac_input::steps::Steps;
 
 /// How many notes a search keeps.
 pub const NOTES: usize = 128;
-
-/// How many of them are of one part of the bytes. The parts follow one another; after the last note of a part comes one of no bytes.
-const LANE: usize = 32;
 
 /// How many bytes an automaton reads ahead at a time, at most.
 const MOST: usize = 8192;
@@ -56,9 +56,7 @@ pub struct Note {
 
 impl Note {
     /// A note of no bytes.
-    pub fn blank() -> Note
-        ensures { IsBlank result }
-    {
+    pub fn blank() -> Note {
         Note {
             from: 0,
             len: 0,
@@ -68,60 +66,90 @@ impl Note {
     }
 }
 
+/// What an automaton has read ahead.
+#[derive(Clone, Copy, Debug)]
+pub struct Noted {
+    /// How many notes it made.
+    pub notes: usize,
+    /// How many bytes it read, all covered by the notes.
+    pub read: usize,
+    /// Whether there were no notes left for more.
+    pub full: bool,
+}
+
+impl Noted {
+    /// Nothing was read.
+    pub fn none() -> Noted
+        ensures { (result.notes ≡ 0) × (result.read ≡ 0) }
+    {
+        Noted {
+            notes: 0,
+            read: 0,
+            full: false,
+        }
+    }
+}
+
 /// The notes of a search over bytes that stay the same, in the order in which it comes to them.
-#[derive(Clone, Copy, Drop)]
+#[derive(Drop)]
 pub struct Ahead {
     notes: [Note; NOTES],
     /// The first note that the search may still take.
     next: usize,
+    /// The first that isn't one of them any more.
+    end: usize,
     /// The place up to which nothing more is read ahead.
     until: usize,
     /// How many bytes are read ahead at a time.
     block: usize,
-    /// Whether the search begins anew after a match.
-    anew: bool,
+    /// How many bytes were read ahead whose notes were lost.
+    lost: Count,
 }
 
 impl Ahead {
-    /// No notes. A search begins so. After a match it begins anew, or it goes on from the state that matched, as an overlapping search
-    /// does.
-    pub fn none(anew: bool) -> Ahead
-        ensures { All IsBlank result.notes }
+    /// No notes. A search begins so.
+    pub fn none() -> Ahead
+        ensures nothing { bytes_ahead result ≡ 0 }
+        ensures none { left_notes result ≡ [] }
+        ensures room { result.end ≤ length result.notes }
     {
         Ahead {
             notes: [Note::blank(); NOTES],
-            next: NOTES,
+            next: 0,
+            end: 0,
             until: 0,
             block: FIRST,
-            anew,
+            lost: Count::zero(),
         }
     }
 
-    /// Forgets all notes, since the bytes change.
-    pub(crate) fn forget(&mut self)
-        ensures { All IsBlank self.new.notes }
+    /// Forgets all notes, since other bytes come. None of those before a place is read ahead any more.
+    pub(crate) fn forget(&mut self, until: usize)
+        requires { self.old.end ≤ length self.old.notes }
+        ensures { HasForgotten self.old until self.new }
     {
-        let block = self.block;
-        *self = Ahead::none(self.anew);
-        self.block = block;
+        while self.next < self.end {
+            let note = self.notes[self.next];
+            self.lost = self.lost.more(&note.len);
+            self.next += 1;
+        }
+        self.until = until;
     }
 
-    /// The next note of a place, or of a later one.
+    /// The next note of a place, or of a later one. Those before it are lost.
     #[inline]
     fn upcoming(&mut self, at: usize) -> Option<Note>
-        ensures same { self.new.notes ≡ self.old.notes }
-        ensures noted { IfSome result (IsUpcoming self.old.notes at) }
+        requires { self.old.end ≤ length self.old.notes }
+        ensures skipped { HasSkipped at self.old self.new }
+        ensures noted { result ≡ slice_get (left_notes self.new) 0 }
     {
-        while self.next < NOTES {
+        while self.next < self.end {
             let note = self.notes[self.next];
-            if note.len > 0 && at <= note.from {
+            if at <= note.from {
                 return Some(note);
             }
-            self.next = if note.len > 0 {
-                self.next + 1
-            } else {
-                (self.next / LANE + 1) * LANE
-            };
+            self.lost = self.lost.more(&note.len);
+            self.next += 1;
         }
         None
     }
@@ -132,48 +160,78 @@ impl Ahead {
     fn next_note<A: Automaton>(
         &mut self,
         automaton: &A,
+        anew: &Option<StateID>,
         sid: StateID,
         bytes: &[u8],
         at: usize,
+        steps: &mut Steps,
     ) -> Option<Note>
         requires reached { IsReached (A.Reaches automaton.now Anchored.No) sid }
+        requires begins { IfSome anew.now (A.Reaches automaton.now Anchored.No []) }
         requires within { at ≤ length bytes.now }
-        requires known { AreNotes A.Reaches A.matches automaton.now bytes.now self.old.notes }
-        ensures known { AreNotes A.Reaches A.matches automaton.now bytes.now self.new.notes }
-        ensures noted { IfSome result (IsUpcoming self.new.notes at) }
+        requires ahead { IsAheadOf A.Automaton automaton.now anew.now bytes.now at sid self.old }
+        ensures ahead { IsAheadOf A.Automaton automaton.now anew.now bytes.now at sid self.new }
+        ensures noted { result ≡ slice_get (left_notes self.new) 0 }
+        ensures later { IfSome result (λ note. at ≤ note.from) }
+        ensures paid { Settles self.old self.new steps.new steps.old }
+        ensures once { StaysReadOnce bytes.now self.old self.new }
     {
         let note = self.upcoming(at);
         if note.is_some() || at < self.until || bytes.len() - at < LEAST {
             return note;
         }
-        self.read_block(automaton, sid, bytes, at);
+        self.read_block(automaton, anew, sid, bytes, at, steps);
         self.upcoming(at)
+    }
+
+    /// Takes the next note.
+    #[inline(always)]
+    fn take_note(&mut self)
+        requires { self.old.next < self.old.end }
+        ensures { self.new ≡ record self.old { next = self.old.next + 1 } }
+    {
+        self.next += 1;
     }
 
     /// Has the automaton read a block ahead from a place. It stays out of the search's loop, which seldom comes here.
     #[inline(never)]
-    fn read_block<A: Automaton>(&mut self, automaton: &A, sid: StateID, bytes: &[u8], at: usize)
+    fn read_block<A: Automaton>(
+        &mut self,
+        automaton: &A,
+        anew: &Option<StateID>,
+        sid: StateID,
+        bytes: &[u8],
+        at: usize,
+        steps: &mut Steps,
+    )
         requires reached { IsReached (A.Reaches automaton.now Anchored.No) sid }
+        requires begins { IfSome anew.now (A.Reaches automaton.now Anchored.No []) }
         requires within { at ≤ length bytes.now }
-        requires known { AreNotes A.Reaches A.matches automaton.now bytes.now self.old.notes }
-        ensures known { AreNotes A.Reaches A.matches automaton.now bytes.now self.new.notes }
+        requires past { self.old.until ≤ at }
+        requires none { left_notes self.old ≡ [] }
+        requires ahead { IsAheadOf A.Automaton automaton.now anew.now bytes.now at sid self.old }
+        ensures ahead { IsAheadOf A.Automaton automaton.now anew.now bytes.now at sid self.new }
+        ensures paid { Settles self.old self.new steps.new steps.old }
+        ensures once { StaysReadOnce bytes.now self.old self.new }
     {
-        let block = self.block.min(bytes.len() - at);
-        let noted = automaton.note_ahead(sid, bytes, at, block, self.anew, &mut self.notes);
-        if noted == 0 {
+        let block = self.block.min(MOST).min(bytes.len() - at);
+        let noted = automaton.note_ahead(sid, bytes, at, block, *anew, &mut self.notes, steps);
+        self.next = 0;
+        self.end = noted.notes;
+        if noted.read == 0 {
             self.until = at.saturating_add(PAUSE);
             return;
         }
-        let full = noted < block;
-        self.next = 0;
-        self.until = at.saturating_add(stretch(block, full));
-        self.block = next_block(self.block, full);
+        self.until = at.saturating_add(stretch(block, noted.full));
+        self.block = next_block(self.block, noted.full);
     }
 }
 
 /// For how many bytes nothing more is read ahead after a block is: to its end. Where the notes were full before the end of one that
 /// is as short as can be, matches are so close to one another that a walk alone is as fast.
-fn stretch(block: usize, full: bool) -> usize {
+fn stretch(block: usize, full: bool) -> usize
+    ensures { block ≤ result }
+{
     if full && block <= LEAST { PAUSE } else { block }
 }
 
@@ -193,6 +251,7 @@ fn before_end(place: usize, at: usize, end: usize) -> usize
     requires { at < end }
     ensures after { at < result }
     ensures within { result ≤ end }
+    ensures before { at < place → result ≤ place }
 {
     if at < place { place.min(end) } else { end }
 }
@@ -204,6 +263,7 @@ fn end_before(note: &Option<Note>, until: usize, at: usize, end: usize) -> usize
     requires { at < end }
     ensures after { at < result }
     ensures within { result ≤ end }
+    ensures before { IfSome note.now (λ note. at < note.from → result ≤ note.from) }
 {
     match note {
         Some(note) => before_end(note.from, at, end),
@@ -215,6 +275,7 @@ fn end_before(note: &Option<Note>, until: usize, at: usize, end: usize) -> usize
 #[inline]
 fn read_part<A: Automaton>(
     automaton: &A,
+    anew: &Option<StateID>,
     sid: StateID,
     bytes: &[u8],
     at: usize,
@@ -222,17 +283,19 @@ fn read_part<A: Automaton>(
     steps: &mut Steps,
 ) -> Advance
     requires reached { IsReached (A.Reaches automaton.now Anchored.No) sid }
+    requires begins { IfSome anew.now (A.Reaches automaton.now Anchored.No []) }
     requires left { at < length bytes.now }
-    requires known { AreNotes A.Reaches A.matches automaton.now bytes.now ahead.old.notes }
-    ensures reads { ReadsPart (A.built automaton.now) (A.Reaches automaton.now) Anchored.No
-        (is_matching (A.matches automaton.now)) sid (drop at bytes.now) result steps.old steps.new }
-    ensures known { AreNotes A.Reaches A.matches automaton.now bytes.now ahead.new.notes }
+    requires ahead { IsAheadOf A.Automaton automaton.now anew.now bytes.now at sid ahead.old }
+    ensures reads { IsPaid ahead.old ahead.new steps.new (λ paid. ReadsPart (A.built automaton.now)
+        (A.Reaches automaton.now) Anchored.No (is_matching (A.matches automaton.now)) sid (drop at bytes.now) result steps.old paid) }
+    ensures ahead { IsAheadOf A.Automaton automaton.now anew.now bytes.now (at + result.taken)
+        (onward (A.matches automaton.now) anew.now result.sid) ahead.new }
+    ensures once { StaysReadOnce bytes.now ahead.old ahead.new }
 {
-    let upcoming = ahead.next_note(automaton, sid, bytes, at);
+    let upcoming = ahead.next_note(automaton, anew, sid, bytes, at, steps);
     if let Some(note) = &upcoming {
         if note.from == at && note.sid == sid {
-            ahead.next = ahead.next.saturating_add(1);
-            steps.looks(note.len);
+            ahead.take_note();
             return Advance {
                 sid: note.next,
                 taken: note.len,
@@ -244,9 +307,11 @@ fn read_part<A: Automaton>(
 }
 
 /// Reads on from a state over bytes from a place on, to the first state that matches, or to the last byte: as
-/// [`Automaton::advance_to_match`], but by what was read ahead, where there is a note.
+/// [`Automaton::advance_to_match`], but by what was read ahead, where there is a note. `anew` is the state in which the search begins
+/// anew after a match; none if it goes on from the state that matched.
 pub(crate) fn advance_to_match<A: Automaton>(
     automaton: &A,
+    anew: &Option<StateID>,
     sid: StateID,
     bytes: &[u8],
     from: usize,
@@ -254,18 +319,21 @@ pub(crate) fn advance_to_match<A: Automaton>(
     steps: &mut Steps,
 ) -> Advance
     requires reached { IsReached (A.Reaches automaton.now Anchored.No) sid }
+    requires begins { IfSome anew.now (A.Reaches automaton.now Anchored.No []) }
     requires within { from ≤ length bytes.now }
-    requires known { AreNotes A.Reaches A.matches automaton.now bytes.now ahead.old.notes }
+    requires ahead { IsAheadOf A.Automaton automaton.now anew.now bytes.now from sid ahead.old }
     ensures goes { AdvancesToMatch (A.Reaches automaton.now Anchored.No) (A.matches automaton.now) sid
         (drop from bytes.now) result }
-    ensures cost { IsReadCost (A.built automaton.now) (A.Reaches automaton.now) Anchored.No sid
-        (take result.taken (drop from bytes.now)) steps.old steps.new }
-    ensures known { AreNotes A.Reaches A.matches automaton.now bytes.now ahead.new.notes }
+    ensures cost { IsPaid ahead.old ahead.new steps.new (λ paid. IsReadCost (A.built automaton.now)
+        (A.Reaches automaton.now) Anchored.No sid (take result.taken (drop from bytes.now)) steps.old paid) }
+    ensures ahead { IsAheadOf A.Automaton automaton.now anew.now bytes.now (from + result.taken)
+        (onward (A.matches automaton.now) anew.now result.sid) ahead.new }
+    ensures once { StaysReadOnce bytes.now ahead.old ahead.new }
 {
     let mut current = sid;
     let mut read = 0;
     while read < bytes.len() - from {
-        let stop = read_part(automaton, current, bytes, from + read, ahead, steps);
+        let stop = read_part(automaton, anew, current, bytes, from + read, ahead, steps);
         current = stop.sid;
         read += stop.taken;
         if automaton.is_match(current) {

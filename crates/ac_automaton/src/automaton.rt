@@ -14,7 +14,7 @@
 //! automaton that has nothing better.
 pub mod reference;
 
-use crate::ahead::Note;
+use crate::ahead::{Note, Noted};
 use crate::error::{MatchError, ReplaceError, StreamError};
 use crate::iter::ahead::FindIterAhead;
 use crate::iter::{FindIter, WalkPlace};
@@ -42,7 +42,7 @@ pub struct Advance {
 
 /// An automaton that finds patterns in a text.
 pub trait Automaton {
-    ghost use Rattle.std.specs.Prelude.{◌≡◌, ◌≢◌, ℕ, ◌<◌, ◌≤◌, ◌↔◌, Bool, false, List, [], ◌∷◌, length, map, take, IsTrue, IfOk, get_or, Option, slice_get, option_map, ◌+◌};
+    ghost use Rattle.std.specs.Prelude.{◌≡◌, ◌≢◌, ℕ, ◌<◌, ◌≤◌, ◌↔◌, Bool, false, List, [], ◌∷◌, length, map, take, IsTrue, IfOk, IfSome, get_or, Option, slice_get, option_map, ◌+◌};
     ghost use Rattle.ac_input.specs.declared.search.Anchored.{Anchored};
     ghost use Rattle.ac_input.specs.Number.{StateID};
     ghost use Rattle.ac_input.specs.Input.{is_anchored};
@@ -51,7 +51,7 @@ pub trait Automaton {
     ghost use Rattle.ac_input.specs.Tells.{Tells};
     ghost use Rattle.ac_input.specs.Work.{longest, shortest};
     ghost use Rattle.ac_automaton.specs.Automaton.{Built, IsReached, IsState, AtEach, Leads, IsReadCost, TellsDead, TellsStart, IsSpecial, Advances, AdvancesToMatch, OwnsPrefilter, AnswersStart, Finds, CostsFind};
-    ghost use Rattle.ac_automaton.specs.Ahead.{AreNotes};
+    ghost use Rattle.ac_automaton.specs.Ahead.{ReadsAhead, most_ahead};
     ghost use Rattle.ac_automaton.specs.Iter.{AnswersFindIter, AnswersFindIterFrom, IsPlaceIn, left_of};
     ghost use Rattle.ac_automaton.specs.Overlapping.{CameFrom, IsOverlappingCost, AnswersOverlapping};
     ghost use Rattle.ac_automaton.specs.Overlapping.OverlappingIter.{AnswersListing, rest_of};
@@ -162,9 +162,9 @@ pub trait Automaton {
         }
     }
 
-    /// Reads ahead of a search that isn't anchored, which has come to a place of some bytes in a state, over at most so many bytes,
-    /// and may write over the notes what it found there, in order of place. Returns how many bytes it has read. `anew` is whether the
-    /// search begins anew after a match.
+    /// Reads up to `len` bytes ahead of an unanchored search that stands at `at` in state `sid`, and writes notes of what it found, in
+    /// order of place. `anew` is the state in which the search begins anew after a match; none if it goes on from the state that
+    /// matched. Returns how many notes it made, and how many bytes it read: those that the notes cover, each with one look.
     ///
     /// It pays where an automaton can walk over several parts of the bytes side by side: see [`ahead`](crate::ahead). The provided
     /// method reads nothing.
@@ -174,15 +174,19 @@ pub trait Automaton {
         _bytes: &[u8],
         _at: usize,
         _len: usize,
-        _anew: bool,
+        _anew: Option<StateID>,
         _notes: &mut [Note],
-    ) -> usize
+        _steps: &mut Steps,
+    ) -> Noted
         requires reached { IsReached (Reaches self.now Anchored.No) _sid }
-        requires within { _at ≤ length _bytes.now }
-        requires known { AreNotes Reaches matches self.now _bytes.now _notes.old }
-        ensures { AreNotes Reaches matches self.now _bytes.now _notes.new }
+        requires begins { IfSome _anew (Reaches self.now Anchored.No []) }
+        requires within { _at + _len ≤ length _bytes.now }
+        requires few { _len ≤ most_ahead }
+        ensures few { result.notes ≤ length _notes.new }
+        ensures reads { ReadsAhead (built self.now) (Reaches self.now Anchored.No) (matches self.now) _anew _sid
+            _bytes.now _at _len result.read (take result.notes _notes.new) _steps.old _steps.new }
     {
-        0
+        Noted::none()
     }
 
     /// Whether a search has more to do here than to read on: the state is dead, or matches, or is a start and there is a prefilter
@@ -433,7 +437,7 @@ pub trait Automaton {
     /// longest pattern has.
     ///
     /// After a match under a leftmost kind it reads again what it has read past its end: at most as many bytes as the longest pattern
-    /// has, and one.
+    /// has, and one. There it may also look at each byte once more, read ahead in vain.
     ///
     /// Returns an error if the automaton has no start for a search that isn't anchored, or has an empty pattern, checked in that
     /// order, and then if there is no memory for the buffer.
@@ -700,8 +704,8 @@ pub trait Automaton {
         )
     }
 
-    /// The same; counts what it does. Beside what `try_stream_replace_all_counted` counts it looks again, after each match under a
-    /// leftmost kind, at what it reads again.
+    /// The same; counts what it does. Under a leftmost kind it looks at more than `try_stream_replace_all_counted` does: after each
+    /// match at what it reads again, and at each byte at most once more, read ahead in vain.
     final fn try_stream_replace_all_any_kind_counted<R: Read, W: Write>(
         &self,
         alloc: Global,

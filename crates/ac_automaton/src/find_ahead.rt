@@ -4,8 +4,9 @@
 //! first state that matches ends a search, and where no pattern is empty the start is none. So a search reads on from its start to
 //! that state, in one call of [`advance_to_match`], which takes notes of what the automaton has read ahead. It uses no prefilter.
 ghost use Rattle.std.specs.Prelude.{◌≤◌};
+ghost use Rattle.ac_automaton.specs.Ahead.{IsPaid};
 ghost use Rattle.ac_automaton.specs.Automaton.{IsFindCost, IsFound};
-ghost use Rattle.ac_automaton.specs.FindAhead.{AreNotesOf, MayReadAhead};
+ghost use Rattle.ac_automaton.specs.FindAhead.{IsAheadIn, MayReadAhead, ended_at};
 
 use crate::ahead::{Ahead, advance_to_match};
 use crate::automaton::Automaton;
@@ -25,16 +26,24 @@ pub(crate) fn find<A: Automaton>(
 ) -> Option<Match>
     requires may { MayReadAhead A.Automaton automaton.now input.now start }
     requires ordered { input.now.span.start ≤ input.now.span.end }
-    requires known { AreNotesOf A.Automaton automaton.now input.now ahead.old.notes }
+    requires ahead { IsAheadIn A.Automaton automaton.now input.now start input.now.span.start ahead.old }
     ensures found { IsFound (A.built automaton.now) input.now result }
-    ensures cost { IsFindCost (A.built automaton.now) input.now steps.old steps.new result }
-    ensures known { AreNotesOf A.Automaton automaton.now input.now ahead.new.notes }
+    ensures cost { IsPaid ahead.old ahead.new steps.new (λ paid. IsFindCost (A.built automaton.now) input.now steps.old paid result) }
+    ensures ahead { IsAheadIn A.Automaton automaton.now input.now start (ended_at input.now result) ahead.new }
 {
     if input.start() == input.end() {
         return None;
     }
     let bytes = &input.haystack()[..input.end()];
-    let stop = advance_to_match(automaton, start, bytes, input.start(), ahead, steps);
+    let stop = advance_to_match(
+        automaton,
+        &Some(start),
+        start,
+        bytes,
+        input.start(),
+        ahead,
+        steps,
+    );
     if !automaton.is_match(stop.sid) {
         return None;
     }

@@ -38,7 +38,7 @@ pub struct FindIter<'a, 'h, A: Search> {
 }
 
 impl<'a, 'h, A: Search> Model for FindIter<'a, 'h, A> {
-    ghost use Rattle.ac_automaton.specs.Iter.{CountsWalk, Walk, walk_at, IsOnItsWay};
+    ghost use Rattle.ac_automaton.specs.Iter.{CountsWalk, Walk, walk_at, IsOnItsWay, IsWithinBudget};
 
     ghost Value = { Walk };
 
@@ -47,6 +47,7 @@ impl<'a, 'h, A: Search> Model for FindIter<'a, 'h, A> {
     ghost invariant = { λ i.
         A.supports i.automaton.now i.input.anchored
         × IsOnItsWay (walk_at (A.built i.automaton.now) i.first.value i.input i.last i.sums)
+        × IsWithinBudget (walk_at (A.built i.automaton.now) i.first.value i.input i.last i.sums)
         × CountsWalk (walk_at (A.built i.automaton.now) i.first.value i.input i.last i.sums) };
 }
 

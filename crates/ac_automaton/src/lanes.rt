@@ -2,18 +2,24 @@
 //!
 //! A look-up waits for the one before it, since the next state is a load from the row of the last one. Four walks over four parts of
 //! a text wait for four loads at once. So [`note_ahead`] cuts the next bytes into four lanes, walks over them together, and notes
-//! what it finds for the search that comes after it: see [`ahead`](crate::ahead).
+//! what it finds for the search that comes after it: see [`ahead`](crate::ahead). A look is counted when it is made.
 //!
-//! A lane begins just after a byte that no pattern has, in the start, since such a byte leads every state there. So what it notes is
-//! what the search will find, and no byte is read twice. After a match a lane goes on as the search does: from the start, or from
-//! the state that matched.
-ghost use Rattle.std.specs.Prelude.{◌≡◌, ◌⊎◌, ◌≤◌, ◌<◌, ◌+◌, ◌-◌, false, IfSome, [], ◌∷◌, length, slice_set};
+//! The first lane begins where the search stands. Each other lane begins just after a byte that no pattern has, in the start, since
+//! such a byte leads every state there. So what a lane notes is what the search will find. After a match a lane goes on as the search
+//! does: from the start, or from the state that matched. Under a leftmost kind a search may go on from another place; then it doesn't
+//! take the note, and reads those bytes itself.
+//!
+//! While the lanes are read each writes notes into its own part of the notes. In the end those parts are moved together. A lane
+//! whose part is full reads no further, and the others stop with it.
+ghost use Rattle.std.specs.Prelude.{◌≡◌, ◌≤◌, ◌<◌, ◌+◌, ◌-◌, ℕ, IsTrue, false, IfSome, [], ◌∷◌, ◌++◌, length, take, drop, slice_range, unwrap_or, nat_le};
 ghost use Rattle.ac_input.specs.Number.{StateID};
+ghost use Rattle.ac_input.specs.Steps.{Done};
 ghost use Rattle.ac_input.specs.declared.search.Anchored.TheVariants.{No};
-ghost use Rattle.ac_automaton.specs.Ahead.{AreNotes, HasWalked, HaveGone, HaveLeft, HaveWalked, MayNote, WalkedTo, is_up_to};
+ghost use Rattle.ac_automaton.specs.Ahead.{LaneBegins, CutBytes, EachLane, EachPair, HasMore, HasRoomFor, HasStored, HaveGone, HaveNoted, HaveOwnNotes, HaveRead, HaveRoomFor, HaveWalked, IsLaneCut, MayBegin, MayNote, MayWalkAside, ReadsAheadBy, StaysIn, StoresIf, is_up_to, lane_from, lanes_notes, note_of};
 ghost use Rattle.ac_automaton.specs.Automaton.{IsReached, Leads};
+ghost use Rattle.ac_automaton.specs.declared.lanes.Lanes.{Lanes};
 
-use crate::ahead::Note;
+use crate::ahead::{Note, Noted};
 use crate::look::LookUp;
 use ac_input::alphabet::ByteSet;
 use ac_input::primitives::StateID;
@@ -26,7 +32,7 @@ const REACH: usize = 256;
 /// One of several walks side by side.
 #[derive(Clone, Copy)]
 pub(crate) struct Lane {
-    /// Where it began after its last match, or at first.
+    /// Up to where it has made notes of what it read.
     from: usize,
     /// The state there.
     first: StateID,
@@ -43,26 +49,19 @@ pub(crate) struct Lane {
 }
 
 impl Lane {
-    /// What it has read since its last match.
-    fn note(&self) -> Note
-        ensures from { result.from ≡ self.now.from }
-        ensures len { result.len ≡ self.now.at - self.now.from }
-        ensures states { (result.sid ≡ self.now.first) × (result.next ≡ self.now.sid) }
+    /// A lane that has read nothing yet.
+    fn begin(at: usize, sid: StateID, end: usize, slot: usize, slots: usize) -> Lane
+        ensures { result ≡ lane_from at sid end slot slots }
     {
-        Note {
-            from: self.from,
-            len: self.at.saturating_sub(self.from),
-            sid: self.first,
-            next: self.sid,
+        Lane {
+            from: at,
+            first: sid,
+            at,
+            sid,
+            end,
+            slot,
+            slots,
         }
-    }
-
-    /// The state from which it goes on after a match: the start, if the search begins anew there, or else where it stands.
-    #[inline]
-    fn goes_on_from(&self, start: StateID, anew: bool) -> StateID
-        ensures { (result ≡ start) ⊎ (result ≡ self.now.sid) }
-    {
-        if anew { start } else { self.sid }
     }
 
     /// The same, in another state after some bytes more.
@@ -82,14 +81,73 @@ impl Lane {
         }
     }
 
+    /// What it has read since its last note.
+    fn note(&self) -> Note
+        ensures { result ≡ note_of self.now }
+    {
+        Note {
+            from: self.from,
+            len: self.at.saturating_sub(self.from),
+            sid: self.first,
+            next: self.sid,
+        }
+    }
+
+    /// Stores a note of what it has read since its last one, and goes on from a state.
+    #[inline]
+    fn store(self, next: StateID, notes: &mut [Note]) -> Lane
+        requires room { self.slot < length notes.old }
+        ensures { HasStored next notes.old notes.new self result }
+    {
+        notes[self.slot] = self.note();
+        Lane {
+            from: self.at,
+            first: next,
+            at: self.at,
+            sid: next,
+            end: self.end,
+            slot: self.slot + 1,
+            slots: self.slots,
+        }
+    }
+
+    /// Stores a note where it stands at a match, or at another state up to the last one. It goes on from there, or anew.
+    #[inline]
+    fn settle(self, last: StateID, anew: &Option<StateID>, notes: &mut [Note]) -> Lane
+        requires room { self.slot < length notes.old }
+        ensures { StoresIf (self.sid ≤ last) (unwrap_or anew.now self.sid) notes.old notes.new self result }
+    {
+        if self.sid.as_u32() > last.as_u32() {
+            return self;
+        }
+        let next = match anew {
+            Some(start) => *start,
+            None => self.sid,
+        };
+        self.store(next, notes)
+    }
+
+    /// Stores its last note, if it has read something since the one before.
+    fn finish(self, notes: &mut [Note]) -> Lane
+        requires room { self.slots ≤ length notes.old }
+        ensures { StoresIf (HasMore self) self.sid notes.old notes.new self result }
+    {
+        if self.from < self.at && self.slot < self.slots {
+            return self.store(self.sid, notes);
+        }
+        self
+    }
+
     /// Whether it has no note left.
-    fn is_full(&self) -> bool {
+    fn is_full(&self) -> bool
+        ensures { result ≡ nat_le self.now.slots self.now.slot }
+    {
         self.slot >= self.slots
     }
 
     /// How many bytes it has left; none where it has no note left.
     fn left(&self) -> usize
-        ensures { 0 < result → self.now.at + result ≤ self.now.end }
+        ensures { HasRoomFor result self.now }
     {
         if self.is_full() {
             return 0;
@@ -115,7 +173,7 @@ impl Lanes {
 
     /// How many bytes each of them has left.
     fn left(&self) -> usize
-        ensures { HaveLeft result self.now }
+        ensures { HaveRoomFor result self.now }
     {
         let front = self.a.left().min(self.b.left());
         front.min(self.c.left()).min(self.d.left())
@@ -157,25 +215,34 @@ fn any_up_to(last: StateID, a: StateID, b: StateID, c: StateID, d: StateID) -> b
     front.min(c.as_u32()).min(d.as_u32()) <= last.as_u32()
 }
 
-/// The state after one more byte of a lane. What it looks at is counted when the search takes the note.
+/// The state after one more byte of a lane. It takes one look, which is counted.
 #[inline(always)]
-fn step<A: LookUp>(automaton: &A, sid: StateID, byte: u8) -> StateID
-    requires { IsReached (A.Reaches automaton.now No) sid }
-    ensures { Leads (A.Reaches automaton.now No) sid (byte ∷ []) result }
+fn step<A: LookUp>(automaton: &A, sid: StateID, byte: u8, steps: &mut Steps) -> StateID
+    requires one { IsTrue (A.built automaton.now).deterministic }
+    requires reached { IsReached (A.Reaches automaton.now No) sid }
+    ensures next { Leads (A.Reaches automaton.now No) sid (byte ∷ []) result }
+    ensures cost { Done 1 0 0 steps.old steps.new }
 {
-    let mut steps = Steps::new();
-    automaton.look_up(Anchored::No, sid, byte, &mut steps)
+    automaton.look_up(Anchored::No, sid, byte, steps)
 }
 
 /// Walks over so many bytes in each lane, or up to the first turn after which one of them stands in a state up to the last one.
 ///
 /// This is the loop in which a search spends its time. It stays out of its caller, so that all that it needs is in registers.
 #[inline(never)]
-fn walk<A: LookUp>(automaton: &A, lanes: Lanes, bytes: &[u8], len: usize, last: StateID) -> Lanes
-    requires some { 0 < len }
-    requires left { HaveLeft len lanes }
+fn walk<A: LookUp>(
+    automaton: &A,
+    lanes: Lanes,
+    bytes: &[u8],
+    len: usize,
+    last: StateID,
+    steps: &mut Steps,
+) -> Lanes
+    requires one { IsTrue (A.built automaton.now).deterministic }
+    requires left { HaveRoomFor len lanes × (0 < len) }
     requires walked { HaveWalked (A.Reaches automaton.now No) (is_up_to last) bytes.now lanes }
-    ensures { HaveGone (A.Reaches automaton.now No) (is_up_to last) bytes.now lanes result }
+    ensures gone { HaveGone (A.Reaches automaton.now No) (is_up_to last) bytes.now lanes result }
+    ensures read { HaveRead lanes result steps.old steps.new }
 {
     let Lanes {
         a: lane_a,
@@ -188,10 +255,10 @@ fn walk<A: LookUp>(automaton: &A, lanes: Lanes, bytes: &[u8], len: usize, last: 
     let mut c = lane_c.sid;
     let mut d = lane_d.sid;
     for read in 0..len {
-        a = step(automaton, a, bytes[lane_a.at + read]);
-        b = step(automaton, b, bytes[lane_b.at + read]);
-        c = step(automaton, c, bytes[lane_c.at + read]);
-        d = step(automaton, d, bytes[lane_d.at + read]);
+        a = step(automaton, a, bytes[lane_a.at + read], steps);
+        b = step(automaton, b, bytes[lane_b.at + read], steps);
+        c = step(automaton, c, bytes[lane_c.at + read], steps);
+        d = step(automaton, d, bytes[lane_d.at + read], steps);
         if any_up_to(last, a, b, c, d) {
             return lanes.on(read + 1, a, b, c, d);
         }
@@ -199,99 +266,75 @@ fn walk<A: LookUp>(automaton: &A, lanes: Lanes, bytes: &[u8], len: usize, last: 
     lanes.on(len, a, b, c, d)
 }
 
-/// Writes a note at its place, if there is room.
-pub fn put(notes: &mut [Note], slot: usize, note: Note)
-    ensures { (notes.new ≡ notes.old) ⊎ (notes.new ≡ slice_set notes.old slot note) }
-{
-    if slot < notes.len() {
-        notes[slot] = note;
-    }
-}
-
-/// Notes a match of a lane, which goes on from the start then if the search begins anew there; elsewhere it goes on as it stands.
-#[inline]
-fn settle<A: LookUp>(
+/// Reads on in all lanes to the end of one, or until one has no note left, and stores their notes.
+fn read_lanes<A: LookUp>(
     automaton: &A,
-    lane: Lane,
-    start: StateID,
+    begun: Lanes,
     last: StateID,
     bytes: &[u8],
-    anew: bool,
+    anew: Option<StateID>,
     notes: &mut [Note],
-) -> Lane
-    requires may { MayNote A.LookUp automaton.now start last }
-    requires to { WalkedTo (A.Reaches automaton.now No) (is_up_to last) bytes.now lane }
-    requires inside { lane.end ≤ length bytes.now }
-    requires known { AreNotes A.Reaches A.matches automaton.now bytes.now notes.old }
-    ensures walked { HasWalked (A.Reaches automaton.now No) (is_up_to last) bytes.now result }
-    ensures same { (result.at ≡ lane.at) × (result.end ≡ lane.end) }
-    ensures known { AreNotes A.Reaches A.matches automaton.now bytes.now notes.new }
-{
-    if lane.sid.as_u32() > last.as_u32() {
-        return lane;
-    }
-    put(notes, lane.slot, lane.note());
-    let sid = lane.goes_on_from(start, anew);
-    Lane {
-        from: lane.at,
-        first: sid,
-        at: lane.at,
-        sid,
-        end: lane.end,
-        slot: lane.slot.saturating_add(1),
-        slots: lane.slots,
-    }
-}
-
-/// Walks on to the next matches, or to the end of a lane, and notes them.
-#[inline]
-fn turn<A: LookUp>(
-    automaton: &A,
-    lanes: Lanes,
-    len: usize,
-    start: StateID,
-    last: StateID,
-    bytes: &[u8],
-    anew: bool,
-    notes: &mut [Note],
+    steps: &mut Steps,
 ) -> Lanes
-    requires may { MayNote A.LookUp automaton.now start last }
-    requires left { HaveLeft len lanes × (0 < len) }
-    requires walked { HaveWalked (A.Reaches automaton.now No) (is_up_to last) bytes.now lanes }
-    requires known { AreNotes A.Reaches A.matches automaton.now bytes.now notes.old }
-    ensures walked { HaveWalked (A.Reaches automaton.now No) (is_up_to last) bytes.now result }
-    ensures on { (lanes.a.at < result.a.at) × (result.a.end ≡ lanes.a.end) }
-    ensures known { AreNotes A.Reaches A.matches automaton.now bytes.now notes.new }
+    requires may { MayWalkAside A.LookUp automaton.now last }
+    requires anew { IfSome anew (A.Reaches automaton.now No []) }
+    requires begun { EachLane (λ lane. LaneBegins lane.at lane.sid (length notes.old) lane) begun }
+    requires apart { HaveOwnNotes begun }
+    requires walked { HaveWalked (A.Reaches automaton.now No) (is_up_to last) bytes.now begun }
+    ensures noted { HaveNoted A.LookUp automaton.now anew bytes.now notes.new begun result }
+    ensures all { EachLane (λ lane. (lane.from ≡ lane.at) × (lane.at ≤ lane.end)) result }
+    ensures read { HaveRead begun result steps.old steps.new }
 {
-    let gone = walk(automaton, lanes, bytes, len, last);
+    let mut lanes = begun;
+    let mut left = lanes.left();
+    while left > 0 {
+        let gone = walk(automaton, lanes, bytes, left, last, steps);
+        lanes = Lanes {
+            a: gone.a.settle(last, &anew, notes),
+            b: gone.b.settle(last, &anew, notes),
+            c: gone.c.settle(last, &anew, notes),
+            d: gone.d.settle(last, &anew, notes),
+        };
+        left = lanes.left();
+    }
     Lanes {
-        a: settle(automaton, gone.a, start, last, bytes, anew, notes),
-        b: settle(automaton, gone.b, start, last, bytes, anew, notes),
-        c: settle(automaton, gone.c, start, last, bytes, anew, notes),
-        d: settle(automaton, gone.d, start, last, bytes, anew, notes),
+        a: lanes.a.finish(notes),
+        b: lanes.b.finish(notes),
+        c: lanes.c.finish(notes),
+        d: lanes.d.finish(notes),
     }
 }
 
-/// Notes what a lane has read since its last match, as its last note.
-fn finish<A: LookUp>(automaton: &A, lane: Lane, last: StateID, bytes: &[u8], notes: &mut [Note])
-    requires quiet { (sid : StateID) → last < sid → A.matches automaton.now sid ≡ [] }
-    requires walked { HasWalked (A.Reaches automaton.now No) (is_up_to last) bytes.now lane }
-    requires known { AreNotes A.Reaches A.matches automaton.now bytes.now notes.old }
-    ensures { AreNotes A.Reaches A.matches automaton.now bytes.now notes.new }
+/// Moves the notes from one place up to another down to a place before them. Returns the place after them.
+fn move_down(notes: &mut [Note], from: usize, end: usize, to: usize) -> usize
+    requires order { (to ≤ from) × (from ≤ end) × (end ≤ length notes.old) }
+    ensures end { result ≡ to + (end - from) }
+    ensures moved { take result notes.new ≡ take to notes.old ++ slice_range notes.old from end }
+    ensures later { (k : ℕ) → end ≤ k → drop k notes.new ≡ drop k notes.old }
 {
-    if lane.slot < lane.slots {
-        put(notes, lane.slot, lane.note());
-        if lane.slot < lane.slots - 1 {
-            put(notes, lane.slot + 1, Note::blank());
-        }
-    }
+    notes.copy_within(from..end, to);
+    to + (end - from)
+}
+
+/// Moves the notes of all lanes together. Returns how many they are.
+fn gather(begun: &Lanes, lanes: &Lanes, notes: &mut [Note]) -> usize
+    requires first { begun.now.a.slot ≡ 0 }
+    requires made { EachPair (StaysIn (length notes.old)) begun.now lanes.now }
+    requires apart { HaveOwnNotes begun.now }
+    ensures few { result ≤ length notes.new }
+    ensures gathered { take result notes.new ≡ lanes_notes notes.old begun.now lanes.now }
+{
+    let b = move_down(notes, begun.b.slot, lanes.b.slot, lanes.a.slot);
+    let c = move_down(notes, begun.c.slot, lanes.c.slot, b);
+    move_down(notes, begun.d.slot, lanes.d.slot, c)
 }
 
 /// The first place after one of these bytes, if there is one in reach.
-fn place_after(after: &ByteSet, bytes: &[u8], from: usize) -> Option<usize>
-    ensures { IfSome result (λ place. place ≤ length bytes.now) }
+fn place_after(after: &ByteSet, bytes: &[u8], from: usize, reach: usize) -> Option<usize>
+    requires { from + reach ≤ length bytes.now }
+    ensures { IfSome result (MayBegin after.now bytes.now from (from + reach)) }
 {
-    for at in from..from.saturating_add(REACH).min(bytes.len()) {
+    for at in from..from + reach.min(REACH) {
         if after.contains(bytes[at]) {
             return Some(at + 1);
         }
@@ -299,27 +342,9 @@ fn place_after(after: &ByteSet, bytes: &[u8], from: usize) -> Option<usize>
     None
 }
 
-/// A lane that has read nothing yet.
-fn begins_at(at: usize, sid: StateID, end: usize, slot: usize, slots: usize) -> Lane
-    ensures places { (result.from ≡ at) × (result.at ≡ at) × (result.end ≡ end) }
-    ensures states { (result.first ≡ sid) × (result.sid ≡ sid) }
-{
-    Lane {
-        from: at,
-        first: sid,
-        at,
-        sid,
-        end,
-        slot,
-        slots,
-    }
-}
-
-/// Four lanes over the next bytes, at most so many, where there are places to cut them.
-fn begin<A: LookUp>(
-    automaton: &A,
+/// Four lanes over the next bytes, each about a quarter of them, where there are places to cut them.
+fn begin(
     start: StateID,
-    last: StateID,
     after: &ByteSet,
     sid: StateID,
     bytes: &[u8],
@@ -327,29 +352,26 @@ fn begin<A: LookUp>(
     len: usize,
     slots: usize,
 ) -> Option<Lanes>
-    requires starts { A.Reaches automaton.now No [] start }
-    requires reached { IsReached (A.Reaches automaton.now No) sid }
-    requires within { at ≤ length bytes.now }
-    ensures { IfSome result (HaveWalked (A.Reaches automaton.now No) (is_up_to last) bytes.now) }
+    requires within { at + len ≤ length bytes.now }
+    ensures { IfSome result (CutBytes after.now bytes.now at sid start (at + len) slots) }
 {
-    let block = len.min(bytes.len() - at);
-    let b = place_after(after, bytes, at + block / 4)?;
-    let c = place_after(after, bytes, at + block / 2)?;
-    let d = place_after(after, bytes, at + block / 4 + block / 2)?;
+    let quarter = len / 4;
+    let b = place_after(after, bytes, at + quarter, quarter)?;
+    let c = place_after(after, bytes, at + 2 * quarter, quarter)?;
+    let d = place_after(after, bytes, at + 3 * quarter, quarter)?;
     let own = slots / 4;
     Some(Lanes {
-        a: begins_at(at, sid, b, 0, own),
-        b: begins_at(b, start, c, own, 2 * own),
-        c: begins_at(c, start, d, 2 * own, 3 * own),
-        d: begins_at(d, start, at + block, 3 * own, slots),
+        a: Lane::begin(at, sid, b, 0, own),
+        b: Lane::begin(b, start, c, own, 2 * own),
+        c: Lane::begin(c, start, d, 2 * own, 3 * own),
+        d: Lane::begin(d, start, at + len, 3 * own, slots),
     })
 }
 
-/// Reads ahead of a search that isn't anchored, which has come to a place of some bytes in a state, over at most so many bytes, and
-/// writes over the notes what it found there, in order of place. `anew` is whether the search begins anew after a match.
-///
-/// Returns how many of these bytes it has read, or fewer than `len` only where the notes were full before the end of a lane; none
-/// where there is no byte near the beginning of each lane that no pattern has.
+/// Reads up to `len` bytes ahead of an unanchored search that stands at `at` in state `sid`, and stores notes of what it found, in
+/// order of place. `anew` is the state in which the search begins anew after a match. All four lanes read as many bytes, so it reads
+/// less than `len` bytes: up to the end of the shortest lane, or until the notes of a lane are full. It reads none where there is no
+/// byte near the beginning of each lane that no pattern has, or where a pattern may match at `start`.
 ///
 /// `last` is the last state at which a pattern matches.
 pub fn note_ahead<A: LookUp>(
@@ -361,28 +383,29 @@ pub fn note_ahead<A: LookUp>(
     bytes: &[u8],
     at: usize,
     len: usize,
-    anew: bool,
+    anew: Option<StateID>,
     notes: &mut [Note],
-) -> usize
-    requires may { MayNote A.LookUp automaton.now start last }
+    steps: &mut Steps,
+) -> Noted
+    requires may { MayNote A.LookUp automaton.now start last after.now }
     requires reached { IsReached (A.Reaches automaton.now No) sid }
-    requires within { at ≤ length bytes.now }
-    requires known { AreNotes A.Reaches A.matches automaton.now bytes.now notes.old }
-    ensures { AreNotes A.Reaches A.matches automaton.now bytes.now notes.new }
+    requires begins { IfSome anew (A.Reaches automaton.now No []) }
+    requires within { at + len ≤ length bytes.now }
+    ensures few { result.notes ≤ length notes.new }
+    ensures reads { ReadsAheadBy (IsLaneCut after.now start (A.matches automaton.now)) (A.built automaton.now)
+        (A.Reaches automaton.now No) (A.matches automaton.now) anew sid bytes.now at len result.read
+        (take result.notes notes.new) steps.old steps.new }
 {
-    let slots = notes.len();
-    let Some(mut lanes) = begin(automaton, start, last, after, sid, bytes, at, len, slots) else {
-        return 0;
-    };
-    let mut left = lanes.left();
-    while left > 0 {
-        lanes = turn(automaton, lanes, left, start, last, bytes, anew, notes);
-        left = lanes.left();
+    if start.as_u32() <= last.as_u32() {
+        return Noted::none();
     }
-    finish(automaton, lanes.a, last, bytes, notes);
-    finish(automaton, lanes.b, last, bytes, notes);
-    finish(automaton, lanes.c, last, bytes, notes);
-    finish(automaton, lanes.d, last, bytes, notes);
-    let read = lanes.a.at.saturating_sub(at).saturating_mul(4);
-    if lanes.are_full() { read } else { len }
+    let Some(begun) = begin(start, after, sid, bytes, at, len, notes.len()) else {
+        return Noted::none();
+    };
+    let lanes = read_lanes(automaton, begun, last, bytes, anew, notes, steps);
+    Noted {
+        notes: gather(&begun, &lanes, notes),
+        read: 4 * (lanes.a.at - at),
+        full: lanes.are_full(),
+    }
 }

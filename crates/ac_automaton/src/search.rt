@@ -19,16 +19,16 @@ use ac_input::steps::Steps;
 
 /// An automaton that searches.
 pub trait Search: Automaton {
-    ghost use Rattle.std.specs.Prelude.{◌≡◌, ◌≤◌, []};
+    ghost use Rattle.std.specs.Prelude.{◌≡◌, ◌≤◌, ◌-◌, [], None, Some};
     ghost use Rattle.ac_input.specs.declared.search.Anchored.TheVariants.{No};
     ghost use Rattle.ac_input.specs.declared.search.MatchKind.TheVariants.{Standard};
-    ghost use Rattle.ac_automaton.specs.Ahead.{AreNotes};
+    ghost use Rattle.ac_automaton.specs.Ahead.{IsPaid, StaysReadOnce};
     ghost use Rattle.ac_automaton.specs.Automaton.{Finds, CostsFind, IsFindCost, IsFound};
-    ghost use Rattle.ac_automaton.specs.FindAhead.{AreNotesOf, MayReadAhead};
+    ghost use Rattle.ac_automaton.specs.FindAhead.{IsAheadIn, MayReadAhead, ended_at};
     ghost use Rattle.ac_automaton.specs.Items.{FindsWithin};
-    ghost use Rattle.ac_automaton.specs.Overlapping.OverlappingSearch.{CountsOn, HasLeft, KeepsPaying, ShowsNextAt};
-    ghost use Rattle.ac_automaton.specs.Stream.StreamListingWalk.{ListsNext, MayList};
-    ghost use Rattle.ac_automaton.specs.Stream.StreamWalk.{MayWalk, WalksOn};
+    ghost use Rattle.ac_automaton.specs.Overlapping.OverlappingSearch.{CountsOn, HasLeft, IsAheadAt, KeepsPaying, ShowsNextAt};
+    ghost use Rattle.ac_automaton.specs.Stream.StreamListingWalk.{IsAheadFor, ListsNext, MayList};
+    ghost use Rattle.ac_automaton.specs.Stream.StreamWalk.{IsAheadBy, MayWalk, WalksOn};
 
     /// The match of the input, if it has one, as [`Automaton::try_find_counted`] returns it; counts what it does.
     fn search(&self, input: &Input<'_>, steps: &mut Steps) -> Result<Option<Match>, MatchError>
@@ -51,10 +51,10 @@ pub trait Search: Automaton {
     ) -> Option<Match>
         requires may { MayReadAhead Self.Automaton self.now input.now start }
         requires ordered { input.now.span.start ≤ input.now.span.end }
-        requires known { AreNotesOf Self.Automaton self.now input.now ahead.old.notes }
+        requires ahead { IsAheadIn Self.Automaton self.now input.now start input.now.span.start ahead.old }
         ensures found { IsFound (Self.built self.now) input.now result }
-        ensures cost { IsFindCost (Self.built self.now) input.now steps.old steps.new result }
-        ensures known { AreNotesOf Self.Automaton self.now input.now ahead.new.notes }
+        ensures cost { IsPaid ahead.old ahead.new steps.new (λ paid. IsFindCost (Self.built self.now) input.now steps.old paid result) }
+        ensures ahead { IsAheadIn Self.Automaton self.now input.now start (ended_at input.now result) ahead.new }
     {
         find_ahead::find(self, input, start, ahead, steps)
     }
@@ -80,27 +80,25 @@ pub trait Search: Automaton {
         overlapping::advance(self, input, start, place, steps)
     }
 
-    /// The same, by what was read ahead in the haystack, of which it keeps notes; it reads ahead where the search isn't anchored and
-    /// has no prefilter to run. Its caller is the iterator: [`FindOverlappingIter`](crate::overlapping::FindOverlappingIter).
+    /// The same for a search that isn't anchored, by what was read ahead in the haystack, of which it keeps notes. It runs no
+    /// prefilter. Its caller is the iterator: [`FindOverlappingIter`](crate::overlapping::FindOverlappingIter).
     fn search_overlapping_ahead(
         &self,
         input: &Input<'_>,
-        start: StateID,
         place: Position,
         ahead: &mut Ahead,
         steps: &mut Steps,
     ) -> Shown
         requires standard { (Self.built self.now).dictionary.kind ≡ Standard }
-        requires starts { Self.Reaches self.now input.now.anchored [] start }
+        requires free { input.now.anchored ≡ No }
         requires left { HasLeft Self.Automaton self.now input.now place }
-        requires known { AreNotesOf Self.Automaton self.now input.now ahead.old.notes }
+        requires ahead { IsAheadAt Self.Automaton self.now input.now place ahead.old }
         ensures shows { ShowsNextAt Self.Automaton self.now input.now place result }
-        ensures pays { KeepsPaying (Self.built self.now) input.now place result
-            steps.old steps.new }
-        ensures counts { CountsOn (Self.built self.now) input.now place result steps.old steps.new }
-        ensures known { AreNotesOf Self.Automaton self.now input.now ahead.new.notes }
+        ensures paid { IsPaid ahead.old ahead.new steps.new (λ paid. KeepsPaying (Self.built self.now) input.now place result steps.old paid
+            × CountsOn (Self.built self.now) input.now place result steps.old paid) }
+        ensures ahead { IsAheadAt Self.Automaton self.now input.now result.place ahead.new }
     {
-        overlapping::advance_ahead(self, input, start, place, ahead, steps)
+        overlapping::advance_ahead(self, input, place, ahead, steps)
     }
 
     /// The next match of a stream among the bytes that are held, of a search that began in a start state and has come this far;
@@ -115,10 +113,11 @@ pub trait Search: Automaton {
         steps: &mut Steps,
     ) -> Searched
         requires walk { MayWalk Self.Automaton self.now start progress.now held.now }
-        requires known { AreNotes Self.Reaches Self.matches self.now held.now ahead.old.notes }
-        ensures walk { WalksOn Self.Automaton self.now start progress.now held.now result
-            steps.old steps.new }
-        ensures known { AreNotes Self.Reaches Self.matches self.now held.now ahead.new.notes }
+        requires ahead { IsAheadBy Self.Automaton self.now start held.now progress.now ahead.old }
+        ensures walk { IsPaid ahead.old ahead.new steps.new (λ paid. WalksOn Self.Automaton self.now start progress.now held.now result
+            steps.old paid) }
+        ensures ahead { IsAheadBy Self.Automaton self.now start held.now result.progress ahead.new }
+        ensures once { StaysReadOnce held.now ahead.old ahead.new }
     {
         stream::search_held(self, start, progress, held, ahead, steps)
     }
@@ -134,10 +133,10 @@ pub trait Search: Automaton {
         steps: &mut Steps,
     ) -> Listed
         requires stands { MayList Self.Automaton self.now place.now held.now }
-        requires known { AreNotes Self.Reaches Self.matches self.now held.now ahead.old.notes }
-        ensures lists { ListsNext Self.Automaton self.now place.now held.now result
-            steps.old steps.new }
-        ensures known { AreNotes Self.Reaches Self.matches self.now held.now ahead.new.notes }
+        requires ahead { IsAheadFor Self.Automaton self.now held.now place.now ahead.old }
+        ensures lists { IsPaid ahead.old ahead.new steps.new (λ paid. ListsNext Self.Automaton self.now place.now held.now result
+            steps.old paid) }
+        ensures ahead { IsAheadFor Self.Automaton self.now held.now result.place ahead.new }
     {
         stream::overlapping::next_listed(self, place, held, ahead, steps)
     }
@@ -171,12 +170,11 @@ impl<'a, A: Search> Search for &'a A {
     fn search_overlapping_ahead(
         &self,
         input: &Input<'_>,
-        start: StateID,
         place: Position,
         ahead: &mut Ahead,
         steps: &mut Steps,
     ) -> Shown {
-        (**self).search_overlapping_ahead(input, start, place, ahead, steps)
+        (**self).search_overlapping_ahead(input, place, ahead, steps)
     }
 
     fn search_stream(

@@ -6,7 +6,7 @@ use Rattle.ac_input.specs.Occurrence.{Occurrence}
 use Rattle.ac_input.specs.Work.{longest}
 use Rattle.ac_input.specs.declared.steps.Steps.{Steps}
 use Rattle.ac_automaton.specs.Automaton.{searched}
-use Rattle.ac_automaton.specs.Overlapping.OverlappingIter.{CountsRun, IsWithinOneWalk, Run, RunCounts, fresh_run, rest_of}
+use Rattle.ac_automaton.specs.Overlapping.OverlappingIter.{CountsRun, IsWithinOneWalk, LooksNear, Run, RunCounts, fresh_run, rest_of}
 use Rattle.ac_automaton.specs.declared.error.MatchErrorKind.{MatchErrorKind}
 use Rattle.ac_automaton.specs.Overlapping.{CanOverlap, IsOverlappingRefusal}
 use Rattle.aho_corasick.specs.AhoCorasick.{as_built, patterns_of, supported_by}
@@ -82,10 +82,11 @@ pub record RunsTo (run later : Run) (before after : Steps) : Type 0 where
 abbrev pub run_from : AhoCorasick → List ℕ → Place → Run
 run_from ac haystack p = fresh_run (as_built ac) (asked_from haystack p (begins_at p (longest (patterns_of ac))))
 
--- A run that filled a buffer has counted each byte up to the end of the last occurrence given; or every byte of its span, if there is
--- room left after n of them.
+-- A run that filled a buffer has counted each byte up to the end of the last occurrence given, and has looked not far ahead of it; or
+-- it has counted every byte of its span, if there is room left after n of them.
 pub record CountsFilled (later : Run) (p : Place) (out : List Found) (n : ℕ) : Type 0 where
   pub last : 0 < n → n ≡ length out → CountsRun later (before_of (place_after p out n))
+  pub near : 0 < n → n ≡ length out → LooksNear later (before_of (place_after p out n))
   pub all : n < length out → CountsRun later None
 
 -- The next occurrences cost what the run does from where it starts, and each byte that it passes is counted. A call that is refused

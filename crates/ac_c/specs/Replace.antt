@@ -1,5 +1,5 @@
 -- What a replacement in memory returns.
-use Rattle.std.specs.Prelude.{◌≡◌, ◌≢◌, ◌⊎◌, ℕ, ◌<◌, ◌≤◌, ◌^◌, List, ◌++◌, length, map, drop, Some, Result, Ok, Err}
+use Rattle.std.specs.Prelude.{◌≡◌, ◌≢◌, ◌⊎◌, ℕ, ◌<◌, ◌≤◌, ◌^◌, nat_le, Bool, List, ◌++◌, length, map, drop, Some, Result, Ok, Err}
 use Rattle.std.specs.Global.{Vec}
 use denote.Ref.{Bor}
 use Rattle.ac_input.specs.declared.steps.Steps.{Steps}
@@ -76,16 +76,22 @@ AnswersInto ac haystack replacements old new made =
 abbrev pub walk_over : AhoCorasick → List ℕ → Walk
 walk_over ac haystack = fresh_walk (as_built ac) (whole_of haystack)
 
--- What it costs to know the length: a walk to its end. If no number of 64 bits says the length, the walk may stop before.
-abbrev pub CostsLen : Walk → Steps → Steps → Result ℕ ℕ → Type 0
-CostsLen w before after (Ok len) = WalksToEnd w before after
-CostsLen w before after (Err status) = WalksOn w before after
+-- a haystack of this length may be read ahead
+abbrev pub is_long : List ℕ → Bool
+is_long haystack = nat_le 4096 (length haystack)
 
--- What a text into a buffer costs: a walk over the haystack for the length, and another one to write the text, if there is room.
+-- What it costs to know the length: a walk to its end, which may read ahead or not. If no number of 64 bits says the length, the walk
+-- may stop before.
+abbrev pub CostsLen : Bool → Walk → Steps → Steps → Result ℕ ℕ → Type 0
+CostsLen ahead w before after (Ok len) = WalksToEnd ahead w before after
+CostsLen ahead w before after (Err status) = WalksOn ahead w before after
+
+-- What a text into a buffer costs: a walk over the haystack for the length, and another one to write the text, if there is room. They
+-- read ahead only where the haystack is long.
 pub record CostsInto (ac : AhoCorasick) (haystack : List ℕ) (status : ℕ) (before after : Steps) : Type 0 where
-  pub written : status ≡ ok → (between : Steps) × WalksToEnd (walk_over ac haystack) before between × WalksToEnd (walk_over ac haystack) between after
-  pub measured : status ≡ too_short → WalksToEnd (walk_over ac haystack) before after
-  pub refused : status ≢ ok → status ≢ too_short → WalksOn (walk_over ac haystack) before after
+  pub written : status ≡ ok → (between : Steps) × WalksToEnd (is_long haystack) (walk_over ac haystack) before between × WalksToEnd (is_long haystack) (walk_over ac haystack) between after
+  pub measured : status ≡ too_short → WalksToEnd (is_long haystack) (walk_over ac haystack) before after
+  pub refused : status ≢ ok → status ≢ too_short → WalksOn (is_long haystack) (walk_over ac haystack) before after
 
 -- ---- into memory of the library's
 

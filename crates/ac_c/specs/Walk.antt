@@ -1,5 +1,5 @@
 -- What a walk returns, from a cursor that C keeps.
-use Rattle.std.specs.Prelude.{◌≡◌, ◌⊎◌, ℕ, ◌==◌, ◌<◌, ◌≤◌, ◌^◌, ◌-◌, ◌&&◌, nat_lt, if◌then◌else◌, min, List, [], ◌∷◌, length, map, take, drop, Option, Some, None, IfSome, MatchOption, Result, Ok, Err}
+use Rattle.std.specs.Prelude.{◌≡◌, ◌⊎◌, ℕ, ◌==◌, ◌<◌, ◌≤◌, ◌^◌, ◌-◌, ◌&&◌, nat_le, nat_lt, Bool, if◌then◌else◌, min, List, [], ◌∷◌, length, map, take, drop, Option, Some, None, IfSome, MatchOption, Result, Ok, Err}
 use Rattle.ac_input.specs.declared.steps.Steps.{Steps}
 use Rattle.ac_input.specs.Occurrence.{Occurrence}
 use Rattle.ac_automaton.specs.Iter.{IsPickCost, IsPlaceIn, PickCounts, Walk, left_of, walk_from_place}
@@ -91,12 +91,13 @@ pub record AreGiven (left : List Occurrence) (old new : List Found) (n : ℕ) : 
   pub count : n ≡ min (length old) (length left)
   pub given : take n new ≡ map shown (take n left)
 
--- The walk stands at the first cursor, and its next matches went to the buffer. It stands at the second cursor after them.
-pub record TakesSome (w : Walk) (c : Cursor) (old new : List Found) (before after : Steps) (taken : ℕ × Cursor) : Type 0 where
+-- The walk, which may read ahead or not, stands at the first cursor, and its next matches went to the buffer. It stands at the second
+-- cursor after them.
+pub record TakesSome (ahead : Bool) (w : Walk) (c : Cursor) (old new : List Found) (before after : Steps) (taken : ℕ × Cursor) : Type 0 where
   pub given : AreGiven (left_of w) old new taken.0
   pub moved : Walk
   pub rest : left_of moved ≡ drop taken.0 (left_of w)
-  pub cost : WalksTo w moved before after
+  pub cost : WalksTo ahead w moved before after
   pub within : IsPlaceIn moved.asked (record { start = moved.at; last = moved.last })
   pub goes : Goes c (record { start = moved.at; last = moved.last }) taken.1
 
@@ -105,10 +106,15 @@ abbrev pub IsSomeBy : AhoCorasick → List ℕ → Cursor → List Found → Lis
 IsSomeBy ac haystack c old new (Ok taken) = IsWalkBy ac haystack c × AreGiven (left_of_walk ac haystack c) old new taken.0 × IsCursorAfter ac haystack c taken.1 (drop taken.0 (left_of_walk ac haystack c))
 IsSomeBy ac haystack c old new (Err status) = IsRefusedWalk ac haystack c status × (new ≡ old)
 
--- The next matches cost what the walk does from one cursor to the other. A call that is refused costs nothing.
-abbrev pub CostsSome : AhoCorasick → List ℕ → Cursor → Steps → Steps → Result (ℕ × Cursor) ℕ → Type 0
-CostsSome ac haystack c before after (Ok taken) = (v : Walk) × WalksTo (walk_of_cursor ac haystack c) v before after × (v.at ≡ taken.1.start)
-CostsSome ac haystack c before after (Err status) = after ≡ before
+-- a call with room for this many matches may read ahead
+abbrev pub are_many : ℕ → Bool
+are_many room = nat_le 16 room
+
+-- The next matches cost what the walk does from one cursor to the other. With room for few it reads nothing ahead. A call that is
+-- refused costs nothing.
+abbrev pub CostsSome : AhoCorasick → List ℕ → Cursor → ℕ → Steps → Steps → Result (ℕ × Cursor) ℕ → Type 0
+CostsSome ac haystack c room before after (Ok taken) = (v : Walk) × WalksTo (are_many room) (walk_of_cursor ac haystack c) v before after × (v.at ≡ taken.1.start)
+CostsSome ac haystack c room before after (Err status) = after ≡ before
 
 -- the status of a call that returned this count, for a buffer with this room
 abbrev pub given_status : ℕ → ℕ → ℕ

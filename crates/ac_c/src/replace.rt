@@ -4,7 +4,7 @@
 //! is taken, and a buffer that is too short stays as it was. A text that C holds is freed once the new one is made, and not before.
 ghost use Rattle.std.specs.Prelude.{◌≡◌, ◌≤◌, ◌+◌, ◌++◌, length, take, drop, Some};
 ghost use Rattle.ac_c.specs.Walking.{IsAccounted, WalksToEnd};
-ghost use Rattle.ac_c.specs.Replace.{AnswersInto, AnswersText, AreReplaceable, CostsInto, CostsLen, IsLenBy, IsLenOf, IsReplaced, IsReplacedBy, begun_with, text_along, text_by, walk_over};
+ghost use Rattle.ac_c.specs.Replace.{AnswersInto, AnswersText, AreReplaceable, CostsInto, CostsLen, IsLenBy, IsLenOf, IsReplaced, IsReplacedBy, begun_with, is_long, text_along, text_by, walk_over};
 
 use crate::bytes::Bytes;
 use crate::status::{NO_MEMORY, OK, TOO_MANY_BYTES, TOO_SHORT, WRONG_COUNT, refused};
@@ -29,9 +29,9 @@ fn text_len<W: Walking + Drop>(
     steps: &mut Steps,
 ) -> Result<usize, u32>
     requires lie { AreReplaceable haystack.now replacements.now (W.walk matches) }
-    requires counted { IsAccounted (W.walk matches) }
+    requires counted { IsAccounted W.ahead (W.walk matches) }
     ensures len { IsLenOf (text_along haystack.now replacements.now (W.walk matches)) result }
-    ensures cost { CostsLen (W.walk matches) steps.old steps.new result }
+    ensures cost { CostsLen W.ahead (W.walk matches) steps.old steps.new result }
 {
     let mut at = 0;
     let mut len: usize = 0;
@@ -73,10 +73,10 @@ fn write_text<W: Walking + Drop>(
     requires lie { AreReplaceable haystack.now replacements.now (W.walk matches) }
     requires fits { length (text_along haystack.now replacements.now (W.walk matches))
         ≤ length out.old }
-    requires counted { IsAccounted (W.walk matches) }
+    requires counted { IsAccounted W.ahead (W.walk matches) }
     ensures text { out.new
         ≡ begun_with (text_along haystack.now replacements.now (W.walk matches)) out.old }
-    ensures cost { WalksToEnd (W.walk matches) steps.old steps.new }
+    ensures cost { WalksToEnd W.ahead (W.walk matches) steps.old steps.new }
 {
     let mut at = 0;
     let mut len = 0;
@@ -99,7 +99,7 @@ fn len_counted(
     steps: &mut Steps,
 ) -> Result<usize, u32>
     ensures len { IsLenBy ac.now haystack.now replacements.now result }
-    ensures cost { CostsLen (walk_over ac.now haystack.now) steps.old steps.new result }
+    ensures cost { CostsLen (is_long haystack.now) (walk_over ac.now haystack.now) steps.old steps.new result }
 {
     if replacements.len() != ac.patterns_len() {
         return Err(WRONG_COUNT);
@@ -127,7 +127,7 @@ fn write_counted(
     requires replaced { IsReplaced ac.now replacements.now }
     requires fits { length (text_by ac.now haystack.now replacements.now) ≤ length out.old }
     ensures text { out.new ≡ begun_with (text_by ac.now haystack.now replacements.now) out.old }
-    ensures cost { WalksToEnd (walk_over ac.now haystack.now) steps.old steps.new }
+    ensures cost { WalksToEnd (is_long haystack.now) (walk_over ac.now haystack.now) steps.old steps.new }
 {
     let input = Input::new(haystack);
     if haystack.len() < LONG {

@@ -1,5 +1,5 @@
 //! The walk over a haystack, from a cursor that C keeps.
-ghost use Rattle.std.specs.Prelude.{◌≡◌, MatchOption, drop};
+ghost use Rattle.std.specs.Prelude.{◌≡◌, MatchOption, drop, length};
 ghost use Rattle.ac_automaton.specs.Iter.{left_of};
 ghost use Rattle.ac_c.specs.Walking.{IsAccounted, WalksTo};
 ghost use Rattle.ac_c.specs.Walk.{AnswersSome, AnswersStep, AreGiven, CostsSome, CostsStep, Goes, IsCursorIn, IsSomeBy, IsStepBy, TakesSome, batch_of, bounds_of, cursor, place_of_cursor, step_of};
@@ -115,10 +115,10 @@ fn step_counted(
 
 /// Fills a buffer with the matches that come next; returns how many these are, and counts what it does.
 fn fill<W: Walking>(matches: &mut W, out: &mut [Found], steps: &mut Steps) -> usize
-    requires { IsAccounted (W.walk matches.old) }
+    requires { IsAccounted W.ahead (W.walk matches.old) }
     ensures given { AreGiven (left_of (W.walk matches.old)) out.old out.new result }
     ensures rest { left_of (W.walk matches.new) ≡ drop result (left_of (W.walk matches.old)) }
-    ensures cost { WalksTo (W.walk matches.old) (W.walk matches.new) steps.old steps.new }
+    ensures cost { WalksTo W.ahead (W.walk matches.old) (W.walk matches.new) steps.old steps.new }
 {
     for at in 0..out.len() {
         match matches.next_match(steps) {
@@ -136,8 +136,8 @@ fn taken<W: Walking + Drop>(
     out: &mut [Found],
     steps: &mut Steps,
 ) -> (usize, Cursor)
-    requires { IsAccounted (W.walk matches) }
-    ensures { TakesSome (W.walk matches) cursor out.old out.new steps.old steps.new result }
+    requires { IsAccounted W.ahead (W.walk matches) }
+    ensures { TakesSome W.ahead (W.walk matches) cursor out.old out.new steps.old steps.new result }
 {
     let mut matches = matches;
     let count = fill(&mut matches, out, steps);
@@ -156,7 +156,7 @@ fn some_counted(
     steps: &mut Steps,
 ) -> Result<(usize, Cursor), u32>
     ensures some { IsSomeBy ac.now haystack.now cursor out.old out.new result }
-    ensures cost { CostsSome ac.now haystack.now cursor steps.old steps.new result }
+    ensures cost { CostsSome ac.now haystack.now cursor (length out.old) steps.old steps.new result }
 {
     let Some(input) = input_at(haystack, cursor) else {
         return Err(BAD_CURSOR);

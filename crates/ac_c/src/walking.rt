@@ -1,10 +1,11 @@
 //! What gives the matches of a walk: an iterator that reads ahead, or one that doesn't.
-ghost use Rattle.std.specs.Prelude.{◌≡◌};
+ghost use Rattle.std.specs.Prelude.{◌≡◌, false, true};
 
 use aho_corasick::{FindIter, FindIterAhead, Match, Steps, WalkPlace};
 
 /// An iterator over the matches of a walk.
 pub trait Walking {
+    ghost use Rattle.std.specs.Prelude.{Bool};
     ghost use Rattle.std.specs.Iterator.{YieldsFirst};
     ghost use Rattle.ac_automaton.specs.Iter.{GivesPick, IsPlaceIn, Walk, left_of};
     ghost use Rattle.ac_c.specs.Walking.{WalksTo};
@@ -12,11 +13,14 @@ pub trait Walking {
     /// The walk, where it stands.
     ghost walk: { Self → Walk };
 
+    /// Whether the walk may read ahead.
+    ghost ahead: { Bool };
+
     /// The next match; counts what it does.
     fn next_match(&mut self, steps: &mut Steps) -> Option<Match>
         ensures gives { GivesPick (walk self.old) result (walk self.new) }
         ensures yields { YieldsFirst left_of (walk self.old) result (walk self.new) }
-        ensures cost { WalksTo (walk self.old) (walk self.new) steps.old steps.new };
+        ensures cost { WalksTo ahead (walk self.old) (walk self.new) steps.old steps.new };
 
     /// Where the walk stands.
     fn stands(&self) -> WalkPlace
@@ -26,6 +30,8 @@ pub trait Walking {
 
 impl<'a, 'h> Walking for FindIter<'a, 'h> {
     ghost walk = { λ w. w };
+
+    ghost ahead = { false };
 
     fn next_match(&mut self, steps: &mut Steps) -> Option<Match> {
         self.next_counted(steps)
@@ -38,6 +44,8 @@ impl<'a, 'h> Walking for FindIter<'a, 'h> {
 
 impl<'a, 'h> Walking for FindIterAhead<'a, 'h> {
     ghost walk = { λ w. w };
+
+    ghost ahead = { true };
 
     fn next_match(&mut self, steps: &mut Steps) -> Option<Match> {
         self.next_counted(steps)

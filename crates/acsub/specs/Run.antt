@@ -134,9 +134,10 @@ pub record RefusesRules {R W : Type 0} (plan : Plan) (reader_before reader_after
   pub memory : RunsOutFirst plan reader_before reader_after writer_before writer_after result
   pub within : HasBegun result → IsBuildable plan.settings plan.rules
 
--- how many bytes a search of a stream reads: each byte once, and some of them again after matches
+-- how many bytes a search of a stream looks at: each byte once, and under a leftmost kind each once more, read ahead in vain, and some
+-- of them again after matches
 abbrev pub read_for_run : Plan → List ℕ → ℕ
-read_for_run plan x = length x + read_again (dictionary_for plan.settings plan.rules) (length (whole_walk plan x))
+read_for_run plan x = length x + read_again (dictionary_for plan.settings plan.rules) (length x) (length (whole_walk plan x))
 
 -- What it may cost to read these bytes, and to write their text meanwhile. The automaton that serves the plan limits the look-ups.
 -- No place is scanned, and at most a seventh as many bytes as were read are moved within the buffer.

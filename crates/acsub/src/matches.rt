@@ -19,7 +19,8 @@ pub enum Matches<'a> {
 }
 
 impl<'a> Matches<'a> {
-    /// The next match; counts the looks and scans of an automaton. Packed search counts nothing.
+    /// The next match; counts the looks and scans of an automaton, each when it is made. An overlapping search may look at up to 8 KiB
+    /// past the match. Packed search counts nothing.
     pub fn next_counted(&mut self, steps: &mut Steps) -> Option<Match>
         ensures yields { YieldsFirst left_in self.old result self.new }
         ensures counts { KeepsCount self.old self.new steps.old steps.new }

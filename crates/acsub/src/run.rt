@@ -118,7 +118,8 @@ pub fn run_in<R: Read, W: Write>(
 /// finds the matches or a pattern is empty. It writes the same text.
 ///
 /// Before each read it has written everything that is decided, of all that overlap each line. Under a leftmost kind it holds back at
-/// most as many bytes as the longest pattern has; after each match it reads at most so many bytes and one again.
+/// most as many bytes as the longest pattern has; it may look at each byte once more, read ahead in vain, and after each match at so
+/// many bytes and one again. Under the standard kind it looks at no byte again.
 pub fn run_rules<R: Read, W: Write>(
     alloc: Global,
     settings: &Settings,

@@ -1,7 +1,7 @@
 -- What a search for one match returns and costs, when one call reads on from its start to the first state that matches.
-use Rattle.std.proofs.Common.{◌≡◌, ◌≢◌, ℕ, ◌+◌, ◌-◌, ◌<◌, ◌≤◌, Bool, true, false, List, [], length, take, drop, Option, Some, None, slice_range, refl, sym, ap, subst, ◌∙◌, arith}
+use Rattle.std.proofs.Common.{◌≡◌, ◌≢◌, ℕ, ◌+◌, ◌-◌, ◌<◌, ◌≤◌, Bool, true, false, List, [], length, take, drop, Option, Some, None, slice_range, refl, sym, ap, subst, ◌∙◌, ◌∷◌, arith, length-drop}
 use Rattle.std.specs.Option.{option_or}
-use Rattle.std.proofs.lemmas.List.{drop-take}
+use Rattle.std.proofs.lemmas.List.{drop-take, length-take-le}
 use Rattle.ac_input.specs.Number.{StateID}
 use Rattle.ac_input.specs.declared.search.Anchored.{Anchored}
 use Rattle.ac_input.specs.declared.search.Anchored.TheVariants.{No}
@@ -10,17 +10,21 @@ use Rattle.ac_input.specs.declared.search.MatchKind.TheVariants.{Standard}
 use Rattle.ac_input.specs.declared.search.Span.{Span}
 use Rattle.ac_input.specs.declared.steps.Steps.{Steps}
 use Rattle.ac_input.specs.Best.{asked_kind}
-use Rattle.ac_input.specs.Dictionary.{IsLive}
+use Rattle.ac_input.specs.Dictionary.{Dictionary, IsLive}
 use Rattle.ac_input.specs.Input.{Asked}
 use Rattle.ac_input.specs.Laws.LiveLaws.{IsOwnInverse}
 use Rattle.ac_input.specs.Occurrence.{Occurrence, Occurs, Search}
-use Rattle.ac_input.specs.Tells.{Tells}
+use Rattle.ac_input.specs.Tells.{Tells, ending_at}
 use Rattle.ac_input.specs.Work.{shortest}
 use Rattle.ac_input.proofs.lemmas.LiveLemmas.{dead-best}
 use Rattle.ac_input.proofs.lemmas.OrderLemmas.{slice_range-length}
-use Rattle.ac_automaton.specs.Automaton.{AdvancesToMatch, IsFindCost, IsFound, IsReadCost, searched}
+use Rattle.std.specs.Prelude.{IfSome}
+use Rattle.ac_automaton.specs.Ahead.{IsAhead, bytes_ahead, left_notes, onward}
+use Rattle.ac_automaton.specs.declared.ahead.Ahead.{Ahead}
+use Rattle.ac_automaton.proofs.ahead.AheadLemmas.{ahead-end, ahead-fresh}
+use Rattle.ac_automaton.specs.Automaton.{AdvancesToMatch, Built, IsFindCost, IsFound, IsReadCost, searched}
 use Rattle.ac_automaton.specs.Cursor.{IsFirstAt, taken}
-use Rattle.ac_automaton.specs.FindAhead.{MayReadAhead}
+use Rattle.ac_automaton.specs.FindAhead.{MayReadAhead, ReadsAheadFrom}
 use Rattle.ac_automaton.specs.declared.automaton.Advance.{Advance}
 use Rattle.ac_automaton.specs.declared.automaton.Automaton.{Ghosts}
 use Rattle.ac_automaton.specs.declared.cursor.Cursor.{Cursor}
@@ -28,7 +32,7 @@ use Rattle.ac_automaton.proofs.find.CountedLemmas.{walk-counts}
 use Rattle.ac_automaton.proofs.lemmas.CursorLemmas.{alive-from, list-none}
 use Rattle.ac_automaton.proofs.find.FindWalkLemmas.{HasAsked, Walks, asked-looks, asked-on, asked-says, asked-work, asks, rest, text_read, walks-first}
 use Rattle.ac_automaton.proofs.iter.IterLemmas.{occurs-not_empty}
-use Rattle.ac_automaton.proofs.automaton.PassLemmas.{some-matching}
+use Rattle.ac_automaton.proofs.automaton.PassLemmas.{matching-some, some-matching}
 use Rattle.ac_automaton.proofs.cursor.ReadToMatchLemmas.{cursor-read_to, cursor-read_to_match}
 use Rattle.ac_automaton.proofs.stream.SearchLemmas.{nothing-in_empty, told-some}
 use Rattle.ac_automaton.proofs.find.TakenLemmas.{taken-free}
@@ -158,3 +162,38 @@ module _ {S : Type 0} (A : Ghosts S) (a : S) (asked : Asked) (start : StateID) (
 -- where no pattern is empty, nothing is found in an empty span
 pub none-left : (s : Search) → s.end ≤ length s.haystack → 1 ≤ shortest s.patterns → s.start ≡ s.end → (o : Occurrence) → ¬ Occurs s o
 none-left s inside filled e o h = let lt = occurs-not_empty s o inside filled h in let w = h.within in omega (arith, lt, w, e)
+
+-- ---- what was read ahead
+
+-- a match of a list at a place ends there
+pub first-ends : (m : Dictionary) (at : ℕ) (ns : List ℕ) (o : Occurrence) → IsFirstAt m at ns o → o.end ≡ at
+first-ends m at [] o is = let e : Some o ≡ None = is in absurd cc
+first-ends m at (n ∷ ns) o is = let e : o ≡ ending_at m at n = cc in ap (λ (q : Occurrence). q.end) e
+
+-- after a match, what was read ahead of the search that begins anew there
+pub ahead-match : (b : Built) (Reaches : List ℕ → StateID → Type 0) (matches : StateID → List ℕ) (start sid : StateID) (bytes : List ℕ) (at : ℕ) (o : Occurrence) (ahead : Ahead)
+    → matches sid ≢ [] → IsFirstAt b.dictionary at (matches sid) o → IsAhead b Reaches matches (Some start) bytes at (onward matches (Some start) sid) ahead → IsAhead b Reaches matches (Some start) bytes o.end start ahead
+ahead-match b Reaches matches start sid bytes at o ahead some is read =
+    let yes = matching-some (matches sid) some in
+    let here : onward matches (Some start) sid ≡ start = rw yes refl in
+    subst (λ (n : ℕ). IsAhead b Reaches matches (Some start) bytes n start ahead) (sym (first-ends b.dictionary at (matches sid) o is))
+    (subst (λ (i : StateID). IsAhead b Reaches matches (Some start) bytes at i ahead) here read)
+
+-- without a match, the search has read to the end of the span
+pub ahead-ended : (b : Built) (Reaches : List ℕ → StateID → Type 0) (matches : StateID → List ℕ) (start sid next : StateID) (haystack : List ℕ) (from to : ℕ) (stop : Advance) (ahead : Ahead)
+    → from ≤ to → to ≤ length haystack → ¬ (matches stop.sid ≢ []) → AdvancesToMatch Reaches matches sid (drop from (take to haystack)) stop
+    → IsAhead b Reaches matches (Some start) (take to haystack) (from + stop.taken) next ahead → IsAhead b Reaches matches (Some start) (take to haystack) to start ahead
+ahead-ended b Reaches matches start sid next haystack from to stop ahead ordered inside none goes read =
+    let long = length-take-le to haystack inside in
+    let left = length-drop from (take to haystack) in
+    let within = goes.taken.0 in
+    let all : ¬ (stop.taken < length (drop from (take to haystack))) = λ less. none (some-matching (matches stop.sid) (goes.stops less)) in
+    let there : from + stop.taken ≡ to = omega (arith, all, left, long, within, ordered) in
+    ahead-end b Reaches matches (Some start) (take to haystack) to next start ahead (sym long)
+    (subst (λ (n : ℕ). IsAhead b Reaches matches (Some start) (take to haystack) n next ahead) there read)
+
+-- a walk that has read nothing ahead yet
+pub reads-fresh : {S : Type 0} (A : Ghosts S) (a : S) (start : Option StateID) (input : Asked) (at : ℕ) (ahead : Ahead)
+    → IfSome start (MayReadAhead A a input) → ahead.end ≤ length ahead.notes → left_notes ahead ≡ [] → bytes_ahead ahead ≡ 0 → ReadsAheadFrom A a start input at ahead
+reads-fresh A a None input at ahead may room none nothing = nothing
+reads-fresh A a (Some start) input at ahead may room none nothing = (may, ahead-fresh (A.built a) (A.Reaches a No) (A.matches a) (Some start) (take input.span.end input.haystack) at start ahead room none nothing)

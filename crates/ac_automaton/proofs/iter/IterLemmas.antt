@@ -17,7 +17,7 @@ use Rattle.ac_input.specs.Work.{HasCounted, IsFindWork, lookups_per_byte, over_a
 use Rattle.ac_input.proofs.lemmas.OrderLemmas.{occurs-end}
 use Rattle.ac_input.proofs.lemmas.WalkLemmas.{walk_after-none, walk_after-some, walk_after-nothing}
 use Rattle.ac_automaton.specs.Automaton.{Built, prefilter_for, searched}
-use Rattle.ac_automaton.specs.Iter.{CostsPick, CountsPick, CountsWalk, PickCounts, Walk, walk_after_pick, walk_at, walk_kind, left_of, IsPickWork, IsPickOf, passed}
+use Rattle.ac_automaton.specs.Iter.{CostsPick, CountsPick, CountsWalk, IsWithinBudget, PickCounts, Walk, walk_after_pick, walk_at, walk_kind, left_of, IsPickWork, IsPickOf, passed}
 use Rattle.ac_automaton.proofs.find.CountedLemmas.{counted-moved, sums-more}
 
 -- a walk's pick at a place doesn't depend on where the search began
@@ -123,14 +123,15 @@ none-counted : (filter : Option Filter) (n : ℕ) (x : Steps) → n ≡ 0 → Ha
 none-counted filter n x none = record { least = λ counts. omega arith }
 
 -- past the span a pick costs nothing
-pub idle-cost : (w : Walk) (x : Steps) → w.asked.span.end < w.at → CountsWalk w → CostsPick w w x x None
-idle-cost w x past had = (
+pub idle-cost : (w : Walk) (x : Steps) → w.asked.span.end < w.at → IsWithinBudget w → CountsWalk w → CostsPick w w x x None
+idle-cost w x past paid had = (
   (0, 0, 0, record { looked = sym (add-zero _); scanned = sym (add-zero _); moved = sym (add-zero _) }, sym (add-zero _), sym (add-zero _), sym (add-zero _)),
   record {
     pick = record { looked = omega arith; standard = λ k. omega arith; leftmost = λ some o e. absurd (none-some o e); scanned = omega arith; moved = refl };
     idle = λ _. refl;
   },
   record { pick = λ some. none-counted (prefilter_for w.built w.asked.anchored) _ x (none-left (is_anchored w.asked.anchored) w.at w.asked.span.end past); walk = had },
+  paid,
 )
 
 -- after its next pick, a walk has counted each byte that lies before it
@@ -178,12 +179,13 @@ work-added kind deterministic s at r start done before after none added work =
 pub pick-costs : (w v : Walk) (r : Option Occurrence) (start done before after : Steps) → (v ≡ record (walk_after_pick w r) { looked = v.looked; scanned = v.scanned; moved = v.moved }) → w.asked.span.start ≤ w.at → w.at ≤ w.asked.span.end
     → AreNone start → Added done before after → v.looked ≡ w.looked + done.looked.value → v.scanned ≡ w.scanned + done.scanned.value → v.moved ≡ w.moved + done.moved.value
     → IsPickWork (walk_kind w) w.built.deterministic (starting_at (searched w.built w.asked) w.at) w.at r start done
-    → PickCounts w.built (record w.asked { span = record w.asked.span { start = w.at } }) r start done → CountsWalk w → CostsPick w v before after r
-pick-costs w v r start done before after goes begun within none added looked scanned moved work counts had = (
+    → PickCounts w.built (record w.asked { span = record w.asked.span { start = w.at } }) r start done → CountsWalk w → IsWithinBudget v → CostsPick w v before after r
+pick-costs w v r start done before after goes begun within none added looked scanned moved work counts had paid = (
   (done.looked.value, done.scanned.value, done.moved.value, added, looked, scanned, moved),
   record {
     pick = work-added (walk_kind w) w.built.deterministic (searched w.built w.asked) w.at r start done before after none added work;
     idle = λ past. absurd (omega arith);
   },
   pick-counted w v r start done before after goes begun within none added looked scanned counts had,
+  paid,
 )

@@ -1,41 +1,41 @@
--- What several walks side by side have read, and which notes they make.
+-- What a lane has read, and the note that it makes of it.
 use Rattle.std.proofs.Common.{◌≡◌, ⊎_elim, ℕ, suc, ◌+◌, ◌-◌, ◌<◌, ◌≤◌, Bool, IsTrue, List, [], ◌∷◌, ◌++◌, length, take, drop, get_or, sym, ap, subst, refl, ◌∙◌, arith, length-drop}
-use Rattle.std.specs.Prelude.{slice_get, slice_set, Some, ◌⊎◌}
+use Rattle.std.specs.Prelude.{slice_get, Some}
 use Rattle.std.proofs.lemmas.Bool.{cases_lt, false≢true, le-leb, leb-true}
 use Rattle.std.proofs.lemmas.List.{append_assoc, get_or-drop}
-use Rattle.std.specs.List.{All}
-use Rattle.std.proofs.lemmas.List.Elements.{All-set}
 use Rattle.std.proofs.lemmas.Option.{slice_get-get_or}
 use Rattle.ac_input.specs.Number.{StateID}
-use Rattle.ac_automaton.specs.Ahead.{HasGone, HasWalked, IsNote, WalkedTo, is_up_to}
+use Rattle.ac_automaton.specs.Ahead.{LaneBegins, HasGone, HasWalked, IsNote, WalkedTo, is_up_to, lane_from, note_of}
 use Rattle.ac_automaton.specs.Automaton.{IsReached, Leads, PassesPlain, has_some, is_matching}
-use Rattle.ac_automaton.specs.declared.ahead.Note.{Note}
 use Rattle.ac_automaton.specs.declared.lanes.Lane.{Lane}
 use Rattle.ac_automaton.proofs.lemmas.CursorLemmas.{leads-none, reached-on, take-more}
 
 -- ---- how far a lane has read
 
--- a lane that has read nothing yet
-pub walked-none : (Reaches : List ℕ → StateID → Type 0) (stops : StateID → Bool) (bytes : List ℕ) (lane : Lane) → lane.from ≡ lane.at → lane.first ≡ lane.sid → lane.at ≤ length bytes → lane.end ≤ length bytes → IsReached Reaches lane.sid → HasWalked Reaches stops bytes lane
-walked-none Reaches stops bytes lane here same within inside reached =
+-- a lane that has read nothing since its last note
+pub walked-none : (Reaches : List ℕ → StateID → Type 0) (stops : StateID → Bool) (bytes : List ℕ) (lane : Lane) → lane.from ≡ lane.at → lane.first ≡ lane.sid → lane.at ≤ lane.end → lane.end ≤ length bytes → IsReached Reaches lane.sid → HasWalked Reaches stops bytes lane
+walked-none Reaches stops bytes lane here same ordered inside reached =
     let none : lane.at - lane.from ≡ 0 = omega (arith, here) in
     record {
       to = record {
         ordered = omega (arith, here);
-        within = within;
+        within = omega (arith, ordered, inside);
+        begins = subst (IsReached Reaches) (sym same) reached;
         reads = subst (λ (n : ℕ). Leads Reaches lane.first (take n (drop lane.from bytes)) lane.sid) (sym none)
             (subst (λ (i : StateID). Leads Reaches lane.first [] i) same (leads-none Reaches lane.first));
         plain = λ at some less. absurd (omega (arith, none, some, less));
         reached = reached;
       };
       quiet = λ lt. absurd (omega (arith, here, lt));
-      inside = inside;
+      inside = (ordered, inside);
     }
 
--- a lane with these fields has read nothing yet
-pub walked-begun : (Reaches : List ℕ → StateID → Type 0) (stops : StateID → Bool) (bytes : List ℕ) (lane : Lane) (at : ℕ) (sid : StateID) → lane.from ≡ at → lane.at ≡ at → lane.first ≡ sid → lane.sid ≡ sid → at ≤ length bytes → lane.end ≤ length bytes → IsReached Reaches sid → HasWalked Reaches stops bytes lane
-walked-begun Reaches stops bytes lane at sid from here first same within inside reached =
-    walked-none Reaches stops bytes lane (from ∙ sym here) (first ∙ sym same) (omega (arith, here, within)) inside (subst (IsReached Reaches) (sym same) reached)
+-- a lane that begins has read nothing
+pub walked-begun : (Reaches : List ℕ → StateID → Type 0) (stops : StateID → Bool) (bytes : List ℕ) (at : ℕ) (sid : StateID) (slots : ℕ) (lane : Lane) → LaneBegins at sid slots lane → lane.end ≤ length bytes → IsReached Reaches sid → HasWalked Reaches stops bytes lane
+walked-begun Reaches stops bytes at sid slots lane begun inside reached =
+    let some : at ≤ lane.end = begun.some in
+    subst (HasWalked Reaches stops bytes) (sym begun.is)
+    (walked-none Reaches stops bytes (lane_from at sid lane.end lane.slot lane.slots) refl refl some inside reached)
 
 -- a lane reads one byte more
 pub walked-byte : (Reaches : List ℕ → StateID → Type 0) (stops : StateID → Bool) (bytes : List ℕ) (before after : Lane)
@@ -67,6 +67,7 @@ walked-byte Reaches stops bytes before after walked within leads from first at =
     record {
       ordered = omega (arith, ordered, from, at);
       within = omega (arith, within, at);
+      begins = subst (IsReached Reaches) (sym first) to.begins;
       reads = subst (λ (m : ℕ). Leads Reaches after.first (take m (drop after.from bytes)) after.sid) (sym longer)
           (subst (λ (i : StateID). Leads Reaches i (take (suc n) (drop after.from bytes)) after.sid) (sym first)
           (subst (λ (k : ℕ). Leads Reaches before.first (take (suc n) (drop k bytes)) after.sid) (sym from) reads));
@@ -81,8 +82,8 @@ pub not-up_to : (last sid : StateID) → last < sid → ¬ IsTrue (is_up_to last
 not-up_to last sid past e = let le = leb-true sid last e in omega (arith, le, past)
 
 -- a lane that stands past the last state goes on
-pub walked-on : (Reaches : List ℕ → StateID → Type 0) (bytes : List ℕ) (lane : Lane) (last : StateID) → WalkedTo Reaches (is_up_to last) bytes lane → lane.end ≤ length bytes → last < lane.sid → HasWalked Reaches (is_up_to last) bytes lane
-walked-on Reaches bytes lane last to inside past = record { to = to; quiet = λ _. not-up_to last lane.sid past; inside = inside }
+pub walked-on : (Reaches : List ℕ → StateID → Type 0) (bytes : List ℕ) (lane : Lane) (last : StateID) → WalkedTo Reaches (is_up_to last) bytes lane → lane.at ≤ lane.end → lane.end ≤ length bytes → last < lane.sid → HasWalked Reaches (is_up_to last) bytes lane
+walked-on Reaches bytes lane last to ordered inside past = record { to = to; quiet = λ _. not-up_to last lane.sid past; inside = (ordered, inside) }
 
 -- ---- a turn of one lane
 
@@ -102,56 +103,47 @@ module _ (Reaches : List ℕ → StateID → Type 0) (bytes : List ℕ) (last : 
   turn-byte read current next walked within leads = walked-byte Reaches (is_up_to last) bytes (after read current) (after (read + 1) next) walked within leads refl refl (omega arith)
 
   -- after the byte the lane goes on, if its state is past the last one,
-  pub turn-on : (read : ℕ) (current next : StateID) → HasWalked Reaches (is_up_to last) bytes (after read current) → lane.at + read < length bytes → Leads Reaches current (get_or bytes (lane.at + read) 0 ∷ []) next → last < next → HasWalked Reaches (is_up_to last) bytes (after (read + 1) next)
-  turn-on read current next walked within leads past = walked-on Reaches bytes (after (read + 1) next) last (turn-byte read current next walked within leads) walked.inside past
+  pub turn-on : (read : ℕ) (current next : StateID) → HasWalked Reaches (is_up_to last) bytes (after read current) → lane.at + read < lane.end → Leads Reaches current (get_or bytes (lane.at + read) 0 ∷ []) next → last < next → HasWalked Reaches (is_up_to last) bytes (after (read + 1) next)
+  turn-on read current next walked within leads past =
+      let inside : lane.end ≤ length bytes = walked.inside.1 in
+      let on : lane.at + (read + 1) ≤ lane.end = omega (arith, within) in
+      walked-on Reaches bytes (after (read + 1) next) last (turn-byte read current next walked (omega (arith, within, inside)) leads) on inside past
 
   -- or the turn ends, wherever it stands
-  pub turn-ends : (read : ℕ) (current next : StateID) (result : Lane) → HasWalked Reaches (is_up_to last) bytes (after read current) → lane.at + read < length bytes → Leads Reaches current (get_or bytes (lane.at + read) 0 ∷ []) next → result ≡ after (read + 1) next → HasGone Reaches (is_up_to last) bytes lane result
+  pub turn-ends : (read : ℕ) (current next : StateID) (result : Lane) → HasWalked Reaches (is_up_to last) bytes (after read current) → lane.at + read < lane.end → Leads Reaches current (get_or bytes (lane.at + read) 0 ∷ []) next → result ≡ after (read + 1) next → HasGone Reaches (is_up_to last) bytes lane result
   turn-ends read current next result walked within leads is =
-      subst (HasGone Reaches (is_up_to last) bytes lane) (sym is) (record { to = turn-byte read current next walked within leads; on = omega arith; end = refl })
+      let inside : lane.end ≤ length bytes = walked.inside.1 in
+      let to = turn-byte read current next walked (omega (arith, within, inside)) leads in
+      subst (HasGone Reaches (is_up_to last) bytes lane) (sym is) (record { to = to; on = omega arith; within = omega (arith, within); same = refl })
 
   -- without a stop before it, the turn ends after the last byte
   pub turn-all : (read len : ℕ) (current : StateID) (result : Lane) → HasWalked Reaches (is_up_to last) bytes (after read current) → read ≡ len → 0 < len → result ≡ after len current → HasGone Reaches (is_up_to last) bytes lane result
   turn-all read len current result walked all some is =
+      let ordered : lane.at + read ≤ lane.end = walked.inside.0 in
       subst (HasGone Reaches (is_up_to last) bytes lane) (sym is)
-      (record { to = subst (λ (n : ℕ). WalkedTo Reaches (is_up_to last) bytes (after n current)) all walked.to; on = omega (arith, some); end = refl })
+      (record { to = subst (λ (n : ℕ). WalkedTo Reaches (is_up_to last) bytes (after n current)) all walked.to; on = omega (arith, some); within = omega (arith, ordered, all); same = refl })
 
 -- ---- what is noted
 
+-- a state that isn't up to the last one is past it
+pub up_to-past : (last sid : StateID) → ¬ IsTrue (is_up_to last sid) → last < sid
+up_to-past last sid past = ⊎_elim (λ (lt : last < sid). lt) (λ (le : sid ≤ last). absurd (past (le-leb sid last le))) (cases_lt last sid)
+
 -- a state past the last one matches nothing
 past-quiet : (matches : StateID → List ℕ) (last sid : StateID) → ((i : StateID) → last < i → matches i ≡ []) → ¬ IsTrue (is_up_to last sid) → ¬ IsTrue (is_matching matches sid)
-past-quiet matches last sid quiet past e =
-    let none = quiet sid (⊎_elim (λ (lt : last < sid). lt) (λ (le : sid ≤ last). absurd (past (le-leb sid last le))) (cases_lt last sid)) in
-    false≢true (ap has_some (sym none) ∙ e)
+past-quiet matches last sid quiet past e = false≢true (ap has_some (sym (quiet sid (up_to-past last sid past))) ∙ e)
 
--- the bytes that a lane has read make a true note
-pub walked-note : (Reaches : List ℕ → StateID → Type 0) (matches : StateID → List ℕ) (bytes : List ℕ) (lane : Lane) (last : StateID) (note : Note)
-    → ((i : StateID) → last < i → matches i ≡ []) → WalkedTo Reaches (is_up_to last) bytes lane
-    → note.from ≡ lane.from → note.len ≡ lane.at - lane.from → note.sid ≡ lane.first → note.next ≡ lane.sid
-    → IsNote Reaches matches bytes note
-walked-note Reaches matches bytes lane last note quiet to from len first next =
+-- the bytes that a lane has read since its last note make a note
+pub walked-note : (Reaches : List ℕ → StateID → Type 0) (matches : StateID → List ℕ) (bytes : List ℕ) (lane : Lane) (last : StateID)
+    → ((i : StateID) → last < i → matches i ≡ []) → WalkedTo Reaches (is_up_to last) bytes lane → lane.from < lane.at
+    → IsNote Reaches matches bytes (note_of lane)
+walked-note Reaches matches bytes lane last quiet to more =
     let ordered = to.ordered in
     let within = to.within in
-    let n : ℕ = lane.at - lane.from in
     record {
-      within = omega (arith, ordered, within, from, len);
-      reads = subst (λ (k : ℕ). Leads Reaches note.sid (take note.len (drop k bytes)) note.next) (sym from)
-          (subst (λ (k : ℕ). Leads Reaches note.sid (take k (drop lane.from bytes)) note.next) (sym len)
-          (subst (λ (i : StateID). Leads Reaches i (take n (drop lane.from bytes)) note.next) (sym first)
-          (subst (λ (i : StateID). Leads Reaches lane.first (take n (drop lane.from bytes)) i) (sym next) to.reads)));
-      plain = λ k some less.
-          let mid = to.plain k some (omega (arith, len, less)) in (
-            mid.0,
-            subst (λ (j : ℕ). Leads Reaches note.sid (take k (drop j bytes)) mid.0) (sym from)
-                (subst (λ (i : StateID). Leads Reaches i (take k (drop lane.from bytes)) mid.0) (sym first) mid.1),
-            past-quiet matches last mid.0 quiet mid.2,
-          );
+      some = omega (arith, more);
+      within = omega (arith, ordered, within);
+      begins = to.begins;
+      reads = to.reads;
+      plain = λ k some less. let mid = to.plain k some less in (mid.0, mid.1, past-quiet matches last mid.0 quiet mid.2);
     }
-
--- storing one true note keeps all notes true
-pub notes-put : (Reaches : List ℕ → StateID → Type 0) (matches : StateID → List ℕ) (bytes : List ℕ) (old new : List Note) (slot : ℕ) (note : Note)
-    → All (IsNote Reaches matches bytes) old → IsNote Reaches matches bytes note → (new ≡ old) ⊎ (new ≡ slice_set old slot note) → All (IsNote Reaches matches bytes) new
-notes-put Reaches matches bytes old new slot note known is put = ⊎_elim
-    (λ (same : new ≡ old). subst (All (IsNote Reaches matches bytes)) (sym same) known)
-    (λ (more : new ≡ slice_set old slot note). subst (All (IsNote Reaches matches bytes)) (sym more) (All-set (IsNote Reaches matches bytes) old slot note is known))
-    put

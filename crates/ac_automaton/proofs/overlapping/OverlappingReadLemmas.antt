@@ -60,10 +60,8 @@ paid-to m false s from at to looks g h had paid = let bound = (paid had.0 had.1)
 -- ---- reading on
 
 -- a search that is over and shows nothing has come as far as it claims
-over-come : (s : Search) (r : Shown) → r.found ≡ None → r.place ≡ Over → come_at_least s r.found ≤ stands_at_least s r.place
-over-come s r found place =
-    let same : come_at_least s None ≤ stands_at_least s Over = omega arith in
-    subst (λ (o : Option Occurrence). come_at_least s o ≤ stands_at_least s r.place) (sym found) (subst (λ (p : Position). come_at_least s None ≤ stands_at_least s p) (sym place) same)
+over-come : (s : Search) (r : Shown) → r.found ≡ None → r.place ≡ Over → come_at_least s r.found ≡ stands_at_least s r.place
+over-come s r found place = ap (come_at_least s) found ∙ sym (ap (stands_at_least s) place)
 
 -- a state's first occurrence ends at the place where the state was reached
 told-end : (m : Dictionary) (text : List ℕ) (start : ℕ) (ns : List ℕ) (o : Occurrence) (rest : List Occurrence) → map (shifted start) (map (ending m text) ns) ≡ o ∷ rest → o.end ≡ start + length text
@@ -92,10 +90,10 @@ shows-some Reaches matches m s left cursor index r reads e (o, next, found, plac
     let ends = told-end m (read_to t at) t.start (counted m t.anchored (at - t.start) (drop index (matches cursor.sid))) o _ told in
     let long = read_to-length t at reads.ordered reads.within reads.inside in
     let ordered = reads.ordered in
-    let come : come_at_least s (Some o) ≤ stands_at_least s (At cursor.sid cursor.from at next) = omega arith in (
+    let come : come_at_least s (Some o) ≡ stands_at_least s (At cursor.sid cursor.from at next) = omega arith in (
       found ∙ all.0,
       subst (λ (p : Position). IsLeft Reaches matches m s p (drop 1 left)) (sym place) (reads, all.1),
-      subst (λ (x : Option Occurrence). come_at_least s x ≤ stands_at_least s r.place) (sym found) (subst (λ (p : Position). come_at_least s (Some o) ≤ stands_at_least s p) (sym place) come),
+      ap (come_at_least s) found ∙ come ∙ sym (ap (stands_at_least s) place),
     )
 
 -- A walk has read on to a further place. Occurrences that end after its first place end from `next` on, and its looks are paid

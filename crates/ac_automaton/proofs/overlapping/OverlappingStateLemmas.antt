@@ -100,8 +100,8 @@ counted-after b asked place r sums start done after had counts none added =
     counted-added (prefilter_for b asked.anchored) (stands_at_least (searched b asked) place - asked.span.start) _ _ start done sums after (omega arith) none added had counts
 
 -- each byte is counted up to the end of what a call showed
-pub shown-counted : (b : Built) (asked : Asked) (r : Shown) (sums : Steps) → IsCountedTo b asked (stands_at_least (searched b asked) r.place) sums → come_at_least (searched b asked) r.found ≤ stands_at_least (searched b asked) r.place → IsCountedTo b asked (come_at_least (searched b asked) r.found) sums
-shown-counted b asked r sums had le = λ counts. let all = had counts in omega arith
+pub shown-counted : (b : Built) (asked : Asked) (r : Shown) (sums : Steps) → IsCountedTo b asked (stands_at_least (searched b asked) r.place) sums → come_at_least (searched b asked) r.found ≡ stands_at_least (searched b asked) r.place → IsCountedTo b asked (come_at_least (searched b asked) r.found) sums
+shown-counted b asked r sums had come = subst (λ (at : ℕ). IsCountedTo b asked at sums) (sym come) had
 
 -- where a search stands after a call
 pub stands-after : (Reaches : List ℕ → StateID → Type 0) (matches : StateID → List ℕ) (m : Dictionary) (deterministic : Bool) (s : Search) (place : Position) (n : ℕ) (r : Shown) (sums start done after : Steps)

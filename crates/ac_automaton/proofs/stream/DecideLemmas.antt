@@ -144,11 +144,11 @@ module _ (t : StreamProgress) (Reaches : Anchored → List ℕ → StateID → T
       let before : IsBest m.kind (whole m (since_last t) false) (Some so_far.0) = subst (λ (r : Option Occurrence). IsBest m.kind (whole m (since_last t) false) r) so_far.1 stands.told in
       best-told m (read_by t) (matches stop.sid) t.last t.at to (Some so_far.0) stands.inverse ordered (omega (arith, some)) within (λ standard. absurd (leftmost standard)) quiet.silent (tells since stop.sid reads) before
 
-  paid : (live : Option ℕ) → IsLive m false since live → (t.looked + looks + live_len since live ≤ 2 * (to + read_again m (length t.given))) × (to ≤ t.looked + looks) × (IsTrue t.built.deterministic → t.looked + looks ≤ to + read_again m (length t.given))
+  paid : (live : Option ℕ) → IsLive m false since live → (t.looked + looks + live_len since live ≤ 2 * (to + read_again m 0 (length t.given))) × (to ≤ t.looked + looks) × (IsTrue t.built.deterministic → t.looked + looks ≤ to + read_again m 0 (length t.given))
   paid live alive =
       let before = lives (since_last t) sid stands.reads in
       let sums = stands.lookups before.0 before.1 in
-      paid-on t.built.deterministic t.looked (live_len (since_last t) before.0) t.at (read_again m (length t.given)) stop.taken (live_len since live) y z sums.0 sums.1 sums.2
+      paid-on t.built.deterministic t.looked (live_len (since_last t) before.0) t.at (read_again m 0 (length t.given)) stop.taken (live_len since live) y z sums.0 sums.1 sums.2
       (cost-on t Reaches sid stop y z before.0 live stands.course.ordered.0 stands.reads over before.1 alive)
 
   pub done : Done looks 0 0 y z

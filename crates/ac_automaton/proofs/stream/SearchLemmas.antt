@@ -17,20 +17,21 @@ use Rattle.ac_input.specs.Occurrence.{Occurrence, Occurs}
 use Rattle.ac_input.specs.Steps.{Done}
 use Rattle.ac_input.specs.Tells.{Tells, ending, ending_at}
 use Rattle.ac_input.specs.Walk.{IsPick}
-use Rattle.ac_input.specs.Work.{IsLookups, lookups_per_byte, shortest, longest}
+use Rattle.ac_input.specs.Work.{IsLookups, shortest, longest}
 use Rattle.ac_input.proofs.lemmas.OrderLemmas.{slice_range-length}
 use Rattle.ac_input.specs.declared.search.MatchKind.{MatchKind}
 use Rattle.ac_automaton.specs.Automaton.{Advances, Built, IsReadCost, IsState, is_matching}
 use Rattle.ac_automaton.specs.Devices.Moved.{AllFit}
 use Rattle.ac_automaton.specs.Replace.{matches_in}
 use Rattle.ac_automaton.specs.Stream.StreamSearch.{ContinuesWalk, IsHeldAt, IsSearchPaid, SearchesOn, StandsInState, after_search, since_last, searched_anew, waits}
-use Rattle.ac_automaton.specs.Stream.{CanBeCounted, FindsHeld, IsHeldMatch, IsOnCourse, NothingIsLive, StreamProgress, cut_of, end_of, read_by, room_of, read_again, again_for, read_in_all, AreAllGiven, may_wait}
+use Rattle.ac_automaton.specs.Stream.{CanBeCounted, FindsHeld, IsHeldMatch, IsOnCourse, NothingIsLive, StreamProgress, cut_of, end_of, read_by, room_of, read_again, again_for, AreAllGiven, may_wait}
 use Rattle.ac_automaton.specs.declared.automaton.Advance.{Advance}
 use Rattle.ac_automaton.specs.declared.automaton.Automaton.{Ghosts}
 use Rattle.ac_automaton.specs.declared.stream.search.Progress.{Progress}
 use Rattle.ac_automaton.proofs.lemmas.CursorLemmas.{list-none, part-empty, part-front}
 use Rattle.ac_automaton.proofs.iter.IterLemmas.{occurs-not_empty}
 use Rattle.ac_automaton.proofs.automaton.PassLemmas.{StopsAtMatch, matching-none, stops-none, stops-there, ReadsOver, stops-over}
+use Rattle.ac_automaton.proofs.stream.StreamBudgetLemmas.{budget-settled}
 use Rattle.ac_automaton.proofs.stream.StreamLemmas.{all-given, decided-from, end_of-push, given-anew, given-open, goes-anew, goes-match, pick-since}
 use Rattle.ac_automaton.proofs.find.ToldLemmas.{told-first_occurs}
 use Rattle.ac_automaton.proofs.lemmas.WalkLemmas.{occurs-bound, standard-final}
@@ -59,11 +60,6 @@ looks-done deterministic n a b y z run =
     record { looked = omega arith; scanned = omega arith; moved = omega arith }
 
 -- ---- where a search stands
-
--- looks that are paid for byte by byte are within the budget
-budget-from : (deterministic : Bool) (looked live at : ℕ) → looked + live ≤ 2 * at → (IsTrue deterministic → looked ≤ at) → looked ≤ lookups_per_byte deterministic * at
-budget-from true looked live at paid one = let e = one refl in omega arith
-budget-from false looked live at paid one = omega arith
 
 -- A text without an occurrence isn't dead, whatever its kind.
 pub alive-none : (m : Dictionary) (text : List ℕ) (live : Option ℕ) → IsBest m.kind (whole m text false) None → IsLive m false text live → (from : ℕ) × IsLive m false text (Some from)
@@ -107,12 +103,7 @@ stands-from Reaches t start sid best found live unclosed filled ordered inside e
         begun = (rest.0, ap (matches_in t.built) (sym (append-nil (read_by t))) ∙ rest.1);
         ended = ended;
         decided = decided;
-        paid = record {
-          some = here.1;
-          looked = budget-from t.built.deterministic t.looked (live_len (since_last t) (Some live)) (read_in_all t) here.0 here.2;
-          scanned = scanned;
-          moved = moved;
-        };
+        paid = budget-settled t (live_len (since_last t) (Some live)) inside here scanned moved;
       };
       begins = begins;
       reads = reads;
@@ -248,15 +239,15 @@ module _ (s : StreamProgress) (Reaches : Anchored → List ℕ → StateID → T
   since-alive = let after = lives since stop.sid reads in alive-none m since after.0 since-quiet after.1
 
   -- no match was returned since, so no more bytes may be read again
-  same-again : read_again m (length (s.given ++ [])) ≡ read_again m (length s.given)
-  same-again = ap (λ (os : List Occurrence). read_again m (length os)) (append-nil s.given)
+  same-again : read_again m 0 (length (s.given ++ [])) ≡ read_again m 0 (length s.given)
+  same-again = ap (λ (os : List Occurrence). read_again m 0 (length os)) (append-nil s.given)
 
   -- all that looking so far has cost is paid for
-  paid : (live : Option ℕ) → IsLive m false since live → (s.looked + looks + live_len since live ≤ 2 * (to + read_again m (length s.given))) × (to ≤ s.looked + looks) × (IsTrue s.built.deterministic → s.looked + looks ≤ to + read_again m (length s.given))
+  paid : (live : Option ℕ) → IsLive m false since live → (s.looked + looks + live_len since live ≤ 2 * (to + read_again m 0 (length s.given))) × (to ≤ s.looked + looks) × (IsTrue s.built.deterministic → s.looked + looks ≤ to + read_again m 0 (length s.given))
   paid live is =
       let before = lives (since_last s) sid stands.reads in
       let sums = stands.lookups before.0 before.1 in
-      paid-on s.built.deterministic s.looked (live_len (since_last s) before.0) s.at (read_again m (length s.given)) stop.taken (live_len since live) y z sums.0 sums.1 sums.2
+      paid-on s.built.deterministic s.looked (live_len (since_last s) before.0) s.at (read_again m 0 (length s.given)) stop.taken (live_len since live) y z sums.0 sums.1 sums.2
       (cost-on s Reaches sid stop y z before.0 live stands.course.ordered.0 stands.reads (stops-over s.built Reaches matches sid (drop s.at (read_by s)) stop false y z stops) before.1 is)
 
   -- the looks are all that was done
@@ -383,18 +374,22 @@ wait-none LeftmostFirst none = absurd (false≢true (sym none))
 wait-none LeftmostLongest none = absurd (false≢true (sym none))
 
 -- under the standard kind no byte is read again
-pub again-standard : (m : Dictionary) (matches : ℕ) → m.kind ≡ Standard → read_again m matches ≡ 0
-again-standard m matches standard = ap (λ (k : MatchKind). again_for k (longest m.patterns) matches) standard
+pub again-standard : (m : Dictionary) (matches : ℕ) → m.kind ≡ Standard → read_again m 0 matches ≡ 0
+again-standard m matches standard = ap (λ (k : MatchKind). again_for k (longest m.patterns) 0 matches) standard
+
+-- as much once more
+again-more : (long matches : ℕ) → (long + 1) * (matches + 1) ≡ (long + 1) * matches + (long + 1)
+again-more long matches = let next : matches + 1 ≡ suc matches = omega arith in ap (λ (n : ℕ). (long + 1) * n) next ∙ mul-suc (long + 1) matches
 
 -- under a leftmost kind each match lets as many bytes be read again as the longest pattern has, and one more
-pub again-leftmost : (kind : MatchKind) (long matches : ℕ) → kind ≢ Standard → again_for kind long (matches + 1) ≡ again_for kind long matches + (long + 1)
+pub again-leftmost : (kind : MatchKind) (long matches : ℕ) → kind ≢ Standard → again_for kind long 0 (matches + 1) ≡ again_for kind long 0 matches + (long + 1)
 again-leftmost Standard long matches leftmost = absurd (leftmost refl)
-again-leftmost LeftmostFirst long matches leftmost = let next : matches + 1 ≡ suc matches = omega arith in ap (λ (n : ℕ). (long + 1) * n) next ∙ mul-suc (long + 1) matches
-again-leftmost LeftmostLongest long matches leftmost = let next : matches + 1 ≡ suc matches = omega arith in ap (λ (n : ℕ). (long + 1) * n) next ∙ mul-suc (long + 1) matches
+again-leftmost LeftmostFirst long matches leftmost = let next = again-more long matches in omega (arith, next)
+again-leftmost LeftmostLongest long matches leftmost = let next = again-more long matches in omega (arith, next)
 
 -- what may be read again, with one match more
-pub given-more : (m : Dictionary) (given : List Occurrence) (o : Occurrence) → read_again m (length (given ++ o ∷ [])) ≡ read_again m (length given + 1)
-given-more m given o = ap (read_again m) (length-append given (o ∷ []))
+pub given-more : (m : Dictionary) (given : List Occurrence) (o : Occurrence) → read_again m 0 (length (given ++ o ∷ [])) ≡ read_again m 0 (length given + 1)
+given-more m given o = ap (read_again m 0) (length-append given (o ∷ []))
 
 -- A match is decided: it is the next one, whatever is still read. The search begins anew at its end.
 pub search-decided : (s : StreamProgress) (Reaches : List ℕ → StateID → Type 0) (start sid : StateID) (best : Option Occurrence) (o : Occurrence) (looks : ℕ) (y z : Steps)
@@ -405,9 +400,9 @@ pub search-decided : (s : StreamProgress) (Reaches : List ℕ → StateID → Ty
     → ¬ AreAllGiven s
     → ((more : List ℕ) → (s.closed ≡ true → more ≡ []) → IsPick s.built.dictionary.kind (whole s.built.dictionary (read_by s ++ more) false) s.last (Some s.last) (Some o))
     → Done looks 0 0 y z
-    → s.looked + looks ≤ 2 * (o.end + read_again s.built.dictionary (length s.given + 1))
+    → s.looked + looks ≤ 2 * (o.end + read_again s.built.dictionary 0 (length s.given + 1))
     → o.end ≤ s.looked + looks
-    → (IsTrue s.built.deterministic → s.looked + looks ≤ o.end + read_again s.built.dictionary (length s.given + 1))
+    → (IsTrue s.built.deterministic → s.looked + looks ≤ o.end + read_again s.built.dictionary 0 (length s.given + 1))
     → SearchesOn Reaches s start (record { progress = record { sid = start; from = s.from; at = o.end; last = o.end; best = None; closed = s.closed }; found = Some o }) y z
 search-decided s Reaches start sid best o looks y z stands lives countable held open_ pick done bound some one =
     let m = s.built.dictionary in
@@ -492,11 +487,11 @@ module _ (s : StreamProgress) (Reaches : Anchored → List ℕ → StateID → T
 
   -- these looks are paid for
   met-paid : (live : Option ℕ) → IsLive s.built.dictionary false since_then live
-      → (s.looked + met-looks + live_len since_then live ≤ 2 * (there + read_again s.built.dictionary (length s.given))) × (there ≤ s.looked + met-looks) × (IsTrue s.built.deterministic → s.looked + met-looks ≤ there + read_again s.built.dictionary (length s.given))
+      → (s.looked + met-looks + live_len since_then live ≤ 2 * (there + read_again s.built.dictionary 0 (length s.given))) × (there ≤ s.looked + met-looks) × (IsTrue s.built.deterministic → s.looked + met-looks ≤ there + read_again s.built.dictionary 0 (length s.given))
   met-paid live alive =
       let before = lives (since_last s) sid stands.reads in
       let sums = stands.lookups before.0 before.1 in
-      paid-on s.built.deterministic s.looked (live_len (since_last s) before.0) s.at (read_again s.built.dictionary (length s.given)) stop.taken (live_len since_then live) y z sums.0 sums.1 sums.2
+      paid-on s.built.deterministic s.looked (live_len (since_last s) before.0) s.at (read_again s.built.dictionary 0 (length s.given)) stop.taken (live_len since_then live) y z sums.0 sums.1 sums.2
       (cost-on s Reaches sid stop y z before.0 live stands.course.ordered.0 stands.reads (stops-over s.built Reaches matches sid (drop s.at (read_by s)) stop true y z stops) before.1 alive)
 
   -- the looks are all that was done

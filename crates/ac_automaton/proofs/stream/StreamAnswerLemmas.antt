@@ -59,11 +59,11 @@ looks-within : (deterministic : Bool) (looked at n : ℕ) → looked ≤ lookups
 looks-within true looked at n h le = omega arith
 looks-within false looked at n h le = omega arith
 
--- what is read again after some matches is at most what is read again after more of them
-again-within : (kind : MatchKind) (long few more : ℕ) → few ≤ more → again_for kind long few ≤ again_for kind long more
-again-within Standard long few more le = omega arith
-again-within LeftmostFirst long few more le = mul-le-mul_left (long + 1) le
-again-within LeftmostLongest long few more le = mul-le-mul_left (long + 1) le
+-- with more matches at least as many bytes may be looked at again
+again-within : (kind : MatchKind) (long n few more : ℕ) → few ≤ more → again_for kind long n few ≤ again_for kind long n more
+again-within Standard long n few more le = omega arith
+again-within LeftmostFirst long n few more le = let again = mul-le-mul_left (long + 1) le in omega arith
+again-within LeftmostLongest long n few more le = let again = mul-le-mul_left (long + 1) le in omega arith
 
 -- the cost of a search that began fresh, by the bytes that it read and their matches
 cost-pieces : {R : Type 0} (b : Built) (s t : StreamProgress) (r0 r1 : Watched R) (before after : Steps) (result : Result (Unit {0}) StreamError) → s ≡ fresh_progress b → HasSearched s t r0 r1 before after result
@@ -80,9 +80,9 @@ cost-pieces b s t r0 r1 before after result fresh h =
     let places : t.scanned ≡ counts.1 = counts.5 ∙ ap (λ (n : ℕ). n + counts.1) scanned ∙ zero-add counts.1 in
     let bytes : t.moved ≡ counts.2 = counts.6 ∙ ap (λ (n : ℕ). n + counts.2) moved ∙ zero-add counts.2 in
     let given : length t.given ≤ length (matches_in t.built (read_by t)) = let long = ap length h.course.begun.1 in omega (arith, long, length-append t.given h.course.begun.0) in
-    let again = again-within t.built.dictionary.kind (longest t.built.dictionary.patterns) (length t.given) (length (matches_in t.built (read_by t))) given in
-    let bound : t.looked ≤ lookups_per_byte b.deterministic * (length (read_by t) + read_again b.dictionary (length (matches_in b (read_by t)))) =
-    subst (λ (c : Built). t.looked ≤ lookups_per_byte c.deterministic * (length (read_by t) + read_again c.dictionary (length (matches_in c (read_by t))))) built (looks-within t.built.deterministic t.looked (read_in_all t) (length (read_by t) + read_again t.built.dictionary (length (matches_in t.built (read_by t)))) paid.looked (omega arith)) in
+    let again = again-within t.built.dictionary.kind (longest t.built.dictionary.patterns) (length (read_by t)) (length t.given) (length (matches_in t.built (read_by t))) given in
+    let bound : t.looked ≤ lookups_per_byte b.deterministic * (length (read_by t) + read_again b.dictionary (length (read_by t)) (length (matches_in b (read_by t)))) =
+    subst (λ (c : Built). t.looked ≤ lookups_per_byte c.deterministic * (length (read_by t) + read_again c.dictionary (length (read_by t)) (length (matches_in c (read_by t))))) built (looks-within t.built.deterministic t.looked (read_in_all t) (length (read_by t) + read_again t.built.dictionary (length (read_by t)) (length (matches_in t.built (read_by t)))) paid.looked (omega arith)) in
     let none : t.scanned ≡ 0 = paid.scanned in
     let seventh : 7 * t.moved ≤ length (read_by t) = paid.moved in
     let some : t.at ≤ t.looked = paid.some in

@@ -25,6 +25,7 @@ use Rattle.ac_input.proofs.lemmas.ContainsLemmas.{Contains-cases, Contains-head,
 use Rattle.ac_input.proofs.lemmas.ListingLemmas.{ListsAll-unique, listing_of-lists}
 use Rattle.ac_input.proofs.lemmas.OrderLemmas.{occurs-end}
 use Rattle.ac_input.proofs.lemmas.RisingLemmas.{IsRising-append, less_by_end}
+use Rattle.ac_automaton.specs.Ahead.{most_ahead}
 use Rattle.ac_automaton.specs.Automaton.{AdvancesToMatch, Built, IsReadCost, has_some}
 use Rattle.ac_automaton.specs.Devices.Buffer.{least_room}
 use Rattle.ac_automaton.specs.Devices.Moved.{AllFit}
@@ -152,10 +153,11 @@ searched-rest s = take-append-drop s.at (all_read s)
 pub searched-long : (s : ListingProgress) → s.at ≤ length (all_read s) → length (searched_by s) ≡ s.at
 searched-long s le = length-take-le s.at (all_read s) le
 
--- looks that are paid for are within the budget
-budget : (deterministic : Bool) (looked live at : ℕ) → looked + live ≤ 2 * at → (IsTrue deterministic → looked ≤ at) → looked ≤ lookups_per_byte deterministic * at
-budget true looked live at bound one = let e = one refl in omega arith
-budget false looked live at bound one = omega arith
+-- looks for the bytes searched, and for those read ahead, are within the budget
+pub budget : (deterministic : Bool) (looked less ahead live at all : ℕ) → looked ≤ less + ahead → less + live ≤ 2 * at → (IsTrue deterministic → less ≤ at) → at + ahead ≤ all → ahead ≤ most_ahead
+    → (looked ≤ lookups_per_byte deterministic * all) × (looked ≤ lookups_per_byte deterministic * at + most_ahead)
+budget true looked less ahead live at all counted bound one within few = let e = one refl in (omega arith, omega arith)
+budget false looked less ahead live at all counted bound one within few = (omega arith, omega arith)
 
 -- Where a search stands: what it has returned, with the rest of the state's list, is all that it has searched.
 pub stands-listing : (Reaches : List ℕ → StateID → Type 0) (matches : StateID → List ℕ) (s : ListingProgress) (place : ListPlace)
@@ -170,6 +172,7 @@ stands-listing Reaches matches s place standard filled ordered short scanned mov
     let x : List ℕ = all_read s in
     let rest : List Occurrence = map (ending m (searched_by s)) (drop place.index (matches place.sid)) in
     let paid = lookups live.0 live.1 in
+    let budgeted = budget s.built.deterministic s.looked s.looked 0 (live_len (searched_by s) live.0) s.at (length x) (omega arith) paid.0 paid.2 (omega (arith, ordered)) (omega arith) in
     record {
       course = record {
         standard = standard;
@@ -178,7 +181,7 @@ stands-listing Reaches matches s place standard filled ordered short scanned mov
         short = short;
         begun = subst (λ (l : List ℕ). IsBeginning s.given (listing m l)) (searched-rest s) (listing-begins m (searched_by s) (drop s.at x) s.given rest left);
         first = λ more. subst (λ (l : List ℕ). IsBeginning s.given (listing m l)) (sym (append_assoc (searched_by s) (drop s.at x) more) ∙ ap (λ (l : List ℕ). l ++ more) (searched-rest s)) (listing-begins m (searched_by s) (drop s.at x ++ more) s.given rest left);
-        paid = record { some = paid.1; looked = budget s.built.deterministic s.looked (live_len (searched_by s) live.0) s.at paid.0 paid.2; scanned = scanned; moved = moved };
+        paid = record { some = paid.1; looked = budgeted.0; near = budgeted.1; scanned = scanned; moved = moved };
       };
       at = at;
       from = from;

@@ -1,5 +1,5 @@
 -- What a search of a stream for every occurrence keeps between its calls stays right.
-use Rattle.std.proofs.Common.{◌≡◌, ℕ, ◌+◌, ◌-◌, ◌≤◌, nat_lt, Bool, true, false, List, [], ◌∷◌, ◌++◌, length, take, drop, Option, None, Some, sym, ap, subst, refl, ◌∙◌, arith, append-nil, length-append}
+use Rattle.std.proofs.Common.{◌≡◌, ℕ, ◌+◌, ◌-◌, ◌≤◌, nat_lt, Bool, true, false, List, [], ◌∷◌, ◌++◌, length, take, drop, Option, None, Some, sym, ap, subst, refl, ◌∙◌, arith, append-nil, length-append, length-drop}
 use Rattle.std.specs.List.{concat}
 use Rattle.std.proofs.Math.Seq.{drop-append_seam, take-append_seam}
 use Rattle.std.proofs.lemmas.Bool.{false≢true, ltb-false, ltb-true}
@@ -14,6 +14,7 @@ use Rattle.ac_input.specs.Dictionary.{IsLive, live_len}
 use Rattle.ac_input.specs.Occurrence.{Occurrence}
 use Rattle.ac_input.specs.Steps.{Added, AreNone, Done}
 use Rattle.ac_input.specs.Tells.{Tells, ending}
+use Rattle.ac_automaton.specs.Ahead.{HasForgotten, IsAhead, IsPaid, bytes_ahead, less_ahead}
 use Rattle.ac_automaton.specs.Automaton.{Built}
 use Rattle.ac_automaton.specs.Devices.Buffer.{least_room}
 use Rattle.ac_automaton.specs.Devices.Moved.{HasGiven}
@@ -22,11 +23,13 @@ use Rattle.ac_automaton.specs.Stream.StreamListing.{IsOnListing, ListingCounts, 
 use Rattle.ac_automaton.specs.Stream.StreamListingSearch.{IsListingSearch, ListsOn, after_listed, listing_at}
 use Rattle.std.specs.Prelude.{map}
 use Rattle.ac_automaton.specs.Stream.StreamSearch.{some_of}
+use Rattle.ac_automaton.specs.declared.ahead.Ahead.{Ahead}
 use Rattle.ac_automaton.specs.declared.stream.overlapping.search.ListPlace.{ListPlace}
 use Rattle.ac_automaton.specs.declared.stream.overlapping.search.Listed.{Listed}
 use Rattle.ac_automaton.specs.declared.watched.Watched.{Watched}
 use Rattle.ac_automaton.specs.declared.stream.StreamKinds.TheVariants.{OnlyStandard}
-use Rattle.ac_automaton.proofs.stream.StreamListingLemmas.{listing-first, stands-listing}
+use Rattle.ac_automaton.proofs.ahead.AheadLemmas.{ahead-forgotten, ahead-within, less-added}
+use Rattle.ac_automaton.proofs.stream.StreamListingLemmas.{budget, listing-first, stands-listing}
 use Rattle.ac_automaton.proofs.stream.StreamSearchLemmas.{added-done}
 
 -- ---- counting
@@ -89,9 +92,22 @@ listed-right Reaches matches s place count room held filled over r x y number is
   uncountable = is.uncountable;
 }
 
--- what the search counts after a call is what was done
-pub listed-counts : (s : ListingProgress) (r : Listed) (looks : ℕ) (fresh taken before after : Steps) → AreNone fresh → Done looks 0 0 fresh taken → Added taken before after → ListingCounts s (after_listed s r looks) before after
-listed-counts s r looks fresh taken before after none done added = (looks, added-done looks fresh taken before after none done added, refl, refl, refl)
+-- what a call returns doesn't depend on what it counts
+held-counted : (s t : ListingProgress) (one two : ℕ) (found : Option Occurrence) → ListsHeld s found t → ListsHeld (record s { looked = one }) found (record t { looked = two })
+held-counted s t one two None held = (
+  record { on = held.0.on; built = held.0.built; pieces = held.0.pieces },
+  held.1,
+  λ few. let all = held.2 few in record { searched = all.searched; all = all.all },
+)
+held-counted s t one two (Some o) held =
+    let is = held.3 in (
+      record { on = held.0.on; built = held.0.built; pieces = held.0.pieces },
+      held.1,
+      held.2,
+      record { pattern = is.pattern; some = is.some; on = is.on; new = is.new; within = is.within },
+      held.4,
+      λ all. held.5 (record { searched = all.searched; all = all.all }),
+    )
 
 -- ---- at first
 
@@ -204,47 +220,136 @@ reading-test x piece at n fits is long =
     let both = length-append x piece in
     (λ e. let le = ltb-false (18446744073709551615 - at) n e in omega arith, λ e few. let lt = ltb-true (18446744073709551615 - at) n e in omega arith)
 
--- ---- by what a search keeps
+-- ---- with what was read ahead
 
--- After a call that went on: what the search keeps is right, and it gave the next occurrence or none, at this cost.
-pub record HasListed (Reaches : List ℕ → StateID → Type 0) (matches : StateID → List ℕ) (s t : ListingProgress) (r : Listed) (number room : ℕ) (held : List ℕ) (filled : ℕ) (over : Bool) (before after : Steps) : Type 0 where
-  pub right : IsListingSearch Reaches matches t r.place number room held filled over
-  pub finds : ListsHeld s r.found t
-  pub counts : ListingCounts s t before after
+-- a search that has counted nothing has counted nothing for the bytes searched
+pub less-none : (sums : Steps) (ahead : Ahead) → AreNone sums → AreNone (less_ahead sums ahead)
+less-none sums ahead none = record { looked = omega (arith, none.looked); scanned = none.scanned; moved = none.moved }
 
-pub listed-on : (Reaches : List ℕ → StateID → Type 0) (matches : StateID → List ℕ) (b : Built) (pieces : List (List ℕ)) (count : ℕ) (place : ListPlace) (room : ℕ) (held : List ℕ) (filled : ℕ) (over : Bool) (sums more fresh taken before after : Steps) (r : Listed) (number : ℕ)
-    → IsListingSearch Reaches matches (listing_at b pieces count place sums) place count room held filled over
-    → ListsOn Reaches matches (listing_at b pieces count place sums) place r fresh taken
-    → number ≡ count + length (some_of r.found) → AreNone fresh → Added taken before after → Added taken sums more
-    → HasListed Reaches matches (listing_at b pieces count place sums) (listing_at b pieces number r.place more) r number room held filled over before after
-listed-on Reaches matches b pieces count place room held filled over sums more fresh taken before after r number is on numbered none added summed =
-    let s : ListingProgress = listing_at b pieces count place sums in
-    let done = added-done on.looks fresh taken sums more none on.done summed in
-    let view = listed-view b pieces count place sums r on.looks more number is.number on.stands.course numbered done in
+-- what a search has counted for the bytes searched, and for those read ahead, is within its budget
+pub listing-course : (Reaches : List ℕ → StateID → Type 0) (matches : StateID → List ℕ) (b : Built) (pieces : List (List ℕ)) (count : ℕ) (place : ListPlace) (room : ℕ) (held : List ℕ) (filled : ℕ) (over : Bool) (sums : Steps) (ahead : Ahead)
+    → ((text : List ℕ) (sid : StateID) → Reaches text sid → (live : Option ℕ) × IsLive b.dictionary false text live)
+    → IsListingSearch Reaches matches (listing_at b pieces count place (less_ahead sums ahead)) place count room held filled over
+    → IsAhead b Reaches matches None held (place.at - place.from) place.sid ahead → bytes_ahead ahead ≤ sums.looked.value
+    → IsOnListing (listing_at b pieces count place sums)
+listing-course Reaches matches b pieces count place room held filled over sums ahead lives is known made =
+    let stands = is.stands in
+    let course = stands.course in
+    let all : List ℕ = concat pieces in
+    let live = lives (take place.at all) place.sid stands.reads in
+    let paid = stands.lookups live.0 live.1 in
+    let long : length held ≡ length all - place.from = ap length is.bytes ∙ length-drop place.from all in
+    let ordered = course.ordered in
+    let from = stands.from in
+    let within = ahead-within b Reaches matches None held (place.at - place.from) place.sid ahead course.standard (omega (arith, long, ordered, from)) known in
+    let few = budget b.deterministic sums.looked.value (sums.looked.value - bytes_ahead ahead) (bytes_ahead ahead) (live_len (take place.at all) live.0) place.at (length all) (omega arith) paid.0 paid.2 (omega (arith, long, ordered, from, within.0)) within.1 in
     record {
-      right = subst (λ (t : ListingProgress). IsListingSearch Reaches matches t r.place number room held filled over) (sym view) (listed-right Reaches matches s place count room held filled over r fresh taken number is on numbered);
-      finds = subst (λ (t : ListingProgress). ListsHeld s r.found t) (sym view) on.finds;
-      counts = subst (λ (t : ListingProgress). ListingCounts s t before after) (sym view) (listed-counts s r on.looks fresh taken before after none on.done added);
+      standard = course.standard;
+      filled = course.filled;
+      ordered = ordered;
+      short = course.short;
+      begun = course.begun;
+      first = course.first;
+      paid = record { some = let some = paid.1 in omega (arith, some); looked = few.0; near = few.1; scanned = course.paid.scanned; moved = course.paid.moved };
     }
 
--- After a read: what the search keeps is right, and the read returned this piece.
-pub record HasReading {R : Type 0} (remaining : R → Option (List ℕ)) (Reaches : List ℕ → StateID → Type 0) (matches : StateID → List ℕ) (s t : ListingProgress) (place : ListPlace) (count room : ℕ) (held : List ℕ) (filled : ℕ) (over : Bool) (before after : Watched R) (piece : List ℕ) (failed : ℕ) : Type 0 where
-  pub right : IsListingSearch Reaches matches t place count room held filled over
-  pub read : ListingReads remaining s t before after piece failed
+-- after a call, what the search keeps is right
+listed-on : (Reaches : List ℕ → StateID → Type 0) (matches : StateID → List ℕ) (b : Built) (pieces : List (List ℕ)) (count : ℕ) (place : ListPlace) (room : ℕ) (held : List ℕ) (filled : ℕ) (over : Bool) (sums more fresh taken : Steps) (r : Listed) (number : ℕ)
+    → IsListingSearch Reaches matches (listing_at b pieces count place sums) place count room held filled over
+    → ListsOn Reaches matches (listing_at b pieces count place sums) place r fresh taken
+    → number ≡ count + length (some_of r.found) → AreNone fresh → Added taken sums more
+    → IsListingSearch Reaches matches (listing_at b pieces number r.place more) r.place number room held filled over × ListsHeld (listing_at b pieces count place sums) r.found (listing_at b pieces number r.place more)
+listed-on Reaches matches b pieces count place room held filled over sums more fresh taken r number is on numbered none summed =
+    let s : ListingProgress = listing_at b pieces count place sums in
+    let done = added-done on.looks fresh taken sums more none on.done summed in
+    let view = listed-view b pieces count place sums r on.looks more number is.number on.stands.course numbered done in (
+      subst (λ (t : ListingProgress). IsListingSearch Reaches matches t r.place number room held filled over) (sym view) (listed-right Reaches matches s place count room held filled over r fresh taken number is on numbered),
+      subst (λ (t : ListingProgress). ListsHeld s r.found t) (sym view) on.finds,
+    )
 
-pub reading-on : {R : Type 0} (remaining : R → Option (List ℕ)) (Reaches : List ℕ → StateID → Type 0) (matches : StateID → List ℕ) (b : Built) (pieces all : List (List ℕ)) (count : ℕ) (place : ListPlace) (room : ℕ) (held : List ℕ) (filled : ℕ) (was over : Bool) (sums : Steps) (before after : Watched R) (piece now : List ℕ) (failed n room_after : ℕ)
+-- After a call that went on: what the search keeps is right, and it returned the next occurrence or none, at this cost.
+pub record HasListed (Reaches : List ℕ → StateID → Type 0) (matches : StateID → List ℕ) (b : Built) (pieces : List (List ℕ)) (count : ℕ) (place : ListPlace) (r : Listed) (number room : ℕ) (held : List ℕ) (filled : ℕ) (over : Bool) (sums more before after : Steps) (ahead : Ahead) : Type 0 where
+  pub right : IsListingSearch Reaches matches (listing_at b pieces number r.place (less_ahead more ahead)) r.place number room held filled over
+  pub finds : ListsHeld (listing_at b pieces count place sums) r.found (listing_at b pieces number r.place more)
+  pub counts : ListingCounts (listing_at b pieces count place sums) (listing_at b pieces number r.place more) before after
+  pub course : IsOnListing (listing_at b pieces number r.place more)
+  pub made : bytes_ahead ahead ≤ more.looked.value
+
+pub listed-ahead : (Reaches : List ℕ → StateID → Type 0) (matches : StateID → List ℕ) (b : Built) (pieces : List (List ℕ)) (count : ℕ) (place : ListPlace) (room : ℕ) (held : List ℕ) (filled : ℕ) (over : Bool) (sums more fresh taken before after : Steps) (r : Listed) (number : ℕ) (was now : Ahead)
+    → ((text : List ℕ) (sid : StateID) → Reaches text sid → (live : Option ℕ) × IsLive b.dictionary false text live)
+    → IsListingSearch Reaches matches (listing_at b pieces count place (less_ahead sums was)) place count room held filled over → bytes_ahead was ≤ sums.looked.value
+    → IsPaid was now taken (λ paid. ListsOn Reaches matches (listing_at b pieces count place (less_ahead sums was)) place r fresh paid)
+    → IsAhead b Reaches matches None held (r.place.at - r.place.from) r.place.sid now
+    → number ≡ count + length (some_of r.found) → AreNone fresh → Added taken before after → Added taken sums more
+    → HasListed Reaches matches b pieces count place r number room held filled over sums more before after now
+listed-ahead Reaches matches b pieces count place room held filled over sums more fresh taken before after r number was now lives is made paid known numbered none added summed =
+    let on = paid.2 in
+    let settled = paid.1 in
+    let less = less-added was now fresh taken paid.0 sums more none settled summed made in
+    let listed = listed-on Reaches matches b pieces count place room held filled over (less_ahead sums was) (less_ahead more now) fresh paid.0 r number is on numbered none less.0 in
+    let scanned : taken.scanned.value ≡ 0 = omega (arith, settled.scanned, on.done.scanned, none.scanned) in
+    let moved : taken.moved.value ≡ 0 = omega (arith, settled.moved, on.done.moved, none.moved) in
+    record {
+      right = listed.0;
+      finds = held-counted (listing_at b pieces count place (less_ahead sums was)) (listing_at b pieces number r.place (less_ahead more now)) sums.looked.value more.looked.value r.found listed.1;
+      counts = (
+        taken.looked.value,
+        record { looked = added.looked; scanned = omega (arith, added.scanned, scanned); moved = omega (arith, added.moved, moved) },
+        summed.looked,
+        omega (arith, summed.scanned, scanned),
+        omega (arith, summed.moved, moved),
+      );
+      course = listing-course Reaches matches b pieces number r.place room held filled over more now lives listed.0 known less.1;
+      made = less.1;
+    }
+
+-- after a read, what the search keeps is right
+reading-kept : (Reaches : List ℕ → StateID → Type 0) (matches : StateID → List ℕ) (b : Built) (pieces all : List (List ℕ)) (count : ℕ) (place : ListPlace) (room : ℕ) (held : List ℕ) (filled : ℕ) (was over : Bool) (sums : Steps) (piece now : List ℕ) (n room_after : ℕ)
     → IsListingSearch Reaches matches (listing_at b pieces count place sums) place count room held filled was
+    → place.at ≡ length (concat pieces)
+    → ((text : List ℕ) (sid : StateID) → Reaches text sid → (live : Option ℕ) × IsLive b.dictionary false text live)
+    → length piece ≡ n → n ≤ room → now ≡ piece → all ≡ pieces ++ piece ∷ [] → room_after ≡ room
+    → (over ≡ false → CanBeCounted (concat pieces ++ piece)) → (over ≡ true → ¬ CanBeCounted (concat pieces ++ piece))
+    → IsListingSearch Reaches matches (listing_at b all count (record place { from = place.at }) sums) (record place { from = place.at }) count room_after now n over
+reading-kept Reaches matches b pieces all count place room held filled was over sums piece now n room_after is searched lives long fits holds joined same few many =
+    let s : ListingProgress = listing_at b pieces count place sums in
+    let there : ListPlace = record place { from = place.at } in
+    let view = reading-view b pieces all count place place.at sums piece is.number is.stands.course joined in
+    subst (λ (t : ListingProgress). IsListingSearch Reaches matches t there count room_after now n over) (sym view)
+    (reading-right Reaches matches s place count room held filled was over room_after piece now n is searched (lives (searched_by s) place.sid is.stands.reads) long fits holds same few many)
+
+-- where all was searched, the search stands at the end of the bytes of the last read
+at-end : (pieces : List (List ℕ)) (place : ListPlace) (held : List ℕ) → held ≡ drop place.from (concat pieces) → place.at ≡ length (concat pieces) → place.at - place.from ≡ length held
+at-end pieces place held is searched = let long = ap length is ∙ length-drop place.from (concat pieces) in omega (arith, long, searched)
+
+-- After a read: what the search keeps is right, and the read returned this piece.
+pub record HasReading {R : Type 0} (remaining : R → Option (List ℕ)) (Reaches : List ℕ → StateID → Type 0) (matches : StateID → List ℕ) (b : Built) (pieces all : List (List ℕ)) (count : ℕ) (place : ListPlace) (room : ℕ) (now : List ℕ) (n : ℕ) (over : Bool) (sums : Steps) (ahead : Ahead) (before after : Watched R) (piece : List ℕ) (failed : ℕ) : Type 0 where
+  pub right : IsListingSearch Reaches matches (listing_at b all count (record place { from = place.at }) (less_ahead sums ahead)) (record place { from = place.at }) count room now n over
+  pub read : ListingReads remaining (listing_at b pieces count place sums) (listing_at b all count (record place { from = place.at }) sums) before after piece failed
+  pub course : IsOnListing (listing_at b all count (record place { from = place.at }) sums)
+  pub known : IsAhead b Reaches matches None now (place.at - place.at) place.sid ahead
+  pub made : bytes_ahead ahead ≤ sums.looked.value
+
+pub reading-on : {R : Type 0} (remaining : R → Option (List ℕ)) (Reaches : List ℕ → StateID → Type 0) (matches : StateID → List ℕ) (b : Built) (pieces all : List (List ℕ)) (count : ℕ) (place : ListPlace) (room : ℕ) (held : List ℕ) (filled : ℕ) (was over : Bool) (sums : Steps) (ahead left : Ahead) (before after : Watched R) (piece now : List ℕ) (failed n room_after : ℕ)
+    → IsListingSearch Reaches matches (listing_at b pieces count place (less_ahead sums ahead)) place count room held filled was
+    → IsOnListing (listing_at b pieces count place sums) → IsAhead b Reaches matches None held (place.at - place.from) place.sid ahead → bytes_ahead ahead ≤ sums.looked.value → HasForgotten ahead 0 left
     → place.at ≡ length (concat pieces)
     → ((text : List ℕ) (sid : StateID) → Reaches text sid → (live : Option ℕ) × IsLive b.dictionary false text live)
     → HasGiven remaining before after (piece ∷ []) failed → length piece ≡ n → n ≤ room → now ≡ piece → all ≡ pieces ++ piece ∷ [] → room_after ≡ room
     → (over ≡ false → CanBeCounted (concat pieces ++ piece)) → (over ≡ true → ¬ CanBeCounted (concat pieces ++ piece))
-    → HasReading remaining Reaches matches (listing_at b pieces count place sums) (listing_at b all count (record place { from = place.at }) sums) (record place { from = place.at }) count room_after now n over before after piece failed
-reading-on remaining Reaches matches b pieces all count place room held filled was over sums before after piece now failed n room_after is searched lives gave long fits holds joined same few many =
-    let s : ListingProgress = listing_at b pieces count place sums in
+    → HasReading remaining Reaches matches b pieces all count place room_after now n over sums left before after piece failed
+reading-on remaining Reaches matches b pieces all count place room held filled was over sums ahead left before after piece now failed n room_after is course known made forgotten searched lives gave long fits holds joined same few many =
     let there : ListPlace = record place { from = place.at } in
-    let view = reading-view b pieces all count place place.at sums piece is.number is.stands.course joined in
+    let view = reading-view b pieces all count place place.at sums piece is.number course joined in
+    let kept = reading-kept Reaches matches b pieces all count place room held filled was over (less_ahead sums ahead) piece now n room_after is searched lives long fits holds joined same few many in
+    let end = at-end pieces place held is.bytes searched in
+    let none = ahead-forgotten b Reaches matches None None held now (place.at - place.from) (place.at - place.at) 0 place.sid place.sid ahead left (λ standard. end) known forgotten in
+    let all_made : bytes_ahead left ≤ sums.looked.value = let e = forgotten.ahead in omega (arith, e, made) in
+    let right = subst (λ (k : ℕ). IsListingSearch Reaches matches (listing_at b all count there (record sums { looked = record sums.looked { value = sums.looked.value - k } })) there count room_after now n over) (sym forgotten.ahead) kept in
     record {
-      right = subst (λ (t : ListingProgress). IsListingSearch Reaches matches t there count room_after now n over) (sym view)
-          (reading-right Reaches matches s place count room held filled was over room_after piece now n is searched (lives (searched_by s) place.sid is.stands.reads) long fits holds same few many);
+      right = right;
       read = record { same = view; short = omega (arith, long, fits, is.long); read = gave };
+      course = listing-course Reaches matches b all count there room_after now n over sums left lives right none all_made;
+      known = none;
+      made = all_made;
     }

@@ -2,15 +2,15 @@
 use Rattle.std.proofs.Common.{◌≡◌, ◌≢◌, ℕ, ◌-◌, ◌<◌, ◌≤◌, min, nat_lt, Bool, false, List, [], ◌∷◌, ◌++◌, length, take, Result, Ok, Err, append-nil, sym, ap, refl, ◌∙◌, arith, length-append}
 use Rattle.std.proofs.lemmas.List.{length-take-le}
 use Rattle.ac_input.specs.declared.search.Anchored.TheVariants.{No}
+use Rattle.ac_automaton.specs.Ahead.{less_ahead}
 use Rattle.ac_automaton.specs.Devices.Buffer.{Held, IsRollPaid, room_for, taken_into}
 use Rattle.ac_automaton.specs.Stream.{CanBeCounted, IsOnCourse, IsSearched, StreamProgress, read_by, room_of}
 use Rattle.ac_automaton.specs.Stream.StreamPush.{TakesBytes, Pushes, TakesFront, as_piece}
-use Rattle.ac_automaton.specs.Stream.StreamSearch.{IsStreamSearch, progress_at}
 use Rattle.ac_automaton.specs.declared.automaton.Automaton.{Ghosts}
 use Rattle.ac_automaton.specs.declared.error.StreamError.{StreamError}
 use Rattle.ac_automaton.specs.declared.error.StreamError.TheVariants.{Config, Read, Write, WriteZero, Memory, Position}
 use Rattle.ac_automaton.specs.declared.stream.search.StreamSearch.TheInside.{Inside}
-use Rattle.ac_automaton.proofs.stream.StreamSearchLemmas.{IsGrown, after_read, come_by, grown-long, grown-right, read-more}
+use Rattle.ac_automaton.proofs.stream.StreamSearchLemmas.{IsGrown, IsSettled, after_read, come_by, grown-long, grown-right, grown_to, read-more, settled_by}
 use Rattle.std.specs.Prelude.{◌+◌}
 
 -- bytes that aren't empty have a length above zero
@@ -36,26 +36,22 @@ taken-after s t bytes course some is = record {
   from = let from = ap (λ (u : StreamProgress). u.from) is in let le = course.kept.0 in (omega arith, omega arith);
 }
 
-module _ {S : Type 0} (A : Ghosts S) (i : Inside S) (all : List (List ℕ)) (new : Held) (piece : List ℕ) (n : ℕ) where
-  -- where the search stands after a push
-  abbrev pub pushed_by : StreamProgress
-  pushed_by = progress_at (A.built i.automaton) all i.given.value i.progress new i.sums
-
+module _ {S : Type 0} (A : Ghosts S) (i : Inside S) (all : List (List ℕ)) (new : Held) (piece : List ℕ) (n : ℕ) (over : Bool) where
   -- After a push: what the search keeps is right, and it has taken the first bytes of the piece.
-  pub record HasPushed (over : Bool) : Type 0 where
-    pub right : IsStreamSearch (A.Reaches i.automaton No) pushed_by i.start i.progress.sid i.progress.best i.given.value new over
-    pub taken : TakesBytes (come_by A i) pushed_by (take n piece)
-    pub front : TakesFront (IsSearched (come_by A i)) (come_by A i) pushed_by piece n
+  pub record HasPushed : Type 0 where
+    pub right : IsSettled A (grown_to i all new over)
+    pub taken : TakesBytes (come_by A i) (come_by A (grown_to i all new over)) (take n piece)
+    pub front : TakesFront (IsSearched (come_by A i)) (come_by A i) (come_by A (grown_to i all new over)) piece n
 
 -- a push takes the first bytes of the piece, up to the room in the buffer
 pub push-gave : {S : Type 0} (A : Ghosts S) (i : Inside S) (all : List (List ℕ)) (new : Held) (piece : List ℕ) (n : ℕ) (held : List ℕ)
-    → IsStreamSearch (A.Reaches i.automaton No) (come_by A i) i.start i.progress.sid i.progress.best i.given.value i.buffer i.over → i.progress.closed ≡ false
+    → IsOnCourse (come_by A i) → IsSettled A i → i.progress.closed ≡ false
     → 0 < length piece → IsSearched (come_by A i) → (length (read_by (come_by A i)) < (come_by A i).from + room_of (come_by A i).built)
     → n ≡ min (length piece) (i.buffer.room - length i.buffer.bytes)
     → new ≡ taken_into i.buffer (take n piece) → IsRollPaid new → held ≡ new.bytes → all ≡ i.pieces.items ++ take n piece ∷ [] → i.progress.from ≤ 18446744073709551615
     → HasPushed A i all new piece n (nat_lt (18446744073709551615 - i.progress.from) (length held))
-push-gave A i all new piece n held is open_ some searched room many took paid holds more fits =
-    let s = come_by A i in
+push-gave A i all new piece n held on is open_ some searched room many took paid holds more fits =
+    let s = settled_by A i in
     let course = is.stands.course in
     let within : n ≤ length piece = omega arith in
     let count : length (take n piece) ≡ n = length-take-le n piece within in
@@ -66,14 +62,16 @@ push-gave A i all new piece n held is open_ some searched room many took paid ho
       moved = ap (λ (h : Held). h.moved) took;
       paid = paid;
     } in
-    let right = grown-right (A.built i.automaton) (A.Reaches i.automaton No) i.start i.pieces.items all i.given.value i.progress i.buffer new i.sums i.over (take n piece) held is open_ grown holds more fits in
+    let right = grown-right (A.built i.automaton) (A.Reaches i.automaton No) i.start i.pieces.items all i.given.value i.progress i.buffer new (less_ahead i.sums i.ahead) i.over (take n piece) held is open_ grown holds more fits in
     let long = grown-long s i.buffer new (take n piece) course is.holds grown in
     let joined = length-append i.buffer.bytes (take n piece) in
     let bytes = ap length grown.bytes in
     let both = length-append (read_by s) (take n piece) in
     let old_room : i.buffer.room ≡ room_of s.built = is.holds.paid.room ∙ ap room_for is.holds.keep in
     let taken_some : 0 < n = omega (arith, many, some, room, long, joined, bytes, both, count, old_room) in
-    let taken = taken-after s (pushed_by A i all new piece n) (take n piece) course (omega arith) right.1 in
+    let over : Bool = nat_lt (18446744073709551615 - i.progress.from) (length held) in
+    let view = right.1 i.sums in
+    let taken = taken-after (come_by A i) (come_by A (grown_to i all new over)) (take n piece) on (omega arith) view in
     record {
       right = right.0;
       taken = taken;
@@ -81,7 +79,7 @@ push-gave A i all new piece n held is open_ some searched room many took paid ho
         within = within;
         waits = λ open_. absurd (open_ searched);
         some = λ _ _. taken_some;
-        full = λ _ lt. let from = ap (λ (u : StreamProgress). u.from) right.1 in let read = ap length taken.read in omega (arith, many, lt, from, read, long, joined, bytes, both, count, old_room);
+        full = λ _ lt. let from = ap (λ (u : StreamProgress). u.from) view in let read = ap length taken.read in omega (arith, many, lt, from, read, long, joined, bytes, both, count, old_room);
         none = λ z. absurd (omega arith);
       };
     }

@@ -18,12 +18,13 @@ use Rattle.ac_input.proofs.lemmas.BeginningLemmas.{slice_range-append}
 use Rattle.ac_input.specs.Occurrence.{Occurrence}
 use Rattle.ac_input.specs.Work.{longest, shortest}
 use Rattle.ac_input.specs.Steps.{Added, AreNone, Done}
+use Rattle.ac_automaton.specs.Ahead.{less_ahead}
 use Rattle.ac_automaton.specs.Automaton.{Built}
 use Rattle.ac_automaton.specs.Devices.Buffer.{Filled, Held, IsRollPaid, room_for, nothing_held, rolled}
 use Rattle.std.specs.Prelude.{max}
 use Rattle.ac_automaton.specs.Replace.{matches_in}
-use Rattle.ac_automaton.specs.Stream.StreamSearch.{HoldsRead, IsStreamSearch, StandsInState, since_last, SearchesOn, after_search, progress_at, some_of}
-use Rattle.ac_automaton.specs.Stream.{CanBeCounted, HasRead, IsOnCourse, cut_of, StreamProgress, fresh_progress, room_of, IsDecided, StreamCounts, read_by, read_in_all, closed_by, may_wait}
+use Rattle.ac_automaton.specs.Stream.StreamSearch.{HoldsRead, IsStreamSearch, StandsInState, since_last, SearchesOn, after_search, passed_in_all, progress_at, some_of}
+use Rattle.ac_automaton.specs.Stream.{CanBeCounted, HasRead, IsOnCourse, cut_of, StreamProgress, fresh_progress, room_of, IsDecided, StreamCounts, read_by, closed_by, may_wait}
 use Rattle.ac_automaton.specs.Devices.Moved.{HasGiven}
 use Rattle.ac_automaton.specs.declared.watched.Watched.{Watched}
 use Rattle.ac_automaton.specs.declared.stream.search.Progress.{Progress}
@@ -103,10 +104,6 @@ next-stream Reaches s start sid best count buffer over r x y number is on number
   uncountable = is.uncountable;
 }
 
--- what the search counts after the next match is what was done
-pub next-counts : (s : StreamProgress) (r : Searched) (looks : ℕ) (fresh taken before after : Steps) → AreNone fresh → Done looks 0 0 fresh taken → Added taken before after → StreamCounts s (after_search s r looks) before after
-next-counts s r looks fresh taken before after none done added = (looks, 0, 0, added-done looks fresh taken before after none done added, refl, omega arith, omega arith)
-
 -- ---- at first
 
 -- a search that has read nothing stands in the start state
@@ -176,7 +173,7 @@ closed-stands Reaches s start sid best stands =
         begun = course.begun;
         ended = course.ended;
         decided = λ more follows. course.decided more (wait-follows kind s.closed more course.unclosed follows);
-        paid = record { some = course.paid.some; looked = course.paid.looked; scanned = course.paid.scanned; moved = course.paid.moved };
+        paid = record { some = course.paid.some; looked = course.paid.looked; near = course.paid.near; scanned = course.paid.scanned; moved = course.paid.moved };
       };
       begins = stands.begins;
       reads = stands.reads;
@@ -247,7 +244,7 @@ read-stands Reaches s start sid best piece is open_ fits short =
     subst (λ (l : List ℕ). IsWalk m.kind (whole m l false) 0 None (s.given ++ rest)) (sym e)
     (is.goes (piece ++ after) rest (λ closed. absurd (false≢true (sym open_ ∙ closed))) (subst (λ (l : List ℕ). IsWalk m.kind (whole m l false) s.last (Some s.last) rest) e walk)))
     (λ one alive.
-    subst (λ (l : List ℕ). (s.looked + live_len l one ≤ 2 * read_in_all s) × (s.at ≤ s.looked) × (IsTrue s.built.deterministic → s.looked ≤ read_in_all s)) (sym same)
+    subst (λ (l : List ℕ). (s.looked + live_len l one ≤ 2 * passed_in_all s) × (s.at ≤ s.looked) × (IsTrue s.built.deterministic → s.looked ≤ passed_in_all s)) (sym same)
     (is.lookups one (subst (λ (l : List ℕ). IsLive m false l one) same alive)))
 
 -- how many bytes are held after the piece
@@ -304,7 +301,7 @@ roll-right Reaches s start sid best count old new over cut is at moves paid =
           begun = course.begun;
           ended = course.ended;
           decided = course.decided;
-          paid = record { some = course.paid.some; looked = course.paid.looked; scanned = course.paid.scanned; moved = omega (arith, more, read) };
+          paid = record { some = course.paid.some; looked = course.paid.looked; near = course.paid.near; scanned = course.paid.scanned; moved = omega (arith, more, read) };
         };
         begins = stands.begins;
         reads = stands.reads;
@@ -402,7 +399,7 @@ read-failed : {R : Type 0} (remaining : R → Option (List ℕ)) (before after :
     → new ≡ old → IsRollPaid new → all ≡ pieces ++ [] ∷ []
     → HasGiven remaining before after ([] ∷ []) 1
     → IsStreamSearch Reaches (progress_at b all count p new sums) start p.sid p.best count new over
-    × HasRead remaining (progress_at b pieces count p old sums) (progress_at b all count p new sums) before after [] 1
+    × ((counted : Steps) → HasRead remaining (progress_at b pieces count p old counted) (progress_at b all count p new counted) before after [] 1)
 read-failed {R} remaining before after b Reaches start pieces all count p old new sums over is open_ same paid more failed =
     let s : StreamProgress = progress_at b pieces count p old sums in
     let grown : IsGrown old new [] = record {
@@ -412,12 +409,12 @@ read-failed {R} remaining before after b Reaches start pieces all count p old ne
       moved = ap (λ (h : Held). h.moved) same;
       paid = paid;
     } in
-    let view = read-view b pieces all count p old new sums [] is.number is.stands.course.decided open_ grown more in
+    let view = λ (counted : Steps). read-view b pieces all count p old new counted [] is.number is.stands.course.decided open_ grown more in
     let none = append-nil (read_by s) in (
-      subst (λ (t : StreamProgress). IsStreamSearch Reaches t start p.sid p.best count new over) (sym view)
+      subst (λ (t : StreamProgress). IsStreamSearch Reaches t start p.sid p.best count new over) (sym (view sums))
           (read-right Reaches s start p.sid p.best count old new over over [] is grown open_
           (λ e. subst CanBeCounted (sym none) (is.countable e)) (λ e. subst (λ (l : List ℕ). ¬ CanBeCounted l) (sym none) (is.uncountable e))),
-      subst (λ (t : StreamProgress). HasRead remaining s t before after [] 1) (sym view)
+      λ counted. subst (λ (t : StreamProgress). HasRead remaining (progress_at b pieces count p old counted) t before after [] 1) (sym (view counted))
           (record {
             built = refl;
             pieces = refl;
@@ -437,15 +434,15 @@ pub grown-right : (b : Built) (Reaches : List ℕ → StateID → Type 0) (start
     → p.closed ≡ false
     → IsGrown old new piece → held ≡ new.bytes → all ≡ pieces ++ piece ∷ [] → p.from ≤ 18446744073709551615
     → IsStreamSearch Reaches (progress_at b all count p new sums) start p.sid p.best count new (nat_lt (18446744073709551615 - p.from) (length held))
-    × (progress_at b all count p new sums ≡ after_read (progress_at b pieces count p old sums) piece)
+    × ((counted : Steps) → progress_at b all count p new counted ≡ after_read (progress_at b pieces count p old counted) piece)
 grown-right b Reaches start pieces all count p old new sums was piece held is open_ grown holds joined fits =
     let s : StreamProgress = progress_at b pieces count p old sums in
     let course = is.stands.course in
-    let view = read-view b pieces all count p old new sums piece is.number course.decided open_ grown joined in
+    let view = λ (counted : Steps). read-view b pieces all count p old new counted piece is.number course.decided open_ grown joined in
     let long : length held + p.from ≡ length (read_by s ++ piece) = ap (λ (l : List ℕ). length l + p.from) holds ∙ grown-long s old new piece course is.holds grown in
     let test = over-test p.from (length held) (length (read_by s ++ piece)) fits long in
     let right = read-right Reaches s start p.sid p.best count old new was (nat_lt (18446744073709551615 - p.from) (length held)) piece is grown open_ test.0 test.1 in
-    (subst (λ (t : StreamProgress). IsStreamSearch Reaches t start p.sid p.best count new (nat_lt (18446744073709551615 - p.from) (length held))) (sym view) right, view)
+    (subst (λ (t : StreamProgress). IsStreamSearch Reaches t start p.sid p.best count new (nat_lt (18446744073709551615 - p.from) (length held))) (sym (view sums)) right, view)
 
 -- After a read of some bytes: what the search keeps is right, and the read returned this piece.
 read-gave : {R : Type 0} (remaining : R → Option (List ℕ)) (before after : Watched R) (b : Built) (Reaches : List ℕ → StateID → Type 0) (start : StateID) (pieces all : List (List ℕ)) (count : ℕ) (p : Progress) (old new : Held) (sums : Steps) (was : Bool) (n : ℕ) (held : List ℕ)
@@ -455,7 +452,7 @@ read-gave : {R : Type 0} (remaining : R → Option (List ℕ)) (before after : W
     → held ≡ new.bytes → all ≡ pieces ++ drop (length held - n) held ∷ []
     → p.from ≤ 18446744073709551615
     → IsStreamSearch Reaches (progress_at b all count p new sums) start p.sid p.best count new (nat_lt (18446744073709551615 - p.from) (length held))
-    × HasRead remaining (progress_at b pieces count p old sums) (progress_at b all count p new sums) before after filled.piece 0
+    × ((counted : Steps) → HasRead remaining (progress_at b pieces count p old counted) (progress_at b all count p new counted) before after filled.piece 0)
 read-gave {R} remaining before after b Reaches start pieces all count p old new sums was n held is open_ filled paid holds more fits =
     let s : StreamProgress = progress_at b pieces count p old sums in
     let piece : List ℕ = filled.piece in
@@ -471,7 +468,7 @@ read-gave {R} remaining before after b Reaches start pieces all count p old new 
     let joined : all ≡ pieces ++ piece ∷ [] = more ∙ ap (λ (l : List ℕ). pieces ++ l ∷ []) last in
     let right = grown-right b Reaches start pieces all count p old new sums was piece held is open_ grown holds joined fits in (
       right.0,
-      subst (λ (t : StreamProgress). HasRead remaining s t before after piece 0) (sym right.1)
+      λ counted. subst (λ (t : StreamProgress). HasRead remaining (progress_at b pieces count p old counted) t before after piece 0) (sym (right.1 counted))
           (record {
             built = refl;
             pieces = refl;
@@ -491,31 +488,39 @@ read-gave {R} remaining before after b Reaches start pieces all count p old new 
 abbrev pub come_by : {S : Type 0} → Ghosts S → Inside S → StreamProgress
 come_by A i = progress_at (A.built i.automaton) i.pieces.items i.given.value i.progress i.buffer i.sums
 
-module _ {S R : Type 0} (A : Ghosts S) (remaining : R → Option (List ℕ)) (i : Inside S) (before after : Watched R) (all : List (List ℕ)) (new : Held) where
-  -- where the search stands after a read
-  abbrev pub filled_by : StreamProgress
-  filled_by = progress_at (A.built i.automaton) all i.given.value i.progress new i.sums
+-- how far it has come, what was read ahead of it left aside
+abbrev pub settled_by : {S : Type 0} → Ghosts S → Inside S → StreamProgress
+settled_by A i = come_by A (record i { sums = less_ahead i.sums i.ahead })
 
+-- what the search keeps is right, what was read ahead of it left aside
+abbrev pub IsSettled : {S : Type 0} → Ghosts S → Inside S → Type 0
+IsSettled A i = IsStreamSearch (A.Reaches i.automaton No) (settled_by A i) i.start i.progress.sid i.progress.best i.given.value i.buffer i.over
+
+-- what a search keeps after a read or a push
+abbrev pub grown_to : {S : Type 0} → Inside S → List (List ℕ) → Held → Bool → Inside S
+grown_to i all new over = record i { pieces = record i.pieces { items = all }; buffer = new; over = over }
+
+module _ {S R : Type 0} (A : Ghosts S) (remaining : R → Option (List ℕ)) (i : Inside S) (before after : Watched R) (all : List (List ℕ)) (new : Held) (over : Bool) where
   -- After a read: what the search keeps is right, and the read returned this piece.
-  pub record HasFilled (over : Bool) (piece : List ℕ) (errors : ℕ) : Type 0 where
-    pub right : IsStreamSearch (A.Reaches i.automaton No) filled_by i.start i.progress.sid i.progress.best i.given.value new over
-    pub read : HasRead remaining (come_by A i) filled_by before after piece errors
+  pub record HasFilled (piece : List ℕ) (errors : ℕ) : Type 0 where
+    pub right : IsSettled A (grown_to i all new over)
+    pub read : HasRead remaining (come_by A i) (come_by A (grown_to i all new over)) before after piece errors
 
 -- what a failed read leaves
 pub fill-failed : {S R : Type 0} (A : Ghosts S) (remaining : R → Option (List ℕ)) (i : Inside S) (before after : Watched R) (all : List (List ℕ)) (new : Held)
-    → IsStreamSearch (A.Reaches i.automaton No) (come_by A i) i.start i.progress.sid i.progress.best i.given.value i.buffer i.over → i.progress.closed ≡ false
+    → IsSettled A i → i.progress.closed ≡ false
     → new ≡ i.buffer → IsRollPaid new → all ≡ i.pieces.items ++ [] ∷ [] → HasGiven remaining before after ([] ∷ []) 1 → HasFilled A remaining i before after all new i.over [] 1
 fill-failed A remaining i before after all new is open_ same paid more failed =
     let a = i.automaton in
-    let r = read-failed remaining before after (A.built a) (A.Reaches a No) i.start i.pieces.items all i.given.value i.progress i.buffer new i.sums i.over is open_ same paid more failed in
-    record { right = r.0; read = r.1 }
+    let r = read-failed remaining before after (A.built a) (A.Reaches a No) i.start i.pieces.items all i.given.value i.progress i.buffer new (less_ahead i.sums i.ahead) i.over is open_ same paid more failed in
+    record { right = r.0; read = r.1 i.sums }
 
 -- what a read of some bytes leaves
 pub fill-gave : {S R : Type 0} (A : Ghosts S) (remaining : R → Option (List ℕ)) (i : Inside S) (before after : Watched R) (all : List (List ℕ)) (new : Held) (n : ℕ) (held : List ℕ)
-    → IsStreamSearch (A.Reaches i.automaton No) (come_by A i) i.start i.progress.sid i.progress.best i.given.value i.buffer i.over → i.progress.closed ≡ false
+    → IsSettled A i → i.progress.closed ≡ false
     → (gave : Filled remaining i.buffer new before after n) → IsRollPaid new → held ≡ new.bytes → all ≡ i.pieces.items ++ drop (length held - n) held ∷ [] → i.progress.from ≤ 18446744073709551615
     → HasFilled A remaining i before after all new (nat_lt (18446744073709551615 - i.progress.from) (length held)) gave.piece 0
 fill-gave A remaining i before after all new n held is open_ gave paid holds more fits =
     let a = i.automaton in
-    let r = read-gave remaining before after (A.built a) (A.Reaches a No) i.start i.pieces.items all i.given.value i.progress i.buffer new i.sums i.over n held is open_ gave paid holds more fits in
-    record { right = r.0; read = r.1 }
+    let r = read-gave remaining before after (A.built a) (A.Reaches a No) i.start i.pieces.items all i.given.value i.progress i.buffer new (less_ahead i.sums i.ahead) i.over n held is open_ gave paid holds more fits in
+    record { right = r.0; read = r.1 i.sums }

@@ -6,6 +6,7 @@ use Rattle.ac_input.specs.declared.steps.Steps.{Steps}
 use Rattle.ac_input.specs.Input.{Asked}
 use Rattle.ac_input.specs.Occurrence.{Occurrence}
 use Rattle.ac_input.specs.Work.{CountsBytes, bytes_counted, come_at_least, lookups_per_byte}
+use Rattle.ac_automaton.specs.Ahead.{most_ahead}
 use Rattle.ac_automaton.specs.declared.error.MatchErrorKind.{MatchErrorKind}
 use Rattle.ac_automaton.specs.declared.error.MatchErrorKind.TheVariants.{InvalidInputAnchored}
 use Rattle.ac_automaton.specs.Overlapping.{CanOverlap, IsOverlappingRefusal, and_one}
@@ -45,12 +46,21 @@ pub record IsWithinOneWalk (run : Run) : Type 0 where
   pub scanned : run.scanned ≤ 256 * (run.asked.span.end - run.asked.span.start)
   pub moved : run.moved ≡ 0
 
+-- A run that showed `r` last has looked at no more states than for the bytes up to the end of `r`, and for `most_ahead` bytes more.
+abbrev pub LooksNear : Run → Option Occurrence → Type 0
+LooksNear run r =
+    run.looked ≤ lookups_per_byte run.built.deterministic * (come_at_least (searched run.built run.asked) r - run.asked.span.start) + most_ahead
+
 -- A run has counted each byte of the span up to the end of `r`, which it showed last. If nothing was left and the search isn't
 -- anchored, it has counted every byte of the span.
 abbrev pub CountsRun : Run → Option Occurrence → Type 0
 CountsRun run r =
     CountsBytes (prefilter_for run.built run.asked.anchored)
     → come_at_least (searched run.built run.asked) r - run.asked.span.start ≤ bytes_counted (prefilter_for run.built run.asked.anchored) run.looked run.scanned
+
+-- the run counts what a call costs that shows `r`; it stays within one walk, and looks not far ahead
+abbrev pub CostsShown : Run → Run → Steps → Steps → Option Occurrence → Type 0
+CostsShown run later before after r = RunCounts run later before after × IsWithinOneWalk later × LooksNear later r
 
 -- the result is a run through all occurrences that has not begun, or an error if an unanchored one isn't supported
 abbrev pub AnswersListing : Built → (Anchored → Type 0) → Asked → Result Run MatchErrorKind → Type 0

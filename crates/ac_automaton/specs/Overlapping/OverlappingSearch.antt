@@ -1,6 +1,6 @@
 -- The contracts of the parts of an overlapping search, for an automaton and an input: what is shown where the search stands, and
 -- its cost.
-use Rattle.std.specs.Prelude.{◌≡◌, ◌≢◌, ◌⊎◌, ℕ, ◌+◌, ◌-◌, ◌<◌, ◌≤◌, List, [], ◌∷◌, ◌++◌, drop, length, IfSome, Option, None, Some, Result, Ok, Err, unwrap_or}
+use Rattle.std.specs.Prelude.{◌≡◌, ◌≢◌, ◌⊎◌, ℕ, ◌+◌, ◌-◌, ◌<◌, ◌≤◌, Bool, false, true, List, [], ◌∷◌, ◌++◌, drop, take, length, IfSome, Option, None, Some, Result, Ok, Err, unwrap_or}
 use denote.Ref.{Bor}
 use Rattle.ac_input.specs.Number.{StateID}
 use Rattle.ac_input.specs.declared.search.Anchored.{Anchored}
@@ -13,10 +13,13 @@ use Rattle.ac_input.specs.Dictionary.{Dictionary}
 use Rattle.ac_input.specs.Input.{Asked, is_anchored, search_of}
 use Rattle.ac_input.specs.Occurrence.{Search, Occurrence, Occurs, starting_at}
 use Rattle.ac_input.specs.Work.{HasCounted}
+use Rattle.ac_automaton.specs.Ahead.{IsPaid, bytes_ahead}
 use Rattle.ac_automaton.specs.Automaton.{Built, listing_in, prefilter_for, searched}
 use Rattle.ac_automaton.specs.Cursor.{counted, walked, StandsIn}
 use Rattle.ac_automaton.specs.Find.{MayGoOnFrom}
-use Rattle.ac_automaton.specs.Overlapping.{AnswersOverlapping, CameFrom, CanOverlap, CanRestart, IsLeft, IsOverlappingRefusal, IsPaidAt, IsPaidBy, IsPlacePaid, IsSkipCost, KeepsBudget, ReadsOn, ShowsFirst, TellsFirst, ending_from, read_at_least, stands_at_least, occurrences_from}
+use Rattle.ac_automaton.specs.FindAhead.{IsAheadOf}
+use Rattle.ac_automaton.specs.declared.ahead.Ahead.{Ahead}
+use Rattle.ac_automaton.specs.Overlapping.{AnswersOverlapping, CameFrom, CanOverlap, CanRestart, IsAheadOfPosition, IsLeft, IsOverlappingRefusal, IsPaidAt, IsPaidBy, IsPlacePaid, IsSkipCost, KeepsBudget, ReadsOn, ShowsFirst, TellsFirst, ending_from, read_at_least, stands_at_least, occurrences_from}
 use Rattle.ac_automaton.specs.declared.automaton.Automaton.{Ghosts}
 use Rattle.ac_automaton.specs.declared.error.MatchErrorKind.{MatchErrorKind}
 use Rattle.ac_automaton.specs.declared.overlapping.Beginning.{Beginning}
@@ -203,3 +206,27 @@ module _ {S : Type 0} (A : Ghosts S) (automaton : S) where
     -- what a call returns, and how it leaves the state
     abbrev pub AnswersCall : OverlappingState → OverlappingState → Result (Unit {0}) MatchErrorKind → Type 0
     AnswersCall before after result = AnswersOverlapping (A.built automaton) (A.supports automaton) asked before after result
+
+-- ---- what was read ahead
+
+-- Looks and scans are paid for after a call that shows this, and it counts each byte that it passes: by what these bytes cost,
+-- whenever they were looked at.
+abbrev pub PaysAhead : Built → Asked → Position → Shown → Ahead → Ahead → Steps → Steps → Type 0
+PaysAhead b asked place shown first last before after = IsPaid first last after (λ paid. KeepsPaying b asked place shown before paid × CountsOn b asked place shown before paid)
+
+-- the same of a call at a state whose list was shown up to an index
+abbrev pub PaysAheadAt : Built → Asked → Cursor → ℕ → Shown → Ahead → Ahead → Steps → Steps → Type 0
+PaysAheadAt b asked cursor index shown first last before after = PaysAhead b asked (At cursor.sid cursor.from cursor.at index) shown first last before after
+
+-- what was read ahead of a search that stands at a cursor, over the haystack up to the end of the span
+abbrev pub IsAheadFrom : {S : Type 0} → Ghosts S → S → Asked → Cursor → Ahead → Type 0
+IsAheadFrom A automaton asked cursor ahead = IsAheadOf A automaton None (take asked.span.end asked.haystack) cursor.at cursor.sid ahead
+
+-- what was read ahead of a search that stands at a position
+abbrev pub IsAheadAt : {S : Type 0} → Ghosts S → S → Asked → Position → Ahead → Type 0
+IsAheadAt A automaton asked place ahead = IsAheadOfPosition (A.built automaton) (A.Reaches automaton No) (A.matches automaton) asked place ahead
+
+-- what was read ahead of a search that stands at a position, if it reads ahead; otherwise nothing was
+abbrev pub IsAheadIf : {S : Type 0} → Bool → Ghosts S → S → Asked → Position → Ahead → Type 0
+IsAheadIf false A automaton asked place ahead = bytes_ahead ahead ≡ 0
+IsAheadIf true A automaton asked place ahead = IsAheadAt A automaton asked place ahead

@@ -12,6 +12,7 @@ use Rattle.ac_input.specs.Steps.{Done}
 use Rattle.ac_input.specs.Work.{shortest, lookups_per_byte}
 use Rattle.ac_input.specs.Computed.{listing_of}
 use Rattle.ac_input.specs.Dictionary.{whole}
+use Rattle.ac_automaton.specs.Ahead.{most_ahead}
 use Rattle.ac_automaton.specs.Automaton.{Built}
 use Rattle.ac_automaton.specs.Devices.Buffer.{least_room}
 use Rattle.ac_automaton.specs.Devices.Moved.{AllFit, HasGiven}
@@ -25,8 +26,8 @@ use Rattle.ac_automaton.specs.declared.watched.Watched.{Watched}
 use Rattle.ac_automaton.specs.declared.stream.StreamKinds.TheVariants.{OnlyStandard}
 
 -- How far a search of a stream for every occurrence has come: its automaton; the pieces that its reads returned; the occurrences that
--- it returned; up to which place the automaton has read; and how many states it looked at, how many places it scanned and how many
--- bytes it moved. Places are counted from the first byte that the search read.
+-- it returned; up to which place it has searched; and how many states it looked at, how many places it scanned and how many bytes it
+-- moved. Places are counted from the first byte that the search read.
 pub record ListingProgress : Type 0 where
   pub built : Built
   pub pieces : List (List ℕ)
@@ -48,7 +49,7 @@ occurrences_in b text = listing_of (whole b.dictionary text false)
 abbrev pub all_read : ListingProgress → List ℕ
 all_read s = concat s.pieces
 
--- the bytes that the automaton has read
+-- the bytes that were searched
 abbrev pub searched_by : ListingProgress → List ℕ
 searched_by s = take s.at (all_read s)
 
@@ -68,11 +69,13 @@ IsListingRefusal b supports other = ⊥
 
 -- ---- what holds wherever a search stands
 
--- What a search has cost. In total it made at least one look for each byte that the automaton has read, and at most one, or two if
--- the automaton isn't deterministic. It scanned nothing, and moved no byte.
+-- What a search has cost. In total it made at least one look for each byte that was searched. It made at most one for each byte
+-- that was read, or two if the automaton isn't deterministic; and no more than those for the bytes that were searched, and for
+-- `most_ahead` more. It scanned nothing, and moved no byte.
 pub record IsWithinListingBudget (s : ListingProgress) : Type 0 where
   pub some : s.at ≤ s.looked
-  pub looked : s.looked ≤ lookups_per_byte s.built.deterministic * s.at
+  pub looked : s.looked ≤ lookups_per_byte s.built.deterministic * length (all_read s)
+  pub near : s.looked ≤ lookups_per_byte s.built.deterministic * s.at + most_ahead
   pub scanned : s.scanned ≡ 0
   pub moved : s.moved ≡ 0
 
@@ -102,7 +105,7 @@ ListingCounts s t before after = (looks : ℕ) × Done looks 0 0 before after ×
 abbrev pub ListsOnCourse : ListingProgress → ListingProgress → Steps → Steps → Type 0
 ListsOnCourse s t before after = ListingCounts s t before after × IsOnListing t
 
--- Nothing was read in between, and the automaton doesn't go back.
+-- Nothing was read in between, and the search doesn't go back.
 pub record ListingStays (s t : ListingProgress) : Type 0 where
   pub on : s.at ≤ t.at
   pub built : t.built ≡ s.built
@@ -113,8 +116,8 @@ pub record IsAllListed (s : ListingProgress) : Type 0 where
   pub searched : s.at ≡ length (all_read s)
   pub all : s.given ≡ occurrences_in s.built (all_read s)
 
--- An occurrence in what was read. It ends at the place up to which the automaton had read, or later; and it ends later if all
--- occurrences up to that place had been returned.
+-- An occurrence in what was read. It ends at the place up to which was searched, or later; and it ends later if all occurrences up
+-- to that place had been returned.
 pub record IsHeldOccurrence (s : ListingProgress) (o : Occurrence) : Type 0 where
   pub pattern : o.pattern < length s.built.dictionary.patterns
   pub some : o.start < o.end
@@ -122,7 +125,7 @@ pub record IsHeldOccurrence (s : ListingProgress) (o : Occurrence) : Type 0 wher
   pub new : s.given ≡ occurrences_in s.built (searched_by s) → s.at < o.end
   pub within : o.end ≤ length (all_read s)
 
--- This is the next occurrence in what was read, and the automaton has read to its end; or there is none, and all were returned if
+-- This is the next occurrence in what was read, and the search has come to its end; or there is none, and all were returned if
 -- places can be counted.
 abbrev pub ListsHeld : ListingProgress → Option Occurrence → ListingProgress → Type 0
 ListsHeld s None t = ListingStays s t × (t.given ≡ s.given) × (CanBeCounted (all_read s) → IsAllListed t)

@@ -18,8 +18,8 @@ use Rattle.ac_automaton.specs.declared.watched.Watched.{Watched}
 
 -- ---- what is kept
 
--- A search stands in a state that was reached by the bytes that the automaton has read. The occurrences in these that were not
--- returned yet are the rest of the state's list.
+-- A search stands in a state that was reached by the bytes searched. The occurrences in these that were not returned yet are the
+-- rest of the state's list. It has counted the looks for these bytes.
 pub record StandsInList (Reaches : List ℕ → StateID → Type 0) (matches : StateID → List ℕ) (s : ListingProgress) (place : ListPlace) : Type 0 where
   pub course : IsOnListing s
   pub at : place.at ≡ s.at

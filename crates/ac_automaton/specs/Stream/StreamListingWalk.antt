@@ -1,10 +1,12 @@
 -- What an automaton's walk over the bytes of a stream's last read requires, and how it returns every occurrence.
-use Rattle.std.specs.Prelude.{◌≡◌, ℕ, ◌+◌, ◌<◌, List, length, slice_get, Some}
+use Rattle.std.specs.Prelude.{◌≡◌, ℕ, ◌+◌, ◌-◌, ◌<◌, List, length, slice_get, None, Some}
 use Rattle.ac_input.specs.declared.search.Anchored.TheVariants.{No}
 use Rattle.ac_input.specs.declared.steps.Steps.{Steps}
 use Rattle.ac_input.specs.Tells.{ending_at}
+use Rattle.ac_automaton.specs.FindAhead.{IsAheadOf}
 use Rattle.ac_automaton.specs.Stream.StreamListing.{ListingProgress}
 use Rattle.ac_automaton.specs.Stream.StreamListingSearch.{HasReadHeld, IsListedAt, ListsOn}
+use Rattle.ac_automaton.specs.declared.ahead.Ahead.{Ahead}
 use Rattle.ac_automaton.specs.declared.automaton.Automaton.{Ghosts}
 use Rattle.ac_automaton.specs.declared.stream.overlapping.search.ListPlace.{ListPlace}
 use Rattle.ac_automaton.specs.declared.stream.overlapping.search.Listed.{Listed}
@@ -37,3 +39,7 @@ module _ {S : Type 0} (A : Ghosts S) (automaton : S) where
   -- however far the search had come, it went on from here to the next occurrence, or to the end of what was read
   abbrev pub ListsNext : ListPlace → List ℕ → Listed → Steps → Steps → Type 0
   ListsNext place held r before after = (s : ListingProgress) → StandsListing s place held → ListsOn (A.Reaches automaton No) (A.matches automaton) s place r before after
+
+  -- what was read ahead of the search, over the bytes of the last read
+  abbrev pub IsAheadFor : List ℕ → ListPlace → Ahead → Type 0
+  IsAheadFor held place ahead = IsAheadOf A automaton None held (place.at - place.from) place.sid ahead

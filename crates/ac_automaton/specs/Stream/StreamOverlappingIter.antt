@@ -38,7 +38,7 @@ read_before t = concat (but_last t.pieces)
 abbrev pub HadListed : ListingProgress → ListingProgress → Type 0
 HadListed s t = s.given ≡ occurrences_in s.built (read_before t)
 
--- an occurrence in what was read by then, which doesn't end before what the automaton had read
+-- an occurrence in what was read by then, which doesn't end before the place up to which was searched
 pub record IsNextOccurrence (s t : ListingProgress) (o : Occurrence) : Type 0 where
   pub pattern : o.pattern < length s.built.dictionary.patterns
   pub some : o.start < o.end

@@ -44,9 +44,9 @@ AcceptsStream kinds b supports result = CanStream kinds b supports
 
 -- ---- what a replacement costs
 
--- What a search of this many bytes of a stream, with so many matches, may cost. Under standard no byte is read again.
+-- What a search of this many bytes of a stream, with so many matches, may cost. Under standard no byte is looked at again.
 pub record IsStreamCost (b : Built) (n matches : ℕ) (before after : Steps) : Type 0 where
-  pub looked : after.looked.value ≤ before.looked.value + lookups_per_byte b.deterministic * (n + read_again b.dictionary matches)
+  pub looked : after.looked.value ≤ before.looked.value + lookups_per_byte b.deterministic * (n + read_again b.dictionary n matches)
   pub scanned : after.scanned.value ≡ before.scanned.value
   pub moved : 7 * after.moved.value ≤ 7 * before.moved.value + n
 

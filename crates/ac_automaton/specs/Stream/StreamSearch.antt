@@ -13,7 +13,7 @@ use Rattle.ac_input.specs.Walk.{IsWalk}
 use Rattle.ac_automaton.specs.Automaton.{Built}
 use Rattle.ac_automaton.specs.Devices.Buffer.{Held, IsRollPaid}
 use Rattle.ac_automaton.specs.Replace.{matches_in}
-use Rattle.ac_automaton.specs.Stream.{StreamProgress, CanBeCounted, FindsHeld, IsOnCourse, read_by, read_in_all}
+use Rattle.ac_automaton.specs.Stream.{StreamProgress, CanBeCounted, FindsHeld, IsOnCourse, read_again, read_by}
 use Rattle.ac_automaton.specs.declared.stream.search.Progress.{Progress}
 use Rattle.ac_automaton.specs.declared.stream.search.Searched.{Searched}
 use Rattle.ac_input.specs.Work.{longest}
@@ -32,11 +32,15 @@ ContinuesWalk s =
     → IsWalk s.built.dictionary.kind (whole s.built.dictionary (read_by s ++ more) false) s.last (Some s.last) rest
     → IsWalk s.built.dictionary.kind (whole s.built.dictionary (read_by s ++ more) false) 0 None (s.given ++ rest)
 
--- The bytes that the automaton has read, those read again included, pay for the looks and for one more look for each live byte.
+-- how many bytes a search has passed, those that it read again after matches included
+abbrev pub passed_in_all : StreamProgress → ℕ
+passed_in_all s = s.at + read_again s.built.dictionary 0 (length s.given)
+
+-- The bytes that a search has passed, those read again included, pay for the looks and for one more look for each live byte.
 abbrev pub IsSearchPaid : StreamProgress → Type 0
 IsSearchPaid s =
     (live : Option ℕ) → IsLive s.built.dictionary false (since_last s) live
-    → (s.looked + live_len (since_last s) live ≤ 2 * read_in_all s) × (s.at ≤ s.looked) × (IsTrue s.built.deterministic → s.looked ≤ read_in_all s)
+    → (s.looked + live_len (since_last s) live ≤ 2 * passed_in_all s) × (s.at ≤ s.looked) × (IsTrue s.built.deterministic → s.looked ≤ passed_in_all s)
 
 -- A search stands in a state that was reached from the start by the bytes since the last match, which aren't dead. The best match
 -- in these is still to be decided; under standard there is none.

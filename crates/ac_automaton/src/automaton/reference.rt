@@ -1,6 +1,6 @@
 //! A reference to an automaton is an automaton, so a generic that takes one takes a borrowed one too.
 use super::{Advance, Automaton};
-use crate::ahead::Note;
+use crate::ahead::{Note, Noted};
 use crate::error::MatchError;
 use ac_input::primitives::{PatternID, StateID};
 use ac_input::search::{Anchored, MatchKind};
@@ -60,10 +60,11 @@ impl<'a, A: Automaton> Automaton for &'a A {
         bytes: &[u8],
         at: usize,
         len: usize,
-        anew: bool,
+        anew: Option<StateID>,
         notes: &mut [Note],
-    ) -> usize {
-        (**self).note_ahead(sid, bytes, at, len, anew, notes)
+        steps: &mut Steps,
+    ) -> Noted {
+        (**self).note_ahead(sid, bytes, at, len, anew, notes, steps)
     }
 
     fn is_special(&self, sid: StateID) -> bool {

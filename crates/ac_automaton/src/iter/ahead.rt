@@ -2,8 +2,9 @@
 //!
 //! A walk over many matches of a long text spends its time waiting for one look-up after another. [`FindIterAhead`] has the automaton
 //! read ahead over several parts of the text side by side, and takes the matches from its notes: see [`ahead`](crate::ahead). It
-//! returns what [`FindIter`](crate::iter::FindIter) returns, and counts as much, when it takes a note. But a call may read up to 8 KiB
-//! past the match that it returns, so it doesn't pay for a caller who needs the first few matches only.
+//! returns what [`FindIter`](crate::iter::FindIter) returns, and looks at as many states over the whole span. But a call may read up
+//! to 8 KiB past the match that it returns, and counts these looks when it makes them. So it doesn't pay for a caller who needs the
+//! first few matches only.
 //!
 //! It pays with hundreds of patterns and more, whose tables don't lie in the nearest cache. The notes are some 3 KiB within the
 //! iterator itself; nothing is allocated. To make one takes as long as to search some hundred bytes, so for short texts `FindIter` is
@@ -13,8 +14,9 @@
 //! and has 1 KiB to be searched. Elsewhere this iterator goes on as `FindIter` does.
 ghost use Rattle.std.specs.Prelude.{◌≡◌, ◌≤◌, [], length, IfSome};
 ghost use Rattle.std.specs.Iterator.{YieldsFirst, item_count};
-ghost use Rattle.ac_automaton.specs.FindAhead.{AreNotesOf, MayReadAhead};
-ghost use Rattle.ac_automaton.specs.Iter.{GivesPick, CostsPick, left_of, IsPickOf, IsPickCost, IsPlaceIn, IsRestOf, IsOnItsWay, PickCounts, walk_from_place};
+ghost use Rattle.ac_automaton.specs.Ahead.{IsPaid};
+ghost use Rattle.ac_automaton.specs.FindAhead.{MayReadAhead, ReadsAheadFrom, ended_at};
+ghost use Rattle.ac_automaton.specs.Iter.{GivesPick, CostsPickAhead, left_of, IsPickOf, IsPickCost, IsPlaceIn, IsRestOf, IsOnItsWay, PickCounts, walk_from_place};
 
 use crate::ahead::{Ahead, LEAST};
 use crate::iter::{WalkPlace, next_pick};
@@ -42,9 +44,10 @@ pub struct FindIterAhead<'a, 'h, A: Search> {
 }
 
 impl<'a, 'h, A: Search> Model for FindIterAhead<'a, 'h, A> {
-    ghost use Rattle.std.specs.Prelude.{IfSome};
-    ghost use Rattle.ac_automaton.specs.FindAhead.{AreNotesOf, MayReadAhead};
-    ghost use Rattle.ac_automaton.specs.Iter.{CountsWalk, Walk, walk_at, IsOnItsWay};
+    ghost use Rattle.std.specs.Prelude.{◌≤◌, min};
+    ghost use Rattle.ac_automaton.specs.Ahead.{bytes_ahead, less_ahead};
+    ghost use Rattle.ac_automaton.specs.FindAhead.{ReadsAheadFrom};
+    ghost use Rattle.ac_automaton.specs.Iter.{CountsWalk, Walk, walk_at, IsOnItsWay, IsWithinBudget};
 
     ghost Value = { Walk };
 
@@ -53,9 +56,10 @@ impl<'a, 'h, A: Search> Model for FindIterAhead<'a, 'h, A> {
     ghost invariant = { λ i.
         A.supports i.automaton.now i.input.anchored
         × IsOnItsWay (walk_at (A.built i.automaton.now) i.first.value i.input i.last i.sums)
-        × CountsWalk (walk_at (A.built i.automaton.now) i.first.value i.input i.last i.sums)
-        × IfSome i.start (MayReadAhead A.Automaton i.automaton.now i.input)
-        × AreNotesOf A.Automaton i.automaton.now i.input i.ahead.notes };
+        × IsWithinBudget (walk_at (A.built i.automaton.now) i.first.value i.input i.last (less_ahead i.sums i.ahead))
+        × CountsWalk (walk_at (A.built i.automaton.now) i.first.value i.input i.last (less_ahead i.sums i.ahead))
+        × ReadsAheadFrom A.Automaton i.automaton.now i.start i.input (min i.input.span.start i.input.span.end) i.ahead
+        × (bytes_ahead i.ahead ≤ i.sums.looked.value) };
 }
 
 /// Whether the input is read ahead, and then in which state: that in which its search begins.
@@ -91,13 +95,12 @@ fn next_pick_ahead<A: Search>(
     requires within { input.old.span.start ≤ input.old.span.end }
     requires inside { input.old.span.end ≤ length input.old.haystack }
     requires last { IfSome last (λ end. end ≤ input.old.span.start) }
-    requires may { IfSome start (MayReadAhead A.Automaton automaton.now input.old) }
-    requires known { AreNotesOf A.Automaton automaton.now input.old ahead.old.notes }
+    requires reads { ReadsAheadFrom A.Automaton automaton.now start input.old input.old.span.start ahead.old }
     ensures pick { IsPickOf (A.built automaton.now) input.old last result }
     ensures asked { IsRestOf input.old input.new }
-    ensures work { IsPickCost (A.built automaton.now) input.old steps.old steps.new result }
-    ensures counts { PickCounts (A.built automaton.now) input.old result steps.old steps.new }
-    ensures known { AreNotesOf A.Automaton automaton.now input.old ahead.new.notes }
+    ensures paid { IsPaid ahead.old ahead.new steps.new (λ paid. IsPickCost (A.built automaton.now) input.old steps.old paid result
+        × PickCounts (A.built automaton.now) input.old result steps.old paid) }
+    ensures reads { ReadsAheadFrom A.Automaton automaton.now start input.old (ended_at input.old result) ahead.new }
 {
     match start {
         Some(start) => automaton.search_ahead(input, start, ahead, steps),
@@ -130,7 +133,7 @@ impl<'a, 'h, A: Search> FindIterAhead<'a, 'h, A> {
             first,
             sums: Steps::new(),
             start,
-            ahead: Ahead::none(true),
+            ahead: Ahead::none(),
         }
     }
 
@@ -149,7 +152,7 @@ impl<'a, 'h, A: Search> FindIterAhead<'a, 'h, A> {
     /// The next match, as `next` returns it; counts what it does.
     pub fn next_counted(&mut self, steps: &mut Steps) -> Option<Match>
         ensures gives { GivesPick self.old result self.new }
-        ensures cost { CostsPick self.old self.new steps.old steps.new result }
+        ensures cost { CostsPickAhead self.old self.new steps.old steps.new }
         ensures kept { IsOnItsWay self.new }
     {
         if self.input.is_done() {

@@ -1,24 +1,21 @@
 //! The search for the next occurrence by what was read ahead.
 //!
 //! It is for a walk over many occurrences of a long text: see [`FindOverlappingIter`](crate::overlapping::FindOverlappingIter). Where
-//! it isn't anchored and uses no prefilter, an overlapping search reads on from one state that matches to the next. So it takes notes
-//! of what the automaton has read ahead: see [`ahead`](crate::ahead). It isn't begun anew after a match, so a note begins in the state
-//! that matched last. Where it uses a prefilter, it goes from one candidate to the next, as any other overlapping search.
-ghost use Rattle.std.specs.Prelude.{◌≡◌, ◌<◌, [], IsTrue};
+//! it isn't anchored, an overlapping search reads on from one state that matches to the next. So it takes notes of what the automaton
+//! has read ahead: see [`ahead`](crate::ahead). It isn't begun anew after a match, so a note begins in the state that matched last.
+ghost use Rattle.std.specs.Prelude.{◌≡◌, ◌<◌};
 ghost use Rattle.ac_input.specs.declared.search.Anchored.TheVariants.{No};
 ghost use Rattle.ac_input.specs.declared.search.MatchKind.TheVariants.{Standard};
 ghost use Rattle.ac_automaton.specs.Cursor.{ReadsFurther, StandsIn};
-ghost use Rattle.ac_automaton.specs.FindAhead.{AreNotesOf};
-ghost use Rattle.ac_automaton.specs.Overlapping.OverlappingSearch.{CountsFrom, CountsOn, HasLeft, KeepsPaying, MayShow, PaysAt, ShowsAfter, ShowsNextAt, ShowsRest};
+ghost use Rattle.ac_automaton.specs.Ahead.{IsPaid};
+ghost use Rattle.ac_automaton.specs.Overlapping.OverlappingSearch.{HasLeft, IsAheadAt, IsAheadFrom, MayShow, PaysAhead, PaysAheadAt, ShowsAfter, ShowsNextAt, ShowsRest};
 
 use crate::ahead::{Ahead, advance_to_match};
 use crate::automaton::Automaton;
 use crate::cursor::Cursor;
-use crate::find::usable_prefilter;
-use crate::overlapping::search::{advance, over, show, show_at};
+use crate::overlapping::search::{over, show, show_at};
 use crate::overlapping::{Position, Shown};
-use ac_input::primitives::StateID;
-use ac_input::search::{Anchored, Input};
+use ac_input::search::Input;
 use ac_input::steps::Steps;
 
 /// Reads on to the next state that matches, or to the end of the span.
@@ -32,14 +29,14 @@ fn read_on<A: Automaton>(
     requires stands { MayShow A.Automaton automaton.now input.now cursor }
     requires free { input.now.anchored ≡ No }
     requires open { cursor.at < input.now.span.end }
-    requires known { AreNotesOf A.Automaton automaton.now input.now ahead.old.notes }
+    requires ahead { IsAheadFrom A.Automaton automaton.now input.now cursor ahead.old }
     ensures stands { StandsIn (A.built automaton.now) (A.Reaches automaton.now) input.now result }
     ensures from { result.from ≡ cursor.from }
-    ensures on { ReadsFurther (A.built automaton.now) input.now cursor result steps.old steps.new }
-    ensures known { AreNotesOf A.Automaton automaton.now input.now ahead.new.notes }
+    ensures on { IsPaid ahead.old ahead.new steps.new (λ paid. ReadsFurther (A.built automaton.now) input.now cursor result steps.old paid) }
+    ensures ahead { IsAheadFrom A.Automaton automaton.now input.now result ahead.new }
 {
     let bytes = &input.haystack()[..input.end()];
-    let stop = advance_to_match(automaton, cursor.sid, bytes, cursor.at, ahead, steps);
+    let stop = advance_to_match(automaton, &None, cursor.sid, bytes, cursor.at, ahead, steps);
     Cursor {
         sid: stop.sid,
         from: cursor.from,
@@ -57,12 +54,11 @@ fn show_later<A: Automaton>(
 ) -> Shown
     requires stands { MayShow A.Automaton automaton.now input.now cursor }
     requires free { input.now.anchored ≡ No }
-    requires known { AreNotesOf A.Automaton automaton.now input.now ahead.old.notes }
+    requires ahead { IsAheadFrom A.Automaton automaton.now input.now cursor ahead.old }
     ensures shows { ShowsAfter A.Automaton automaton.now input.now cursor result }
-    ensures pays { PaysAt (A.built automaton.now) input.now cursor 0 result steps.old steps.new }
-    ensures counts { CountsFrom (A.built automaton.now) input.now cursor.at result
-        steps.old steps.new }
-    ensures known { AreNotesOf A.Automaton automaton.now input.now ahead.new.notes }
+    ensures paid { PaysAheadAt (A.built automaton.now) input.now cursor 0 result
+        ahead.old ahead.new steps.old steps.new }
+    ensures ahead { IsAheadAt A.Automaton automaton.now input.now result.place ahead.new }
 {
     let mut cursor = cursor;
     loop {
@@ -87,13 +83,11 @@ fn show_next<A: Automaton>(
 ) -> Shown
     requires stands { MayShow A.Automaton automaton.now input.now cursor.now }
     requires free { input.now.anchored ≡ No }
-    requires known { AreNotesOf A.Automaton automaton.now input.now ahead.old.notes }
+    requires ahead { IsAheadFrom A.Automaton automaton.now input.now cursor.now ahead.old }
     ensures shows { ShowsRest A.Automaton automaton.now input.now cursor.now from result }
-    ensures pays { PaysAt (A.built automaton.now) input.now cursor.now from result
-        steps.old steps.new }
-    ensures counts { CountsFrom (A.built automaton.now) input.now cursor.now.at result
-        steps.old steps.new }
-    ensures known { AreNotesOf A.Automaton automaton.now input.now ahead.new.notes }
+    ensures paid { PaysAheadAt (A.built automaton.now) input.now cursor.now from result
+        ahead.old ahead.new steps.old steps.new }
+    ensures ahead { IsAheadAt A.Automaton automaton.now input.now result.place ahead.new }
 {
     if let Some(shown) = show(automaton, input, *cursor, from) {
         return shown;
@@ -101,36 +95,23 @@ fn show_next<A: Automaton>(
     show_later(automaton, input, *cursor, ahead, steps)
 }
 
-/// Whether a search that began in a start may read ahead: it isn't anchored, and has no prefilter to run.
-fn reads_ahead<A: Automaton>(automaton: &A, input: &Input<'_>, start: StateID) -> bool
-    requires { A.Reaches automaton.now input.now.anchored [] start }
-    ensures { IsTrue result → input.now.anchored ≡ No }
-{
-    let anchored = input.get_anchored();
-    match anchored {
-        Anchored::No => usable_prefilter(automaton, anchored, start).is_none(),
-        Anchored::Yes => false,
-    }
-}
-
-/// Shows the next occurrence of a search that stands at a place, as [`advance`] does; `start` is where it began. It keeps notes of
-/// what it read ahead.
+/// Shows the next occurrence of a search that isn't anchored and stands at a place, as
+/// [`advance`](crate::overlapping::advance) does. It runs no prefilter, and keeps notes of what it read ahead.
 pub(crate) fn advance_ahead<A: Automaton>(
     automaton: &A,
     input: &Input<'_>,
-    start: StateID,
     place: Position,
     ahead: &mut Ahead,
     steps: &mut Steps,
 ) -> Shown
     requires standard { (A.built automaton.now).dictionary.kind ≡ Standard }
-    requires starts { A.Reaches automaton.now input.now.anchored [] start }
+    requires free { input.now.anchored ≡ No }
     requires left { HasLeft A.Automaton automaton.now input.now place }
-    requires known { AreNotesOf A.Automaton automaton.now input.now ahead.old.notes }
+    requires ahead { IsAheadAt A.Automaton automaton.now input.now place ahead.old }
     ensures shows { ShowsNextAt A.Automaton automaton.now input.now place result }
-    ensures pays { KeepsPaying (A.built automaton.now) input.now place result steps.old steps.new }
-    ensures counts { CountsOn (A.built automaton.now) input.now place result steps.old steps.new }
-    ensures known { AreNotesOf A.Automaton automaton.now input.now ahead.new.notes }
+    ensures paid { PaysAhead (A.built automaton.now) input.now place result
+        ahead.old ahead.new steps.old steps.new }
+    ensures ahead { IsAheadAt A.Automaton automaton.now input.now result.place ahead.new }
 {
     match place {
         Position::At {
@@ -138,10 +119,10 @@ pub(crate) fn advance_ahead<A: Automaton>(
             from,
             at,
             index,
-        } if reads_ahead(automaton, input, start) => {
+        } => {
             let cursor = Cursor { sid, from, at };
             show_next(automaton, input, &cursor, index, ahead, steps)
         }
-        _ => advance(automaton, input, start, place, steps),
+        Position::Over => over(),
     }
 }

@@ -4,19 +4,23 @@
 //! states of one walk over the span, however many matches it returns.
 //!
 //! Where it uses no prefilter, and 1 KiB or more is left to be searched, it has the automaton read ahead over several parts of the
-//! text side by side, and takes the matches from its notes: see [`ahead`](crate::ahead). It counts what a note says when it takes it.
-//! So a call may read up to 8 KiB past the match that it returns. The notes are some 3 KiB within the iterator itself. For the first
-//! few matches of a long text alone,
+//! text side by side, and takes the matches from its notes: see [`ahead`](crate::ahead). A look is counted when it is made. So a call
+//! may look at up to 8 KiB past the match that it returns, and counts that at once; the calls that come to these bytes count nothing
+//! for them. The notes are some 3 KiB within the iterator itself. For the first few matches of a long text alone,
 //! [`try_find_overlapping`](crate::automaton::Automaton::try_find_overlapping) does less: it never reads ahead.
-ghost use Rattle.std.specs.Prelude.{IfOk};
+ghost use Rattle.std.specs.Prelude.{◌≡◌, IfOk, []};
 ghost use Rattle.std.specs.Iterator.{YieldsFirst, item_count};
+ghost use Rattle.ac_input.specs.declared.search.Anchored.TheVariants.{No};
+ghost use Rattle.ac_input.specs.declared.search.MatchKind.TheVariants.{Standard};
 ghost use Rattle.ac_automaton.specs.Items.{AreFewForEach, EachLiesWithin};
-ghost use Rattle.ac_automaton.specs.Overlapping.OverlappingIter.{AnswersListing, CountsRun, RunCounts, IsWithinOneWalk, rest_of, IsRunAfter};
+ghost use Rattle.ac_automaton.specs.Overlapping.OverlappingIter.{AnswersListing, CostsShown, CountsRun, IsRunAfter, rest_of};
+ghost use Rattle.ac_automaton.specs.Overlapping.OverlappingSearch.{HasLeft, IsAheadIf, PaysAhead, ShowsNextAt};
 
 use crate::ahead::Ahead;
 use crate::error::MatchError;
+use crate::find::usable_prefilter;
 use crate::overlapping::search::begin;
-use crate::overlapping::{Position, with_found};
+use crate::overlapping::{Position, Shown, with_found};
 use crate::search::Search;
 use ac_input::history::Count;
 use ac_input::primitives::StateID;
@@ -38,16 +42,20 @@ pub struct FindOverlappingIter<'a, 'h, A: Search> {
     place: Position,
     shown: Count,
     sums: Steps,
+    /// Whether it reads ahead: it has no prefilter to run.
+    reads_ahead: bool,
     ahead: Ahead,
 }
 
 impl<'a, 'h, A: Search> Model for FindOverlappingIter<'a, 'h, A> {
-    ghost use Rattle.std.specs.Prelude.{◌≡◌, []};
+    ghost use Rattle.std.specs.Prelude.{◌≡◌, ◌≤◌, []};
+    ghost use Rattle.ac_input.specs.declared.search.Anchored.TheVariants.{No};
     ghost use Rattle.ac_input.specs.declared.search.MatchKind.TheVariants.{Standard};
+    ghost use Rattle.ac_automaton.specs.Ahead.{bytes_ahead, less_ahead};
     ghost use Rattle.ac_automaton.specs.Automaton.{searched};
-    ghost use Rattle.ac_automaton.specs.FindAhead.{AreNotesOf};
     ghost use Rattle.ac_automaton.specs.Overlapping.{StandsAt, IsCountedTo, stands_at_least};
     ghost use Rattle.ac_automaton.specs.Overlapping.OverlappingIter.{Run};
+    ghost use Rattle.ac_automaton.specs.Overlapping.OverlappingSearch.{IsAheadIf};
 
     ghost Value = { Run };
 
@@ -55,12 +63,15 @@ impl<'a, 'h, A: Search> Model for FindOverlappingIter<'a, 'h, A> {
 
     ghost invariant = { λ i.
         ((A.built i.automaton.now).dictionary.kind ≡ Standard)
+        × (i.input.anchored ≡ No)
         × A.Reaches i.automaton.now i.input.anchored [] i.start
         × StandsAt (A.Reaches i.automaton.now i.input.anchored) (A.matches i.automaton.now)
         (A.built i.automaton.now).dictionary (A.built i.automaton.now).deterministic
-        (searched (A.built i.automaton.now) i.input) i.place i.shown.value i.sums
-        × IsCountedTo (A.built i.automaton.now) i.input (stands_at_least (searched (A.built i.automaton.now) i.input) i.place) i.sums
-        × AreNotesOf A.Automaton i.automaton.now i.input i.ahead.notes };
+        (searched (A.built i.automaton.now) i.input) i.place i.shown.value (less_ahead i.sums i.ahead)
+        × IsCountedTo (A.built i.automaton.now) i.input (stands_at_least (searched (A.built i.automaton.now) i.input) i.place)
+        (less_ahead i.sums i.ahead)
+        × IsAheadIf i.reads_ahead A.Automaton i.automaton.now i.input i.place i.ahead
+        × (bytes_ahead i.ahead ≤ i.sums.looked.value) };
 }
 
 /// All occurrences in the input, one after another.
@@ -85,23 +96,52 @@ pub fn find_overlapping_iter<'a, 'h, A: Search>(
             place: beginning.place,
             shown: Count::zero(),
             sums: Steps::new(),
-            ahead: Ahead::none(false),
+            reads_ahead: usable_prefilter(automaton, Anchored::No, beginning.start).is_none(),
+            ahead: Ahead::none(),
         }),
     }
+}
+
+/// Shows the next match: by what was read ahead, or by a walk that reads none ahead and runs the prefilter.
+fn show_next<A: Search>(
+    automaton: &A,
+    input: &Input<'_>,
+    start: StateID,
+    place: Position,
+    reads_ahead: bool,
+    ahead: &mut Ahead,
+    steps: &mut Steps,
+) -> Shown
+    requires standard { (A.built automaton.now).dictionary.kind ≡ Standard }
+    requires free { input.now.anchored ≡ No }
+    requires starts { A.Reaches automaton.now input.now.anchored [] start }
+    requires left { HasLeft A.Automaton automaton.now input.now place }
+    requires ahead { IsAheadIf reads_ahead A.Automaton automaton.now input.now place ahead.old }
+    ensures shows { ShowsNextAt A.Automaton automaton.now input.now place result }
+    ensures paid { PaysAhead (A.built automaton.now) input.now place result
+        ahead.old ahead.new steps.old steps.new }
+    ensures ahead { IsAheadIf reads_ahead A.Automaton automaton.now input.now result.place ahead.new }
+{
+    if reads_ahead {
+        return automaton.search_overlapping_ahead(input, place, ahead, steps);
+    }
+    automaton.search_overlapping(input, start, place, steps)
 }
 
 impl<'a, 'h, A: Search> FindOverlappingIter<'a, 'h, A> {
     /// The next match, as `next` returns it; counts what it does.
     pub fn next_counted(&mut self, steps: &mut Steps) -> Option<Match>
         ensures gives { YieldsFirst rest_of self.old result self.new × IsRunAfter self.old result self.new }
-        ensures cost { RunCounts self.old self.new steps.old steps.new × IsWithinOneWalk self.new }
+        ensures cost { CostsShown self.old self.new steps.old steps.new result }
         ensures counted { CountsRun self.new result }
     {
         let mut done = Steps::new();
-        let shown = self.automaton.search_overlapping_ahead(
+        let shown = show_next(
+            self.automaton,
             &self.input,
             self.start,
             self.place,
+            self.reads_ahead,
             &mut self.ahead,
             &mut done,
         );

@@ -4,6 +4,8 @@
 //! the next one is read. So an occurrence is returned as soon as its last byte was read, also one that began in an earlier piece, and
 //! no memory is taken on the way. The order is that of the overlapping search of a text in memory: by end, start and number.
 //!
+//! An automaton may read up to 8 KiB ahead of the search in the buffer. Its looks are counted when they are made.
+//!
 //! Only an automaton of the standard kind stores every occurrence. An empty pattern is an error, as for every search of a stream. No
 //! prefilter is used.
 //!

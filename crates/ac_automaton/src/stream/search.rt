@@ -13,13 +13,13 @@
 //!
 //! The hot path is [`Automaton::advance_to_match`] over the bytes of a read. Between two matches nothing else is done for a byte,
 //! even if the automaton has a prefilter, which a stream doesn't use. An automaton that can walk over several parts of these bytes
-//! side by side reads ahead of the search: see [`ahead`](crate::ahead).
+//! side by side reads ahead of the search: see [`ahead`](crate::ahead). No byte is read ahead twice, also if others are held by then.
 ghost use Rattle.std.specs.Prelude.{◌≡◌, ◌≢◌, ◌↔◌, ◌+◌, ◌-◌, ◌≤◌, ◌<◌, [], None, false, true, length, IfErr, IfOk, OnOk, IsTrue, drop};
 ghost use Rattle.ac_input.specs.declared.search.Anchored.TheVariants.{No};
-ghost use Rattle.ac_automaton.specs.Ahead.{AreNotes};
+ghost use Rattle.ac_automaton.specs.Ahead.{IsPaid, StaysReadOnce};
 ghost use Rattle.ac_automaton.specs.Stream.StreamPush.{Pushes};
 ghost use Rattle.ac_automaton.specs.Stream.StreamSearch.{searched_anew, some_of};
-ghost use Rattle.ac_automaton.specs.Stream.StreamWalk.{MayWalk, WalksOn};
+ghost use Rattle.ac_automaton.specs.Stream.StreamWalk.{IsAheadBy, MayWalk, WalksOn};
 ghost use Rattle.ac_input.specs.Work.{shortest};
 ghost use Rattle.ac_automaton.specs.Stream.{AnswersNew, CanBeCounted, IsOutOfMemory, closed_by, fresh_progress, may_wait, CanStream, CountsNothing, FindsHeld, GoesOn, IsConfigRefusal, IsOnCourse, IsRolled, IsSearched, ReadsMore, StreamCounts, StreamProgress, cut_of, read_by, room_of};
 ghost use Rattle.ac_automaton.specs.declared.stream.StreamKinds.TheVariants.{AnyKind};
@@ -103,17 +103,24 @@ impl<A: Search> Model for StreamSearch<A> {
 
     ghost Value = { StreamProgress };
 
-    ghost use Rattle.ac_automaton.specs.Ahead.{AreNotes};
+    ghost use Rattle.std.specs.Prelude.{◌-◌, ◌≤◌, Some};
+    ghost use Rattle.ac_automaton.specs.Ahead.{IsAhead, IsReadOnce, bytes_ahead, less_ahead};
+    ghost use Rattle.ac_automaton.specs.Stream.{IsOnCourse};
     ghost use Rattle.ac_automaton.specs.Stream.StreamSearch.{IsStreamSearch, progress_at};
 
     ghost view = { λ i. progress_at (A.built i.automaton) i.pieces.items i.given.value
         i.progress i.buffer i.sums };
 
-    ghost invariant = { λ i. IsStreamSearch (A.Reaches i.automaton No)
+    ghost invariant = { λ i.
+        IsOnCourse (progress_at (A.built i.automaton) i.pieces.items i.given.value i.progress i.buffer i.sums)
+        × IsStreamSearch (A.Reaches i.automaton No)
         (progress_at (A.built i.automaton) i.pieces.items i.given.value
-        i.progress i.buffer i.sums)
+        i.progress i.buffer (less_ahead i.sums i.ahead))
         i.start i.progress.sid i.progress.best i.given.value i.buffer i.over
-        × AreNotes A.Reaches A.matches i.automaton i.buffer.bytes i.ahead.notes };
+        × IsAhead (A.built i.automaton) (A.Reaches i.automaton No) (A.matches i.automaton) (Some i.start) i.buffer.bytes
+        (i.progress.at - i.progress.from) i.progress.sid i.ahead
+        × IsReadOnce i.progress.from i.buffer.bytes i.ahead
+        × (bytes_ahead i.ahead ≤ i.sums.looked.value) };
 }
 
 /// The start state of a search of a stream that accepts these kinds, where the automaton can make one.
@@ -173,10 +180,11 @@ pub(crate) fn search<A: Automaton>(
     steps: &mut Steps,
 ) -> Searched
     requires walk { MayWalk A.Automaton automaton.now start progress.now held.now }
-    requires known { AreNotes A.Reaches A.matches automaton.now held.now ahead.old.notes }
-    ensures walk { WalksOn A.Automaton automaton.now start progress.now held.now result
-        steps.old steps.new }
-    ensures known { AreNotes A.Reaches A.matches automaton.now held.now ahead.new.notes }
+    requires ahead { IsAheadBy A.Automaton automaton.now start held.now progress.now ahead.old }
+    ensures walk { IsPaid ahead.old ahead.new steps.new (λ paid. WalksOn A.Automaton automaton.now start progress.now held.now result
+        steps.old paid) }
+    ensures ahead { IsAheadBy A.Automaton automaton.now start held.now result.progress ahead.new }
+    ensures once { StaysReadOnce held.now ahead.old ahead.new }
 {
     match progress.best {
         Some(best) => decide(automaton, start, progress, best, held, steps),
@@ -195,13 +203,15 @@ fn search_first<A: Automaton>(
 ) -> Searched
     requires none { progress.now.best ≡ None }
     requires walk { MayWalk A.Automaton automaton.now start progress.now held.now }
-    requires known { AreNotes A.Reaches A.matches automaton.now held.now ahead.old.notes }
-    ensures walk { WalksOn A.Automaton automaton.now start progress.now held.now result
-        steps.old steps.new }
-    ensures known { AreNotes A.Reaches A.matches automaton.now held.now ahead.new.notes }
+    requires ahead { IsAheadBy A.Automaton automaton.now start held.now progress.now ahead.old }
+    ensures walk { IsPaid ahead.old ahead.new steps.new (λ paid. WalksOn A.Automaton automaton.now start progress.now held.now result
+        steps.old paid) }
+    ensures ahead { IsAheadBy A.Automaton automaton.now start held.now result.progress ahead.new }
+    ensures once { StaysReadOnce held.now ahead.old ahead.new }
 {
     let from = progress.at - progress.from;
-    let stop = advance_to_match(automaton, progress.sid, held, from, ahead, steps);
+    let anew = Some(start);
+    let stop = advance_to_match(automaton, &anew, progress.sid, held, from, ahead, steps);
     let at = progress.at + stop.taken;
     if automaton.is_match(stop.sid) {
         let found = first_match(automaton, stop.sid, at);
@@ -282,7 +292,7 @@ impl<A: Search + Drop> StreamSearch<A> {
                 closed: false,
             },
             over: false,
-            ahead: Ahead::none(true),
+            ahead: Ahead::none(),
             given: Count::zero(),
             pieces: Pieces::empty(),
             sums: Steps::new(),
@@ -350,8 +360,8 @@ impl<A: Search> StreamSearch<A> {
     /// returned: push more bytes, or finish. Under the standard kind a match is returned as soon as its last byte was pushed.
     ///
     /// The places of a match are counted from the first byte that was pushed. Its bytes are held until the next push. Each byte
-    /// costs at most two looks at states, and under a leftmost kind at most as many bytes as the longest pattern has, and one, are
-    /// read again after a match.
+    /// costs at most two looks at states. Under a leftmost kind each may be looked at once more, read ahead in vain, and at most as many
+    /// bytes as the longest pattern has, and one, are read again after a match.
     ///
     /// After more bytes were pushed than there are places it is always none.
     pub fn next(&mut self) -> Option<Match>
@@ -429,7 +439,7 @@ impl<A: Search> StreamSearch<A> {
             let cut = self.cut();
             self.buffer.roll(cut - self.progress.from, steps);
             self.progress.from = cut;
-            self.ahead.forget();
+            self.ahead.forget(self.buffer.held().len());
         }
     }
 
@@ -478,7 +488,7 @@ impl<A: Search> StreamSearch<A> {
         ensures steps { CountsNothing self.old self.new }
         ensures kept { IsOnCourse self.new }
     {
-        self.ahead.forget();
+        self.ahead.forget(self.buffer.held().len());
         let n = self.buffer.take(piece);
         self.pieces = self.pieces.and(&piece[..n]);
         self.over = self.buffer.held().len() > usize::MAX - self.progress.from;
@@ -520,7 +530,7 @@ impl<A: Search> StreamSearch<A> {
         ensures from { self.new.from ≡ self.old.from }
         ensures kept { IsOnCourse self.new }
     {
-        self.ahead.forget();
+        self.ahead.forget(self.buffer.held().len());
         let n = match self.buffer.fill(reader) {
             Ok(n) => n,
             Err(error) => {

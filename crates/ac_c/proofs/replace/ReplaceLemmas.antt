@@ -1,5 +1,5 @@
 -- A text that is counted, and written to a buffer, match by match.
-use Rattle.std.proofs.Common.{◌≡◌, ℕ, ◌+◌, ◌-◌, ◌≤◌, List, [], ◌∷◌, ◌++◌, length, take, drop, get_or, refl, sym, ap, ap₂, ◌∙◌, subst, append_assoc, arith, length-append, length-drop, inl, Result, Ok, Err}
+use Rattle.std.proofs.Common.{◌≡◌, ℕ, ◌+◌, ◌-◌, ◌≤◌, Bool, List, [], ◌∷◌, ◌++◌, length, take, drop, get_or, refl, sym, ap, ap₂, ◌∙◌, subst, append_assoc, arith, length-append, length-drop, inl, Result, Ok, Err}
 use Rattle.std.specs.Prelude.{slice_range}
 use Rattle.std.proofs.lemmas.List.{append-nil, drop-drop, drop_at, take_at}
 use Rattle.std.proofs.lemmas.List.Edits.{length-between}
@@ -14,7 +14,7 @@ use Rattle.ac_automaton.specs.Replace.{LieInOrder, matches_in}
 use Rattle.ac_automaton.proofs.lemmas.ReplaceLemmas.{matches-lie}
 use Rattle.aho_corasick.specs.AhoCorasick.{as_built, pattern_count}
 use Rattle.aho_corasick.specs.declared.ahocorasick.AhoCorasick.{AhoCorasick}
-use Rattle.ac_c.specs.Replace.{CostsLen, IsLenBy, IsLenOf, IsReplaced, begun_with, text_of, walk_over}
+use Rattle.ac_c.specs.Replace.{CostsLen, IsLenBy, IsLenOf, IsReplaced, begun_with, is_long, text_of, walk_over}
 use Rattle.ac_c.specs.Walking.{IsAccounted, WalksOn}
 use Rattle.ac_c.proofs.walking.WalkingLemmas.{begun-accounted, walks-none}
 
@@ -117,16 +117,16 @@ written-turn text old out mid new at len between len' x rs os rest o before repl
     subst (λ (n : ℕ). IsWritten text old new n (replaced_from o.end x rs rest)) (sym then_end) (written-more text old mid new replacement _ _ between one refl then_put)
 
 -- a walk over all matches of a haystack, before its first step, is accounted for
-pub over-accounted : (ac : AhoCorasick) (x : List ℕ) → IsAccounted (walk_over ac x)
-over-accounted ac x = begun-accounted (as_built ac) (whole_of x) (omega arith) (omega arith)
+pub over-accounted : (ahead : Bool) (ac : AhoCorasick) (x : List ℕ) → IsAccounted ahead (walk_over ac x)
+over-accounted ahead ac x = begun-accounted ahead (as_built ac) (whole_of x) (omega arith) (omega arith)
 
 -- where nothing is searched, no step is taken
-pub refused-cost : (ac : AhoCorasick) (x : List ℕ) (steps : Steps) → WalksOn (walk_over ac x) steps steps
-refused-cost ac x steps = (walk_over ac x, walks-none (walk_over ac x) steps (over-accounted ac x))
+pub refused-cost : (ahead : Bool) (ac : AhoCorasick) (x : List ℕ) (steps : Steps) → WalksOn ahead (walk_over ac x) steps steps
+refused-cost ahead ac x steps = (walk_over ac x, walks-none ahead (walk_over ac x) steps (over-accounted ahead ac x))
 
 -- what the walk over a haystack costs, to know the length
-pub len-cost : (ac : AhoCorasick) (x : List ℕ) (w : Walk) (before after : Steps) (r : Result ℕ ℕ) → w ≡ walk_over ac x → CostsLen w before after r → CostsLen (walk_over ac x) before after r
-len-cost ac x w before after r is cost = subst (λ (z : Walk). CostsLen z before after r) is cost
+pub len-cost : (ahead : Bool) (ac : AhoCorasick) (x : List ℕ) (w : Walk) (before after : Steps) (r : Result ℕ ℕ) → w ≡ walk_over ac x → CostsLen ahead w before after r → is_long x ≡ ahead → CostsLen (is_long x) (walk_over ac x) before after r
+len-cost ahead ac x w before after r is cost long = rw long (subst (λ (z : Walk). CostsLen ahead z before after r) is cost)
 
 -- the length of the text of all matches, or why it has none, answers for the haystack
 pub len-answers : (ac : AhoCorasick) (x : List ℕ) (rs : List (Bor (List ℕ))) (os : List Occurrence) (r : Result ℕ ℕ) → IsReplaced ac rs → os ≡ matches_in (as_built ac) x → IsLenOf (text_of x rs os) r → IsLenBy ac x rs r

@@ -1,5 +1,5 @@
 -- A walk that goes on from a cursor: which matches are left, and where it stands.
-use Rattle.std.proofs.Common.{◌≡◌, ℕ, zero, suc, ◌+◌, ◌-◌, ◌*◌, ◌^◌, ◌<◌, ◌≤◌, List, ◌∷◌, length, drop, Option, Some, None, IfSome, Ok, refl, sym, ap, subst, ◌∙◌, arith}
+use Rattle.std.proofs.Common.{◌≡◌, ℕ, zero, suc, ◌+◌, ◌-◌, ◌*◌, ◌^◌, ◌<◌, ◌≤◌, Bool, List, ◌∷◌, length, drop, Option, Some, None, IfSome, Ok, refl, sym, ap, subst, ◌∙◌, arith}
 use Rattle.ac_input.specs.declared.search.MatchKind.{MatchKind}
 use Rattle.ac_input.specs.Computed.{pick_of, walk_from, walk_after}
 use Rattle.ac_input.specs.Input.{Asked}
@@ -14,7 +14,7 @@ use Rattle.aho_corasick.specs.declared.ahocorasick.AhoCorasick.{AhoCorasick}
 use Rattle.ac_c.specs.declared.found.Found.{Found}
 use Rattle.ac_c.specs.declared.walk.Cursor.{Cursor}
 use Rattle.ac_c.specs.Find.{asked_by}
-use Rattle.ac_c.specs.Walk.{AreGiven, CostsSome, Goes, IsCursorAfter, IsCursorIn, IsFirstLeft, TakesSome, bounds_of, last_of, left_of_walk, no_place, walk_of_cursor}
+use Rattle.ac_c.specs.Walk.{AreGiven, CostsSome, Goes, IsCursorAfter, IsCursorIn, IsFirstLeft, TakesSome, are_many, bounds_of, last_of, left_of_walk, no_place, walk_of_cursor}
 use Rattle.ac_c.specs.Walking.{WalksTo}
 use Rattle.ac_c.proofs.walking.WalkingLemmas.{after-same}
 
@@ -78,10 +78,10 @@ step-cost ac haystack c w v r before after e cost = (
 )
 
 -- several steps from a cursor fill the buffer, and move the cursor after the last match
-pub cursor-some : (ac : AhoCorasick) (haystack : List ℕ) (c : Cursor) (w : Walk) (old new : List Found) (before after : Steps) (taken : ℕ × Cursor) → length haystack < 2 ^ 63 → IsCursorIn haystack c
-    → w ≡ walk_of_cursor ac haystack c → TakesSome w c old new before after taken
+pub cursor-some : (ahead : Bool) (ac : AhoCorasick) (haystack : List ℕ) (c : Cursor) (w : Walk) (old new : List Found) (before after : Steps) (taken : ℕ × Cursor) → length haystack < 2 ^ 63 → IsCursorIn haystack c
+    → w ≡ walk_of_cursor ac haystack c → TakesSome ahead w c old new before after taken
     → AreGiven (left_of_walk ac haystack c) old new taken.0 × IsCursorAfter ac haystack c taken.1 (drop taken.0 (left_of_walk ac haystack c))
-cursor-some ac haystack c w old new before after taken fits valid e h =
+cursor-some ahead ac haystack c w old new before after taken fits valid e h =
     let all : left_of w ≡ left_of_walk ac haystack c = ap left_of e in (
       subst (λ (os : List Occurrence). AreGiven os old new taken.0) all h.given,
       subst (IsCursorAfter ac haystack c taken.1) (h.rest ∙ ap (drop taken.0) all)
@@ -89,7 +89,7 @@ cursor-some ac haystack c w old new before after taken fits valid e h =
     )
 
 -- and cost what the walk does from one cursor to the other
-pub some-cost : (ac : AhoCorasick) (haystack : List ℕ) (c : Cursor) (w : Walk) (old new : List Found) (before after : Steps) (taken : ℕ × Cursor)
-    → w ≡ walk_of_cursor ac haystack c → TakesSome w c old new before after taken → CostsSome ac haystack c before after (Ok taken)
-some-cost ac haystack c w old new before after taken e h =
-    (h.moved, subst (λ (z : Walk). WalksTo z h.moved before after) e h.cost, sym (ap (λ (z : Cursor). z.start) h.goes.0))
+pub some-cost : (ahead : Bool) (ac : AhoCorasick) (haystack : List ℕ) (c : Cursor) (w : Walk) (old new : List Found) (before after : Steps) (taken : ℕ × Cursor)
+    → w ≡ walk_of_cursor ac haystack c → TakesSome ahead w c old new before after taken → are_many (length old) ≡ ahead → CostsSome ac haystack c (length old) before after (Ok taken)
+some-cost ahead ac haystack c w old new before after taken e h many =
+    (h.moved, rw many (subst (λ (z : Walk). WalksTo ahead z h.moved before after) e h.cost), sym (ap (λ (z : Cursor). z.start) h.goes.0))

@@ -1,5 +1,5 @@
 -- What a search by a DFA may pass in the start: places at which no pattern opens.
-use Rattle.std.proofs.Common.{◌≡◌, ⊎_elim, inl, ℕ, suc, ◌+◌, ◌<◌, ◌≤◌, true, false, IsTrue, List, [], ◌∷◌, ◌++◌, Option, None, Some, refl, subst, ◌∙◌, arith}
+use Rattle.std.proofs.Common.{◌≡◌, ◌≢◌, ⊎_elim, inl, ℕ, suc, ◌+◌, ◌<◌, ◌≤◌, true, false, IsTrue, List, [], ◌∷◌, ◌++◌, Option, None, Some, refl, sym, subst, ◌∙◌, arith}
 use Rattle.std.specs.Coded.{le_prop}
 use Rattle.std.specs.Prelude.{slice_index, length}
 use Rattle.std.proofs.Math.Logic.{∥∥₁_elim, ∥∥₁_map, ∥∥₁_prop}
@@ -7,26 +7,33 @@ use Rattle.std.proofs.lemmas.Bool.{cases_eq}
 use Rattle.std.proofs.lemmas.List.{append_assoc}
 use Rattle.ac_input.specs.Alphabet.{class}
 use Rattle.ac_input.specs.declared.search.Anchored.TheVariants.{No, Yes}
+use Rattle.ac_input.specs.declared.search.MatchKind.TheVariants.{Standard}
 use Rattle.ac_input.specs.declared.search.StartKind.{StartKind}
 use Rattle.ac_input.specs.declared.search.StartKind.TheVariants.{Both, Unanchored, Anchored}
 use Rattle.ac_input.specs.Candidate.{Filter}
 use Rattle.ac_input.specs.Dfa.{Serves}
 use Rattle.ac_input.specs.Dictionary.{IsLive, IsPattern}
-use Rattle.ac_automaton.specs.Ahead.{MayNote}
-use Rattle.ac_automaton.specs.Automaton.{IsReached, Leads}
+use Rattle.ac_input.specs.declared.steps.Steps.{Steps}
+use Rattle.ac_input.proofs.lemmas.LiveLemmas.{dead-best}
+use Rattle.ac_automaton.specs.Ahead.{Frees, IsLaneCut, MayNote, ReadsAhead, ReadsAheadBy}
+use Rattle.ac_automaton.specs.Automaton.{IsReached, Leads, is_matching}
 use Rattle.ac_automaton.specs.Held.{last_special_of}
+use Rattle.ac_automaton.specs.ReadOn.{is_between}
 use Rattle.ac_automaton.specs.Passing.{MayPass, MayReadBy}
 use Rattle.ac_automaton.proofs.lemmas.CursorLemmas.{leads-none}
+use Rattle.ac_automaton.proofs.automaton.PassLemmas.{matching-some}
+use Rattle.ac_automaton.proofs.lanes.ReadLemmas.{reads-weaker}
 use Rattle.ac_automaton.proofs.automaton.NamedPassingLemmas.{may-pass}
 use Rattle.ac_automaton.proofs.skip.PassingLemmas.{StopsBefore, may-read}
 use Rattle.ac_automaton.proofs.skip.ReadOnLemmas.{between}
+use Rattle.ac_automaton.specs.declared.ahead.Note.{Note}
 use Rattle.ac_automaton.specs.declared.look.Between.{Between}
 use Rattle.ac_automaton.specs.declared.look.LookUp.{Ghosts}
 use Rattle.ac_tables.specs.declared.dfa.DFA.{DFA}
 use Rattle.ac_tables.specs.declared.dfa.table.Table.{Table}
 use Rattle.ac_tables.specs.Dfa.DfaReads.{dfa_dictionary, dfa_built_as, dfa_matches_at, is_dfa_start_at, is_dfa_special_at, IsNamingFor, IsDfaRead}
-use Rattle.ac_automaton.specs.ReadOn.{is_between}
 use Rattle.ac_tables.proofs.dfa.DfaIdleLemmas.{past-none, stays-in-start}
+use Rattle.ac_tables.proofs.dfa.DfaFreeLemmas.{dfa-frees}
 use Rattle.ac_tables.proofs.dfa.DfaReadLemmas.{all-names, dead-said, row-leads, start-read, starts-placed, state-matches}
 use Rattle.ac_tables.proofs.contiguous.TestLemmas.{start-has}
 
@@ -98,9 +105,32 @@ look_ups = record { built = dfa_built_as; Reaches = IsDfaRead; matches = dfa_mat
 pub may-read-by : (dfa : DFA) (two : Between) → StopsBefore dfa.table.start two.last dfa.table.max_match → MayReadBy look_ups dfa dfa.skips two
 may-read-by dfa two = may-read look_ups dfa dfa.skips two dfa.table.start dfa.table.max_match dfa.begins dfa.opened (stays-in-start dfa) (dfa-may-pass dfa) (dfa-quiet dfa two)
 
+-- a number that an unanchored search of the standard kind reaches matches, if it is at most the last that matches
+dfa-some : (dfa : DFA) (sid : ℕ) → (dfa_dictionary dfa).kind ≡ Standard → IsReached (IsDfaRead dfa No) sid → sid ≤ dfa.table.max_match → IsTrue (is_matching (dfa_matches_at dfa) sid)
+dfa-some dfa sid standard reached le =
+    let some : sid ≢ 0 = λ zero. ∥∥₁_elim reached (λ x y. absurd x) (λ w. (dead-best (dfa_dictionary dfa) w.0 ((dead-said dfa sid true (λ _. zero, λ _. refl) No w.0 w.1).0 refl)).0 standard) in
+    matching-some (dfa_matches_at dfa sid) (state-matches dfa sid (∥∥₁_map reached (λ w. (No, w.0, w.1))) some le)
+
 -- several walks may go side by side
-pub may-note : (dfa : DFA) (sid : ℕ) → IsReached (IsDfaRead dfa No) sid → MayNote look_ups dfa dfa.table.start dfa.table.max_match
+pub may-note : (dfa : DFA) (sid : ℕ) → IsReached (IsDfaRead dfa No) sid → MayNote look_ups dfa dfa.table.start dfa.table.max_match dfa.unused
 may-note dfa sid h = record {
+  one = refl;
   starts = start-read dfa No dfa.table.start (reached-serves dfa sid h) refl;
   quiet = past-none dfa.table;
+  some = λ standard other reached le. dfa-some dfa other standard reached le;
+  frees = λ standard byte small is text other reads. dfa-frees dfa byte standard small is text other reads;
 }
+
+-- what was read ahead, cut after unused bytes, a search takes
+pub dfa-ahead : (dfa : DFA) (anew : Option ℕ) (sid : ℕ) (bytes : List ℕ) (at len read : ℕ) (notes : List Note) (s t : Steps)
+    → ReadsAheadBy (IsLaneCut dfa.unused dfa.table.start (dfa_matches_at dfa)) (dfa_built_as dfa) (IsDfaRead dfa No) (dfa_matches_at dfa) anew sid bytes at len read notes s t
+    → ReadsAhead (dfa_built_as dfa) (IsDfaRead dfa No) (dfa_matches_at dfa) anew sid bytes at len read notes s t
+dfa-ahead dfa anew sid bytes at len read notes s t h =
+    let R = IsDfaRead dfa No in
+    let M = dfa_matches_at dfa in
+    reads-weaker (IsLaneCut dfa.unused dfa.table.start M) (Frees R M) (dfa_built_as dfa) R M anew sid bytes at len read notes s t
+    (λ standard byte state cut. record {
+      only = λ text other reads. dfa-frees dfa byte standard cut.small cut.is text other reads ∙ sym cut.state;
+      quiet = cut.quiet;
+    })
+    h

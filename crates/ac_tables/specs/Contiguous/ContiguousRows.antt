@@ -1,5 +1,5 @@
 -- What the rows of a contiguous automaton hold: where each byte leads in an unanchored search, all failures followed.
-use Rattle.std.specs.Prelude.{◌≡◌, ℕ, ◌+◌, ◌*◌, ◌/◌, ◌^◌, ◌<◌, false, IsTrue, List, length, slice_index, Option, None, Some}
+use Rattle.std.specs.Prelude.{◌≡◌, ℕ, ◌+◌, ◌*◌, ◌/◌, ◌^◌, ◌<◌, ◌≤◌, false, IsTrue, List, length, slice_index, Option, None, Some}
 use Rattle.ac_input.specs.Alphabet.{class}
 use Rattle.ac_input.specs.Dictionary.{Dictionary}
 use Rattle.ac_automaton.specs.Named.{Naming, IsStep}
@@ -49,16 +49,25 @@ IsRowIn rows row = IsRow rows.places.items (row_len rows) row
 abbrev pub place_in_row : Rows → ℕ → ℕ
 place_in_row rows row = place_at rows.places.items (row_len rows) row
 
--- every row past `last` is that of a state whose place is past `sid`
-abbrev pub IsLastUpTo : Rows → ℕ → ℕ → Type 0
-IsLastUpTo rows sid last = (row : ℕ) → last < row → row / row_len rows < length rows.places.items → sid < place_in_row rows row
+-- Every row past `last` is that of a state whose place is past `sid`, and every other one that of a state up to there.
+pub record IsLastUpTo (rows : Rows) (sid last : ℕ) : Type 0 where
+  pub past : (row : ℕ) → last < row → row / row_len rows < length rows.places.items → sid < place_in_row rows row
+  pub upto : (row : ℕ) → IsRowIn rows row → row ≤ last → place_in_row rows row ≤ sid
 
--- `note` is in terms of rows, and `placed` is that note in terms of their places
-pub record IsNotePlaced (rows : Rows) (note placed : Note) : Type 0 where
-  pub row : IsRowIn rows note.sid
-  pub bytes : (placed.from ≡ note.from) × (placed.len ≡ note.len)
-  pub sid : placed.sid ≡ place_in_row rows note.sid
-  pub next : placed.next ≡ place_in_row rows note.next
+-- a note begins and ends at rows
+abbrev pub IsNoteOfRows : Rows → Note → Type 0
+IsNoteOfRows rows note = IsRowIn rows note.sid × IsRowIn rows note.next
+
+-- a note of rows as one of their places
+abbrev pub note_placed : Rows → Note → Note
+note_placed rows note = record note { sid = place_in_row rows note.sid; next = place_in_row rows note.next }
+
+-- the row of a state, if there is a state
+abbrev pub AreRowsAt : Rows → Option ℕ → Option ℕ → Type 0
+AreRowsAt rows None None = Unit {0}
+AreRowsAt rows None (Some row) = ⊥
+AreRowsAt rows (Some place) None = ⊥
+AreRowsAt rows (Some place) (Some row) = IsRowIn rows row × (place_in_row rows row ≡ place)
 
 -- the rows, if there are any, are those of a dictionary
 abbrev pub AreRowsIfAny : Dictionary → List ℕ → Naming → Option Rows → Type 0

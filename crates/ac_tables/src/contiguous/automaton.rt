@@ -18,7 +18,7 @@ ghost use Rattle.ac_tables.specs.Contiguous.Words.{StateParts};
 
 use crate::contiguous::NFA;
 use crate::contiguous::layout::NOWHERE;
-use ac_automaton::ahead::Note;
+use ac_automaton::ahead::{Note, Noted};
 use ac_automaton::automaton::{Advance, Automaton};
 use ac_automaton::error::MatchError;
 use ac_automaton::look::{Between, LookUp};
@@ -216,15 +216,16 @@ impl Automaton for NFA {
         bytes: &[u8],
         at: usize,
         len: usize,
-        anew: bool,
+        anew: Option<StateID>,
         notes: &mut [Note],
-    ) -> usize {
+        steps: &mut Steps,
+    ) -> Noted {
         if self.skips.pass_many(self.lens.len()) {
-            return 0;
+            return Noted::none();
         }
         match &self.rows {
-            Some(rows) => self.note_by_rows(rows, sid, bytes, at, len, anew, notes),
-            None => 0,
+            Some(rows) => self.note_by_rows(rows, sid, bytes, at, len, anew, notes, steps),
+            None => Noted::none(),
         }
     }
 

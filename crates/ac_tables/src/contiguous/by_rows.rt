@@ -5,9 +5,9 @@ ghost use Rattle.ac_tables.specs.Dfa.DfaLookups.{ArePlain};
 use crate::contiguous::NFA;
 use crate::contiguous::rows::Rows;
 use crate::rows::{is_plain, next};
-use ac_automaton::ahead::{NOTES, Note};
+use ac_automaton::ahead::{Note, Noted};
 use ac_automaton::automaton::Advance;
-use ac_automaton::lanes::{note_ahead, put};
+use ac_automaton::lanes::note_ahead;
 use ac_automaton::look::{Between, LookUp};
 use ac_input::primitives::StateID;
 use ac_input::search::Anchored;
@@ -55,7 +55,8 @@ impl<'a> LookUp for ByRows<'a> {
 }
 
 impl NFA {
-    ghost use Rattle.ac_automaton.specs.Ahead.{AreNotes};
+    ghost use Rattle.std.specs.Prelude.{◌+◌, [], take, IfSome};
+    ghost use Rattle.ac_automaton.specs.Ahead.{ReadsAhead};
     ghost use Rattle.ac_automaton.specs.Automaton.{IsReached};
     ghost use Rattle.ac_automaton.specs.ReadOn.{ReadsTo};
     ghost use Rattle.ac_input.specs.declared.search.Anchored.TheVariants.{No};
@@ -114,7 +115,8 @@ impl NFA {
         }
     }
 
-    /// Reads ahead of a search by the rows of the automaton, if its state has one and it is known which rows match.
+    /// Reads ahead of a search by the rows of the automaton, if its state and that in which it begins anew have one, and it is known
+    /// which rows match.
     pub(super) fn note_by_rows(
         &self,
         rows: &Rows,
@@ -122,38 +124,40 @@ impl NFA {
         bytes: &[u8],
         at: usize,
         len: usize,
-        anew: bool,
+        anew: Option<StateID>,
         notes: &mut [Note],
-    ) -> usize
+        steps: &mut Steps,
+    ) -> Noted
         requires held { self.now.rows ≡ Some rows.now }
         requires reached { IsReached (IsContiguousRead self.now No) sid }
-        requires within { at ≤ length bytes.now }
-        requires known { AreNotes IsContiguousRead contiguous_matches_at self.now
-            bytes.now notes.old }
-        ensures { AreNotes IsContiguousRead contiguous_matches_at self.now bytes.now notes.new }
+        requires begins { IfSome anew (IsContiguousRead self.now No []) }
+        requires within { at + len ≤ length bytes.now }
+        ensures few { result.notes ≤ length notes.new }
+        ensures reads { ReadsAhead (contiguous_built_as self.now) (IsContiguousRead self.now No) (contiguous_matches_at self.now)
+            anew sid bytes.now at len result.read (take result.notes notes.new) steps.old steps.new }
     {
         let Some(row) = rows.row_of(sid) else {
-            return 0;
+            return Noted::none();
         };
         let Some(start) = rows.row_of(self.table.start) else {
-            return 0;
+            return Noted::none();
         };
         let Some(last) = rows.last_up_to(self.table.max_match) else {
-            return 0;
+            return Noted::none();
+        };
+        let Some(from) = rows.rows_of(anew) else {
+            return Noted::none();
         };
         let by = ByRows {
             nfa: self,
             rows,
             plain: is_plain(&self.table.classes),
         };
-        let mut found = [Note::blank(); NOTES];
         let unused = &self.unused;
-        let read = note_ahead(
-            &by, start, last, unused, row, bytes, at, len, anew, &mut found,
+        let noted = note_ahead(
+            &by, start, last, unused, row, bytes, at, len, from, notes, steps,
         );
-        for (slot, note) in found.iter().enumerate() {
-            put(notes, slot, rows.placed(note));
-        }
-        read
+        rows.place_notes(notes, noted.notes);
+        noted
     }
 }

@@ -79,10 +79,10 @@ pub(super) fn index_of(alloc: Global, places: &[StateID]) -> Result<Vec<StateID>
 }
 
 impl Rows {
-    ghost use Rattle.std.specs.Prelude.{◌⊎◌, IsTrue, IfSome};
-    ghost use Rattle.ac_automaton.specs.Ahead.{IsBlank};
+    ghost use Rattle.std.specs.Prelude.{◌⊎◌, IsTrue, IfSome, map, take};
+    ghost use Rattle.std.specs.List.{All};
     ghost use Rattle.ac_tables.specs.Contiguous.Cut.{AreBelow, AreNotBelow, IsCountBelow};
-    ghost use Rattle.ac_tables.specs.Contiguous.ContiguousRows.{row_len, place_in_row, IsRowIn, IsLastUpTo, IsNotePlaced, AreRowsBetween, AreSameRows};
+    ghost use Rattle.ac_tables.specs.Contiguous.ContiguousRows.{row_len, place_in_row, IsRowIn, AreRowsAt, IsLastUpTo, IsNoteOfRows, note_placed, AreRowsBetween, AreSameRows};
 
     /// How many entries a row has.
     #[inline]
@@ -223,33 +223,31 @@ impl Rows {
         Some(StateID::must(end * self.stride() - 1))
     }
 
-    /// The place of the state whose row begins at a number, if some row does.
-    fn place_if(&self, row: StateID) -> Option<StateID>
-        ensures { IfSome result (λ place. IsRowIn self.now row × (place ≡ place_in_row self.now row)) }
+    /// The row of a state, if there is a state; none where its row isn't found.
+    pub(super) fn rows_of(&self, state: Option<StateID>) -> Option<Option<StateID>>
+        ensures { IfSome result (AreRowsAt self.now state) }
     {
-        let at = row.as_usize() >> self.stride2;
-        let place = *self.places.get(at)?;
-        if at << self.stride2 != row.as_usize() {
-            return None;
+        match state {
+            Some(place) => Some(Some(self.row_of(place)?)),
+            None => Some(None),
         }
-        Some(place)
     }
 
-    /// A note of rows as one of places; a note of no bytes where they aren't rows.
-    pub(super) fn placed(&self, note: &Note) -> Note
-        ensures { IsBlank result ⊎ IsNotePlaced self.now note.now result }
+    /// Turns the first so many notes, which are of rows, into notes of places.
+    pub(super) fn place_notes(&self, notes: &mut [Note], count: usize)
+        requires few { count ≤ length notes.old }
+        requires rows { All (IsNoteOfRows self.now) (take count notes.old) }
+        ensures few { count ≤ length notes.new }
+        ensures placed { take count notes.new ≡ map (note_placed self.now) (take count notes.old) }
     {
-        if note.len == 0 {
-            return Note::blank();
-        }
-        match (self.place_if(note.sid), self.place_if(note.next)) {
-            (Some(sid), Some(next)) => Note {
+        for slot in 0..count {
+            let note = notes[slot];
+            notes[slot] = Note {
                 from: note.from,
                 len: note.len,
-                sid,
-                next,
-            },
-            _ => Note::blank(),
+                sid: self.place(note.sid),
+                next: self.place(note.next),
+            };
         }
     }
 

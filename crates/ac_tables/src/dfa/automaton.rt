@@ -12,7 +12,7 @@ ghost use Rattle.ac_tables.specs.Dfa.DfaReads.{dfa_built_as, IsDfaRead, CostsRea
 
 use crate::dfa::DFA;
 use crate::rows::is_plain;
-use ac_automaton::ahead::Note;
+use ac_automaton::ahead::{Note, Noted};
 use ac_automaton::automaton::{Advance, Automaton};
 use ac_automaton::error::MatchError;
 use ac_automaton::lanes;
@@ -170,11 +170,12 @@ impl Automaton for DFA {
         bytes: &[u8],
         at: usize,
         len: usize,
-        anew: bool,
+        anew: Option<StateID>,
         notes: &mut [Note],
-    ) -> usize {
+        steps: &mut Steps,
+    ) -> Noted {
         if self.skips.pass_many(self.lens.len()) {
-            return 0;
+            return Noted::none();
         }
         let table = &self.table;
         lanes::note_ahead(
@@ -188,6 +189,7 @@ impl Automaton for DFA {
             len,
             anew,
             notes,
+            steps,
         )
     }
 

@@ -204,7 +204,7 @@ streamed-cost plan ac r r' before after result serves streamed (pieces, read, co
     let b = as_built ac in
     let x = concat pieces in
     let n = read_for_run plan x in
-    let same : length x + read_again b.dictionary (length (matches_in b x)) ≡ n = ap (λ (m : Dictionary). length x + read_again m (length (walk_of m.kind (search_of m (whole_of x).anchored (whole_of x).haystack (whole_of x).span)))) serves.built.dictionary in
+    let same : length x + read_again b.dictionary (length x) (length (matches_in b x)) ≡ n = ap (λ (m : Dictionary). length x + read_again m (length x) (length (walk_of m.kind (search_of m (whole_of x).anchored (whole_of x).haystack (whole_of x).span)))) serves.built.dictionary in
     let looked = subst (λ (k : ℕ). after.looked.value ≤ before.looked.value + lookups_per_byte b.deterministic * k) same cost.looked in
     record {
       gained = pieces;

@@ -185,7 +185,7 @@ fresh-course b filled = record {
   begun = (matches_in b [], refl);
   ended = omega arith;
   decided = λ more may. (matches_in b more, refl, λ k d lt. let z : cut_of (fresh_progress b) ≤ (slice_index_or (matches_in b more) k d).start = omega arith in z);
-  paid = record { some = omega arith; looked = omega arith; scanned = refl; moved = omega arith };
+  paid = record { some = omega arith; looked = omega arith; near = λ standard. omega arith; scanned = refl; moved = omega arith };
 }
 
 -- there are no pieces, or some

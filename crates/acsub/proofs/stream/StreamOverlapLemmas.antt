@@ -117,7 +117,7 @@ fresh-on_listing b standard filled = record {
   short = λ k d lt. absurd (omega arith);
   begun = (occurrences_in b [], refl);
   first = λ more. (occurrences_in b more, refl);
-  paid = record { some = omega arith; looked = omega arith; scanned = refl; moved = refl };
+  paid = record { some = omega arith; looked = omega arith; near = omega arith; scanned = refl; moved = refl };
 }
 
 -- pieces that aren't empty have at least one byte
@@ -267,9 +267,9 @@ module _ {R W : Type 0} {remaining : R → Option (List ℕ)} {contents : W → 
 -- ---- what it costs
 
 -- the look-ups for fewer bytes are within those for more
-looks-fit : (deterministic : Bool) (looked at n : ℕ) → looked ≤ lookups_per_byte deterministic * at → at ≤ n → looked ≤ lookups_per_byte deterministic * n
-looks-fit true looked at n paid le = omega arith
-looks-fit false looked at n paid le = omega arith
+looks-fit : (deterministic : Bool) (looked less n : ℕ) → looked ≤ lookups_per_byte deterministic * less → less ≤ n → looked ≤ lookups_per_byte deterministic * n
+looks-fit true looked less n paid le = omega arith
+looks-fit false looked less n paid le = omega arith
 
 -- a list costs what its search has counted
 module _ {R : Type 0} {b : Built} {s t : ListingProgress} (r0 r1 : Watched R) {before after : Steps} (fresh : s ≡ fresh_listing b) (course : IsOnListing t) (read : (t.built ≡ b) × (r1.pieces.items ≡ r0.pieces.items ++ t.pieces)) (counts : ListingCounts s t before after) where
@@ -278,9 +278,8 @@ module _ {R : Type 0} {b : Built} {s t : ListingProgress} (r0 r1 : Watched R) {b
       let none : s.looked ≡ 0 = ap (λ (q : ListingProgress). q.looked) fresh in
       let paid = course.paid in
       let done = counts.1 in
-      let ordered = course.ordered in
-      let again = read_again b.dictionary (length (matches_in b (all_read t))) in
-      let looks = subst (λ (c : Built). t.looked ≤ lookups_per_byte c.deterministic * (length (all_read t) + again)) read.0 (looks-fit t.built.deterministic t.looked t.at (length (all_read t) + again) paid.looked (omega (arith, ordered))) in (
+      let again = read_again b.dictionary (length (all_read t)) (length (matches_in b (all_read t))) in
+      let looks = subst (λ (c : Built). t.looked ≤ lookups_per_byte c.deterministic * (length (all_read t) + again)) read.0 (looks-fit t.built.deterministic t.looked (length (all_read t)) (length (all_read t) + again) paid.looked (omega arith)) in (
         t.pieces,
         read.1,
         record {

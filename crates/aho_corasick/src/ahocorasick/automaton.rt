@@ -5,7 +5,7 @@ ghost use Rattle.ac_automaton.specs.Automaton.{refusal_of};
 
 use super::AhoCorasick;
 use crate::engine::Engine;
-use ac_automaton::ahead::{Ahead, Note};
+use ac_automaton::ahead::{Ahead, Note, Noted};
 use ac_automaton::automaton::{Advance, Automaton};
 use ac_automaton::error::MatchError;
 use ac_automaton::overlapping::{Position, Shown};
@@ -106,13 +106,14 @@ impl Automaton for AhoCorasick {
         bytes: &[u8],
         at: usize,
         len: usize,
-        anew: bool,
+        anew: Option<StateID>,
         notes: &mut [Note],
-    ) -> usize {
+        steps: &mut Steps,
+    ) -> Noted {
         match self.serving() {
-            Engine::Noncontiguous(nfa) => nfa.note_ahead(sid, bytes, at, len, anew, notes),
-            Engine::Contiguous(nfa) => nfa.note_ahead(sid, bytes, at, len, anew, notes),
-            Engine::Dfa(dfa) => dfa.note_ahead(sid, bytes, at, len, anew, notes),
+            Engine::Noncontiguous(nfa) => nfa.note_ahead(sid, bytes, at, len, anew, notes, steps),
+            Engine::Contiguous(nfa) => nfa.note_ahead(sid, bytes, at, len, anew, notes, steps),
+            Engine::Dfa(dfa) => dfa.note_ahead(sid, bytes, at, len, anew, notes, steps),
         }
     }
 
@@ -274,19 +275,16 @@ impl Search for AhoCorasick {
     fn search_overlapping_ahead(
         &self,
         input: &Input<'_>,
-        start: StateID,
         place: Position,
         ahead: &mut Ahead,
         steps: &mut Steps,
     ) -> Shown {
         match self.serving() {
             Engine::Noncontiguous(nfa) => {
-                nfa.search_overlapping_ahead(input, start, place, ahead, steps)
+                nfa.search_overlapping_ahead(input, place, ahead, steps)
             }
-            Engine::Contiguous(nfa) => {
-                nfa.search_overlapping_ahead(input, start, place, ahead, steps)
-            }
-            Engine::Dfa(dfa) => dfa.search_overlapping_ahead(input, start, place, ahead, steps),
+            Engine::Contiguous(nfa) => nfa.search_overlapping_ahead(input, place, ahead, steps),
+            Engine::Dfa(dfa) => dfa.search_overlapping_ahead(input, place, ahead, steps),
         }
     }
 

@@ -108,9 +108,10 @@ impl AhoCorasick {
     /// The matches of [`AhoCorasick::find_iter`], for many of them in a long text, with hundreds of patterns and more: see
     /// [`FindIterAhead`].
     ///
-    /// A call may read up to 8 KiB past the match that it returns, over several parts of the text side by side. The iterator takes
-    /// some 3 KiB and no other memory. It counts as much as `find_iter`. Where reading ahead can't pay it does as `find_iter`: under
-    /// a leftmost kind, with a prefilter or an empty pattern, for an anchored input, and for one of less than 1 KiB.
+    /// A call may look at up to 8 KiB past the match that it returns, over several parts of the text side by side, and counts
+    /// each look when it makes it. No byte is looked at again for that, so all matches together cost no more looks than those of
+    /// `find_iter` may. The iterator takes some 3 KiB and no other memory. Where reading ahead can't pay it does as `find_iter`:
+    /// under a leftmost kind, with a prefilter or an empty pattern, for an anchored input, and for one of less than 1 KiB.
     pub fn find_iter_ahead<'a, 'h>(&'a self, input: Input<'h>) -> FindIterAhead<'a, 'h>
         requires { supported_by self.now input.anchored }
         ensures over { IsWalkOver (as_built self.now) input.entry result }
@@ -125,8 +126,9 @@ impl AhoCorasick {
     /// It requires that the input isn't anchored, that the start kind has unanchored searches, and that the kind is the standard
     /// one. However many occurrences there are, it looks at two states for each byte of the span at most, or at one with a DFA.
     ///
-    /// A call may read up to 8 KiB past the match that it returns, where there is no prefilter and 1 KiB or more is left to be
-    /// searched. The iterator takes some 3 KiB and no other memory. [`AhoCorasick::try_find_overlapping`] never reads ahead.
+    /// A call may look at up to 8 KiB past the match that it returns, where there is no prefilter and 1 KiB or more is left to be
+    /// searched. It counts each look when it makes it, and no byte is looked at again for that. The iterator takes some 3 KiB and
+    /// no other memory. [`AhoCorasick::try_find_overlapping`] never reads ahead.
     ///
     /// An example: `uses::examples::iterate::all_patterns`.
     pub fn find_overlapping_iter<'a, 'h>(&'a self, input: Input<'h>) -> FindOverlappingIter<'a, 'h>

@@ -8,6 +8,10 @@
 //!
 //! The calls whose names have `any_kind` search under any kind. Under a leftmost kind they hold a match back until no byte that
 //! follows can change it. The Rust crate has none of them.
+//!
+//! A search may look at up to 8 KiB of the held bytes ahead of the place to which it has come. It counts each look when it makes
+//! it. Under the standard kind it looks at none of these bytes again. Under a leftmost kind it begins anew after a match, and may
+//! have looked ahead in vain: so it reads each byte at most once more than it would without.
 ghost use Rattle.std.specs.Prelude.{◌≡◌, false, length, IfOk, OnOk};
 ghost use Rattle.ac_literal.specs.Packed.{bytes_of};
 ghost use Rattle.ac_automaton.specs.declared.error.StreamError.TheVariants.{Memory};
@@ -198,9 +202,10 @@ impl AhoCorasick {
     }
 
     /// All matches of a stream under any kind, one after another: see [`StreamFindIter`]. Under the standard kind it is
-    /// [`AhoCorasick::try_stream_find_iter`]. Under a leftmost kind each match is returned after the read with which it is decided: no
-    /// byte that follows can change it, since nothing that began no later is live any more. At the end of the input all are. At most
-    /// as many bytes are held back as the longest pattern has, and after each match at most so many bytes and one are read again.
+    /// [`AhoCorasick::try_stream_find_iter`]. Under a leftmost kind each match is returned after the read with which it is
+    /// decided: no byte that follows can change it, since nothing that began no later is live any more. At the end of the input
+    /// all are. At most as many bytes are held back as the longest pattern has, and after each match at most so many bytes and
+    /// one are read again. Each byte may be looked at once more, read ahead in vain.
     ///
     /// It takes the buffer of [`AhoCorasick::try_stream_find_iter`], and requires that the reader has not ended.
     ///
@@ -276,7 +281,9 @@ impl AhoCorasick {
         Automaton::try_stream_replace_all_any_kind(self, alloc, reader, writer, replacements)
     }
 
-    /// The same, and counts what it does. The clause `replaced` of that call follows from `moved`.
+    /// The same, and counts what it does. Under a leftmost kind it looks at more than
+    /// [`AhoCorasick::try_stream_replace_all_counted`] does: after each match at what it reads again, and at each byte at most
+    /// once more, read ahead in vain. The clause `replaced` of that call follows from `moved`.
     pub fn try_stream_replace_all_any_kind_counted<R: Read, W: Write>(
         &self,
         alloc: Global,

@@ -88,7 +88,8 @@ pub fn replaced_counted(
     ac.try_stream_replace_all_counted(alloc, &mut reader, writer, replacements, steps)
 }
 
-/// Counted under any kind: at most two looks at states for each byte, and for each that is read again after a match.
+/// Counted under any kind: at most two looks at states for each byte, and for each that is read again, after a match or since it was
+/// read ahead in vain.
 pub fn any_kind_replaced_counted(
     ac: &AhoCorasick,
     alloc: Global,

@@ -60,7 +60,7 @@ pub fn pass_matches<A: Search>(automaton: &A, text: &[u8], steps: &mut Steps)
     while let Some(_) = matches.next_counted(steps) {}
 }
 
-/// The same of a text that is read ahead. What was read ahead counts when its match is taken.
+/// The same of a text that is read ahead: a look counts when it is made, and none is made twice.
 pub fn pass_matches_ahead<A: Search>(automaton: &A, text: &[u8], steps: &mut Steps)
     requires supports { A.supports automaton.now Anchored.No }
     requires standard { (A.built automaton.now).dictionary.kind ≡ Standard }

@@ -1,18 +1,15 @@
 -- The state where the call stops has the match, or the span ends there.
-use Rattle.std.proofs.Common.{[], ◌≤◌, length, None, Some, sym, ◌∙◌, arith}
+use Rattle.std.proofs.Common.{rules, refl, take, ◌+◌, [], ◌≤◌, length, None, Some, sym, ◌∙◌, arith}
 use Rattle.std.proofs.lemmas.Bool.{false≢true}
 use Rattle.ac_input.specs.declared.search.Anchored.TheVariants.{No}
 use Rattle.ac_automaton.specs.Automaton.{IsFindCost, IsFound, searched}
-use Rattle.ac_automaton.proofs.find_ahead.FindAheadLemmas.{ahead-none, ahead-some, none-left}
+use Rattle.ac_automaton.proofs.find_ahead.FindAheadLemmas.{ahead-ended, ahead-match, ahead-none, ahead-some, none-left}
 use Rattle.ac_automaton.proofs.lemmas.CursorLemmas.{reached-on, reached-state}
 use Rattle.ac_automaton.proofs.find_ahead.find.Given.{Over}
 use Rattle.ac_automaton.proofs.find_ahead.find.Goals as goal
 
 pub advance_to_match-stop-requires-clause-reached : goal.advance_to_match-stop-requires-clause-reached
 advance_to_match-stop-requires-clause-reached g c = ∣ ([], c.requires.may.starts) ∣₁
-
-pub advance_to_match-stop-requires-clause-known : goal.advance_to_match-stop-requires-clause-known
-advance_to_match-stop-requires-clause-known g c = rw (c.haystack.ensures, c.end-2.ensures.value) c.requires.known
 
 pub is_match-requires : goal.is_match-requires
 is_match-requires g c =
@@ -27,7 +24,7 @@ returns-then-start-end-clause-found g c =
     none-left (searched (g.A.Automaton.built c.args.automaton.now) c.args.input.now) inside c.requires.may.filled (sym c.start.ensures ∙ c.if-start-end.true ∙ end)
 
 -- the state where the call stopped doesn't match
-none : (g : Over) (c : goal.Then-not-is_match g) → IsFound (g.A.Automaton.built c.args.automaton.now) c.args.input.now None × IsFindCost (g.A.Automaton.built c.args.automaton.now) c.args.input.now c.args.steps.now c.advance_to_match-stop.new.steps None
+none : (g : Over) (c : goal.Then-not-is_match g) → IsFound (g.A.Automaton.built c.args.automaton.now) c.args.input.now None × IsFindCost (g.A.Automaton.built c.args.automaton.now) c.args.input.now c.args.steps.now c.advance_to_match-stop.ensures.cost.0 None
 none g c =
     let a = c.args.automaton.now in
     let met = g.met.A.Automaton in
@@ -38,17 +35,17 @@ none g c =
     let other = c.if-start-end.false in
     let ordered = c.requires.ordered in
     ahead-none g.A.Automaton a c.args.input.now c.args.start stop.result _ _ (met.pairs a No) (met.tells a No) (met.lives a No) c.requires.may (omega (arith, ordered, first, end, other)) (omega (arith, end, within))
-    (rw (c.haystack.ensures, c.end-2.ensures.value, c.start-2.ensures) at stop.ensures.goes) (rw (c.haystack.ensures, c.end-2.ensures.value, c.start-2.ensures) at stop.ensures.cost)
+    (rw (c.haystack.ensures, c.end-2.ensures.value, c.start-2.ensures) at stop.ensures.goes) (rw (c.haystack.ensures, c.end-2.ensures.value, c.start-2.ensures) at stop.ensures.cost.2)
     (λ some. false≢true (sym c.if-not-is_match.true ∙ c.is_match.ensures.1 some))
 
 pub returns-then-not-is_match-clause-found : goal.returns-then-not-is_match-clause-found
 returns-then-not-is_match-clause-found g c = (none g c).0
 
 pub returns-then-not-is_match-clause-cost : goal.returns-then-not-is_match-clause-cost
-returns-then-not-is_match-clause-cost g c = (none g c).1
+returns-then-not-is_match-clause-cost g c = (c.advance_to_match-stop.ensures.cost.0, c.advance_to_match-stop.ensures.cost.1, (none g c).1)
 
 -- the state where the call stopped matches
-some : (g : Over) (c : goal.After-first_match g) → IsFound (g.A.Automaton.built c.args.automaton.now) c.args.input.now (Some c.first_match.result) × IsFindCost (g.A.Automaton.built c.args.automaton.now) c.args.input.now c.args.steps.now c.advance_to_match-stop.new.steps (Some c.first_match.result)
+some : (g : Over) (c : goal.After-first_match g) → IsFound (g.A.Automaton.built c.args.automaton.now) c.args.input.now (Some c.first_match.result) × IsFindCost (g.A.Automaton.built c.args.automaton.now) c.args.input.now c.args.steps.now c.advance_to_match-stop.ensures.cost.0 (Some c.first_match.result)
 some g c =
     let a = c.args.automaton.now in
     let met = g.met.A.Automaton in
@@ -59,11 +56,32 @@ some g c =
     let other = c.if-start-end.false in
     let ordered = c.requires.ordered in
     ahead-some g.A.Automaton a c.args.input.now c.args.start stop.result _ _ (met.pairs a No) (met.tells a No) (met.lives a No) c.requires.may (omega (arith, ordered, first, end, other)) (omega (arith, end, within))
-    (rw (c.haystack.ensures, c.end-2.ensures.value, c.start-2.ensures) at stop.ensures.goes) (rw (c.haystack.ensures, c.end-2.ensures.value, c.start-2.ensures) at stop.ensures.cost)
+    (rw (c.haystack.ensures, c.end-2.ensures.value, c.start-2.ensures) at stop.ensures.goes) (rw (c.haystack.ensures, c.end-2.ensures.value, c.start-2.ensures) at stop.ensures.cost.2)
     c.first_match.result (rw c.start-3.ensures at c.first_match.ensures)
 
 pub returns-clause-found : goal.returns-clause-found
 returns-clause-found g c = (some g c).0
 
 pub returns-clause-cost : goal.returns-clause-cost
-returns-clause-cost g c = (some g c).1
+returns-clause-cost g c = (c.advance_to_match-stop.ensures.cost.0, c.advance_to_match-stop.ensures.cost.1, (some g c).1)
+
+-- nothing was read
+pub returns-then-start-end-clause-cost : goal.returns-then-start-end-clause-cost
+returns-then-start-end-clause-cost g c = (c.args.steps.now, record { looked = refl; scanned = refl; moved = refl }, search rules)
+
+pub returns-then-not-is_match-clause-ahead : goal.returns-then-not-is_match-clause-ahead
+returns-then-not-is_match-clause-ahead g c =
+    let a = c.args.automaton.now in
+    let stop = c.advance_to_match-stop in
+    let end = c.end.ensures.value in
+    let within = c.end.ensures.within in
+    ahead-ended (g.A.Automaton.built a) (g.A.Automaton.Reaches a No) (g.A.Automaton.matches a) c.args.start c.args.start _ c.args.input.now.haystack c.args.input.now.span.start c.args.input.now.span.end stop.result stop.new.ahead
+    c.requires.ordered (omega (arith, end, within)) (λ some. false≢true (sym c.if-not-is_match.true ∙ c.is_match.ensures.1 some))
+    (rw (c.haystack.ensures, c.end-2.ensures.value, c.start-2.ensures) at stop.ensures.goes) (rw (c.haystack.ensures, c.end-2.ensures.value, c.start-2.ensures) at stop.ensures.ahead)
+
+pub returns-clause-ahead : goal.returns-clause-ahead
+returns-clause-ahead g c =
+    let a = c.args.automaton.now in
+    let stop = c.advance_to_match-stop in
+    ahead-match (g.A.Automaton.built a) (g.A.Automaton.Reaches a No) (g.A.Automaton.matches a) c.args.start stop.result.sid (take c.args.input.now.span.end c.args.input.now.haystack) (c.args.input.now.span.start + stop.result.taken) c.first_match.result stop.new.ahead
+    (c.is_match.ensures.0 c.if-not-is_match.false) (rw c.start-3.ensures at c.first_match.ensures) (rw (c.haystack.ensures, c.end-2.ensures.value, c.start-2.ensures) at stop.ensures.ahead)

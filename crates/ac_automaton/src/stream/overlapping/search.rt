@@ -6,15 +6,15 @@
 //!
 //! A [`ListingSearch`] returns the next occurrence of what was read, without a read ([`ListingSearch::next_held`]), and makes one read
 //! ([`ListingSearch::read_more`]). An automaton that can walk over several parts of the buffer side by side reads ahead of the search:
-//! see [`ahead`](crate::ahead).
+//! see [`ahead`](crate::ahead). It counts a look when it makes it, so up to 8 KiB before the search comes to that byte.
 ghost use Rattle.std.specs.Prelude.{◌≡◌, ◌+◌, ◌<◌, ◌≤◌, [], false, true, length, take, vec_len, IfErr, IfOk, OnOk};
 ghost use Rattle.ac_input.specs.declared.search.Anchored.TheVariants.{No};
-ghost use Rattle.ac_automaton.specs.Ahead.{AreNotes};
+ghost use Rattle.ac_automaton.specs.Ahead.{IsPaid};
 ghost use Rattle.ac_automaton.specs.Automaton.{IsState};
 ghost use Rattle.ac_automaton.specs.Stream.{CanBeCounted, CanStream, IsOutOfMemory};
 ghost use Rattle.ac_automaton.specs.Stream.StreamListing.{AnswersNewListing, IsAllListed, IsListingConfigRefusal, IsOnListing, ListingCounts, ListingProgress, ListingReadsMore, ListsHeld, all_read, fresh_listing};
 ghost use Rattle.ac_automaton.specs.Stream.StreamListingSearch.{FillsFront};
-ghost use Rattle.ac_automaton.specs.Stream.StreamListingWalk.{GivesOfState, ListsNext, MayGive, MayList, ReadsHeld};
+ghost use Rattle.ac_automaton.specs.Stream.StreamListingWalk.{GivesOfState, IsAheadFor, ListsNext, MayGive, MayList, ReadsHeld};
 ghost use Rattle.ac_automaton.specs.Stream.StreamSearch.{some_of};
 ghost use Rattle.ac_automaton.specs.declared.stream.StreamKinds.TheVariants.{OnlyStandard};
 
@@ -34,7 +34,7 @@ use std::io::Read;
 use std::marker::Model;
 
 /// Where a search stands: in which state; counted from the first byte of the stream, the place of the first byte of the last read,
-/// and the place up to which the automaton has read; how many of the state's list were given; and how many it has.
+/// and the place up to which it has searched; how many of the state's list were given; and how many it has.
 #[derive(Clone, Copy)]
 pub struct ListPlace {
     sid: StateID,
@@ -68,8 +68,9 @@ pub(crate) struct ListingSearch<'a, A: Search> {
 impl<'a, A: Search> Model for ListingSearch<'a, A> {
     ghost use Rattle.std.specs.Prelude.{take, vec_len};
     ghost use Rattle.ac_input.specs.declared.search.Anchored.TheVariants.{No};
-    ghost use Rattle.ac_automaton.specs.Ahead.{AreNotes};
-    ghost use Rattle.ac_automaton.specs.Stream.StreamListing.{ListingProgress};
+    ghost use Rattle.std.specs.Prelude.{◌-◌, ◌≤◌, None};
+    ghost use Rattle.ac_automaton.specs.Ahead.{IsAhead, bytes_ahead, less_ahead};
+    ghost use Rattle.ac_automaton.specs.Stream.StreamListing.{IsOnListing, ListingProgress};
     ghost use Rattle.ac_automaton.specs.Stream.StreamListingSearch.{IsListingSearch, listing_at};
 
     ghost Value = { ListingProgress };
@@ -77,12 +78,15 @@ impl<'a, A: Search> Model for ListingSearch<'a, A> {
     ghost view = { λ i. listing_at (A.built i.automaton.now) i.pieces.items i.given.value i.place
         i.sums };
 
-    ghost invariant = { λ i. IsListingSearch (A.Reaches i.automaton.now No)
+    ghost invariant = { λ i.
+        IsOnListing (listing_at (A.built i.automaton.now) i.pieces.items i.given.value i.place i.sums)
+        × IsListingSearch (A.Reaches i.automaton.now No)
         (A.matches i.automaton.now)
-        (listing_at (A.built i.automaton.now) i.pieces.items i.given.value i.place i.sums)
+        (listing_at (A.built i.automaton.now) i.pieces.items i.given.value i.place (less_ahead i.sums i.ahead))
         i.place i.given.value (vec_len i.bytes) (take i.filled i.bytes.items) i.filled i.over
-        × AreNotes A.Reaches A.matches i.automaton.now (take i.filled i.bytes.items)
-        i.ahead.notes };
+        × IsAhead (A.built i.automaton.now) (A.Reaches i.automaton.now No) (A.matches i.automaton.now) None
+        (take i.filled i.bytes.items) (i.place.at - i.place.from) i.place.sid i.ahead
+        × (bytes_ahead i.ahead ≤ i.sums.looked.value) };
 }
 
 /// The start state of such a search, where the automaton can make one.
@@ -173,16 +177,16 @@ fn read_on<A: Automaton>(
 ) -> ListPlace
     requires stands { MayList A.Automaton automaton.now place.now held.now }
     requires given { place.now.len ≤ place.now.index }
-    requires known { AreNotes A.Reaches A.matches automaton.now held.now ahead.old.notes }
-    ensures reads { ReadsHeld A.Automaton automaton.now place.now held.now result
-        steps.old steps.new }
-    ensures known { AreNotes A.Reaches A.matches automaton.now held.now ahead.new.notes }
+    requires ahead { IsAheadFor A.Automaton automaton.now held.now place.now ahead.old }
+    ensures reads { IsPaid ahead.old ahead.new steps.new (λ paid. ReadsHeld A.Automaton automaton.now place.now held.now result
+        steps.old paid) }
+    ensures ahead { IsAheadFor A.Automaton automaton.now held.now result ahead.new }
 {
     let from = place.at - place.from;
     if from == held.len() {
         return *place;
     }
-    let stop = advance_to_match(automaton, place.sid, held, from, ahead, steps);
+    let stop = advance_to_match(automaton, &None, place.sid, held, from, ahead, steps);
     ListPlace {
         sid: stop.sid,
         from: place.from,
@@ -201,10 +205,10 @@ pub(crate) fn next_listed<A: Automaton>(
     steps: &mut Steps,
 ) -> Listed
     requires stands { MayList A.Automaton automaton.now place.now held.now }
-    requires known { AreNotes A.Reaches A.matches automaton.now held.now ahead.old.notes }
-    ensures lists { ListsNext A.Automaton automaton.now place.now held.now result
-        steps.old steps.new }
-    ensures known { AreNotes A.Reaches A.matches automaton.now held.now ahead.new.notes }
+    requires ahead { IsAheadFor A.Automaton automaton.now held.now place.now ahead.old }
+    ensures lists { IsPaid ahead.old ahead.new steps.new (λ paid. ListsNext A.Automaton automaton.now place.now held.now result
+        steps.old paid) }
+    ensures ahead { IsAheadFor A.Automaton automaton.now held.now result.place ahead.new }
 {
     if place.index < place.len {
         return give(automaton, *place);
@@ -255,7 +259,7 @@ impl<'a, A: Search> ListingSearch<'a, A> {
                 len: list_len(automaton, start),
             },
             over: false,
-            ahead: Ahead::none(false),
+            ahead: Ahead::none(),
             given: Count::zero(),
             pieces: Pieces::empty(),
             sums: Steps::new(),
@@ -314,7 +318,7 @@ impl<'a, A: Search> ListingSearch<'a, A> {
         ensures read { ListingReadsMore R.remaining self.old self.new reader.old reader.new result }
         ensures kept { IsOnListing self.new }
     {
-        self.ahead.forget();
+        self.ahead.forget(0);
         self.place.from = self.place.at;
         self.filled = 0;
         let n = match fill(&mut self.bytes, reader) {

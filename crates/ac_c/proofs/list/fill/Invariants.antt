@@ -1,6 +1,6 @@
 -- The buffer begins with the occurrences given so far, and the run has the rest.
 use Rattle.std.proofs.Common.{◌≡◌, ◌<◌, ◌≤◌, length, map, take, drop}
-use Rattle.ac_automaton.specs.Overlapping.OverlappingIter.{CountsRun}
+use Rattle.ac_automaton.specs.Overlapping.OverlappingIter.{CountsRun, LooksNear}
 use Rattle.ac_c.specs.Found.{shown}
 use Rattle.ac_c.specs.List.{RunsTo, before_of, later_of, place_after}
 use Rattle.ac_c.proofs.list.fill.Given as goal
@@ -12,4 +12,5 @@ invariant-loop-at l = record {
   given : take l.at l.out ≡ map shown (take l.at (later_of l.place l.fn.matches));
   cost : RunsTo l.fn.matches l.matches l.fn.steps l.steps;
   counted : 0 < l.at → CountsRun l.matches (before_of (place_after l.place l.out l.at));
+  near : 0 < l.at → LooksNear l.matches (before_of (place_after l.place l.out l.at));
 }

@@ -7,7 +7,7 @@ use Rattle.ac_c.proofs.walking.WalkingLemmas.{walks-ended, walks-none, walks-on}
 use Rattle.ac_c.proofs.replace.write_text.Goals as goal
 
 pub loop-found-init : goal.loop-found-init
-loop-found-init g c = record { written = written-none _ _; lies = c.requires.lie; within = omega arith; cost = walks-none _ _ c.requires.counted }
+loop-found-init g c = record { written = written-none _ _; lies = c.requires.lie; within = omega arith; cost = walks-none g.W.Walking.ahead _ _ c.requires.counted }
 
 pub put-len-requires-in-Some : goal.put-len-requires-in-Some
 put-len-requires-in-Some g c =
@@ -19,7 +19,7 @@ put-len-requires-in-Some g c =
 
 pub returns-clause-cost : goal.returns-clause-cost
 returns-clause-cost g c =
-    walks-ended _ _ _ _ _ _ c.loop-found.invariant.cost c.in_default.ensures.gives c.in_default.ensures.cost
+    walks-ended g.W.Walking.ahead _ _ _ _ _ _ c.loop-found.invariant.cost c.in_default.ensures.gives c.in_default.ensures.cost
 
 pub loop-found-preserved : goal.loop-found-preserved
 loop-found-preserved g c =
@@ -31,5 +31,5 @@ loop-found-preserved g c =
       written = rw c.end-at.ensures.value (written-turn _ _ _ _ _ _ _ _ _ _ _ _ _ _ _ _ i.written seen (rw c.start.ensures.value) c.put-len.ensures.put c.put-len.ensures.end (rw number (sym (get_or-map (λ r. r.now) c.args.replacements.now c.in-Some.found.pattern _ [] lies.0))) c.put-len-in-Some.ensures.put c.put-len-in-Some.ensures.end);
       lies = rw c.end-at.ensures.value lies.4;
       within = rw c.end-at.ensures.value lies.3;
-      cost = walks-on _ _ _ _ _ _ i.cost c.in-Some.ensures.cost;
+      cost = walks-on g.W.Walking.ahead _ _ _ _ _ _ i.cost c.in-Some.ensures.cost;
     }

@@ -6,7 +6,7 @@ use Rattle.ac_c.proofs.walking.WalkingLemmas.{walks-none, walks-on}
 use Rattle.ac_c.proofs.walk.fill.Goals as goal
 
 pub loop-at-init : goal.loop-at-init
-loop-at-init g c = record { rest = refl; enough = omega arith; given = refl; cost = walks-none _ _ c.requires }
+loop-at-init g c = record { rest = refl; enough = omega arith; given = refl; cost = walks-none g.W.Walking.ahead _ _ c.requires }
 
 pub returns-in-None : goal.returns-in-None
 returns-in-None g c =
@@ -15,7 +15,7 @@ returns-in-None g c =
     record {
       given = record { count = omega arith; given = i.given };
       rest = n.yields.1 ∙ sym (sym i.rest ∙ n.yields.0);
-      cost = walks-on _ _ _ _ _ _ i.cost n.cost;
+      cost = walks-on g.W.Walking.ahead _ _ _ _ _ _ i.cost n.cost;
     }
 
 pub loop-at-preserved : goal.loop-at-preserved
@@ -26,5 +26,5 @@ loop-at-preserved g c =
       rest = fill-rest _ c.loop-at.at c.in-Some.found _ next;
       enough = fill-enough _ c.loop-at.at c.in-Some.found _ next;
       given = rw c.of.ensures (fill-given _ c.loop-at.out c.loop-at.at c.in-Some.found _ (omega arith) next i.given);
-      cost = walks-on _ _ _ _ _ _ i.cost n.cost;
+      cost = walks-on g.W.Walking.ahead _ _ _ _ _ _ i.cost n.cost;
     }

@@ -10,5 +10,5 @@ invariant-loop-at g l = let walk = g.W.Walking.walk in record {
   rest : left_of (walk l.matches) ≡ drop l.at (left_of (walk l.fn.matches));
   enough : l.at ≤ length (left_of (walk l.fn.matches));
   given : take l.at l.out ≡ map shown (take l.at (left_of (walk l.fn.matches)));
-  cost : WalksTo (walk l.fn.matches) (walk l.matches) l.fn.steps l.steps;
+  cost : WalksTo g.W.Walking.ahead (walk l.fn.matches) (walk l.matches) l.fn.steps l.steps;
 }

@@ -19,14 +19,14 @@ returns-in-Some-clause-cost g c =
     let i = c.self.inside in
     let w = walk_at (g.A.Automaton.built i.automaton.now) i.first.value i.input i.last i.sums in
     let picked = c.next_pick-found.ensures in
-    rw (← c.self.view_is) (pick-costs w _ _ c.new-taken.result c.next_pick-found.new.steps _ _ (search rules) c.self.invariant.1.begun (search rules) c.new-taken.ensures c.add.ensures c.add-2.ensures.looked c.add-2.ensures.scanned c.add-2.ensures.moved picked.work picked.counts c.self.invariant.2)
+    rw (← c.self.view_is) (pick-costs w _ _ c.new-taken.result c.next_pick-found.new.steps _ _ (search rules) c.self.invariant.1.begun (search rules) c.new-taken.ensures c.add.ensures c.add-2.ensures.looked c.add-2.ensures.scanned c.add-2.ensures.moved picked.work picked.counts c.self.invariant.3 (search rules))
 
 pub returns-in-None-clause-cost : goal.returns-in-None-clause-cost
 returns-in-None-clause-cost g c =
     let i = c.self.inside in
     let w = walk_at (g.A.Automaton.built i.automaton.now) i.first.value i.input i.last i.sums in
     let picked = c.next_pick-found.ensures in
-    rw (← c.self.view_is) (pick-costs w _ _ c.new-taken.result c.next_pick-found.new.steps _ _ (search rules) c.self.invariant.1.begun (search rules) c.new-taken.ensures c.add.ensures c.add-2.ensures.looked c.add-2.ensures.scanned c.add-2.ensures.moved picked.work picked.counts c.self.invariant.2)
+    rw (← c.self.view_is) (pick-costs w _ _ c.new-taken.result c.next_pick-found.new.steps _ _ (search rules) c.self.invariant.1.begun (search rules) c.new-taken.ensures c.add.ensures c.add-2.ensures.looked c.add-2.ensures.scanned c.add-2.ensures.moved picked.work picked.counts c.self.invariant.3 (search rules))
 
 pub returns-then-is_done-clause-cost : goal.returns-then-is_done-clause-cost
-returns-then-is_done-clause-cost g c = rw (← c.self.view_is) (idle-cost _ _ (search rules) c.self.invariant.2)
+returns-then-is_done-clause-cost g c = rw (← c.self.view_is) (idle-cost _ _ (search rules) c.self.invariant.2 c.self.invariant.3)

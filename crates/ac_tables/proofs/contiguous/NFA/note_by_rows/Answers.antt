@@ -1,32 +1,38 @@
 -- The notes of rows hold of their places.
-use Rattle.std.proofs.Common.{◌<◌, length, refl, rules, replicate, sym, subst}
+use Rattle.std.proofs.Common.{take, refl, sym, subst}
 use Rattle.std.proofs.Math.Logic.{∥∥₁_map}
-use Rattle.std.proofs.lemmas.List.Elements.{All-replicate}
 use Rattle.ac_input.specs.declared.search.Anchored.TheVariants.{No}
-use Rattle.ac_automaton.specs.Ahead.{IsBlank}
-use Rattle.ac_automaton.proofs.ahead.AheadLemmas.{blank-notes}
-use Rattle.ac_automaton.proofs.lanes.LaneLemmas.{notes-put}
-use Rattle.ac_tables.specs.Contiguous.ContiguousReads.{IsContiguousRead, contiguous_matches_at}
+use Rattle.ac_automaton.proofs.lanes.NoteLemmas.{reads-nothing}
+use Rattle.ac_tables.specs.Contiguous.ContiguousReads.{IsContiguousRead}
 use Rattle.ac_tables.proofs.contiguous.ByRowLemmas.{row-read}
-use Rattle.ac_tables.proofs.contiguous.NoteRowLemmas.{may-note-rows, placed-each}
+use Rattle.ac_tables.proofs.contiguous.NoteRowLemmas.{may-note-rows, notes-rows, rows-ahead}
 use Rattle.ac_tables.proofs.contiguous.NFA.note_by_rows.Goals as goal
 
-pub note_ahead-read-requires-clause-may : goal.note_ahead-read-requires-clause-may
-note_ahead-read-requires-clause-may c = may-note-rows _ c.in-Some-row_of.start c.in-Some-last_up_to.last c.in-Some-row_of.ensures c.in-Some-last_up_to.ensures
+pub returns-in_default-clause-reads : goal.returns-in_default-clause-reads
+returns-in_default-clause-reads c = reads-nothing _ _ _ _ _ _ _ _ _ _ _ _ _ c.none.ensures
 
-pub note_ahead-read-requires-clause-reached : goal.note_ahead-read-requires-clause-reached
-note_ahead-read-requires-clause-reached c =
+pub returns-in_default-row_of-clause-reads : goal.returns-in_default-row_of-clause-reads
+returns-in_default-row_of-clause-reads c = reads-nothing _ _ _ _ _ _ _ _ _ _ _ _ _ c.none-in_default-row_of.ensures
+
+pub returns-in_default-last_up_to-clause-reads : goal.returns-in_default-last_up_to-clause-reads
+returns-in_default-last_up_to-clause-reads c = reads-nothing _ _ _ _ _ _ _ _ _ _ _ _ _ c.none-in_default-last_up_to.ensures
+
+pub returns-in_default-rows_of-clause-reads : goal.returns-in_default-rows_of-clause-reads
+returns-in_default-rows_of-clause-reads c = reads-nothing _ _ _ _ _ _ _ _ _ _ _ _ _ c.none-in_default-rows_of.ensures
+
+pub note_ahead-noted-requires-clause-may : goal.note_ahead-noted-requires-clause-may
+note_ahead-noted-requires-clause-may c = may-note-rows _ c.in-Some-row_of.start c.in-Some-last_up_to.last c.in-Some-row_of.ensures c.in-Some-last_up_to.ensures
+
+pub note_ahead-noted-requires-clause-reached : goal.note_ahead-noted-requires-clause-reached
+note_ahead-noted-requires-clause-reached c =
     let there = c.in-Some.ensures in
     ∥∥₁_map c.requires.reached (λ w. (w.0, row-read _ No w.0 c.in-Some.row there.0 refl (subst (IsContiguousRead c.args.self.now No w.0) (sym there.1) w.1)))
 
-pub note_ahead-read-requires-clause-known : goal.note_ahead-read-requires-clause-known
-note_ahead-read-requires-clause-known c = blank-notes _ _ _ (replicate 128 c.blank-found.result) (All-replicate IsBlank 128 c.blank-found.result c.blank-found.ensures)
+pub place_notes-requires-clause-rows : goal.place_notes-requires-clause-rows
+place_notes-requires-clause-rows c = notes-rows _ c.args.bytes.now (take c.note_ahead-noted.result.notes c.note_ahead-noted.new.notes) c.note_ahead-noted.ensures.reads.are
 
-pub loop-slot-preserved : goal.loop-slot-preserved
-loop-slot-preserved c =
-    let nfa = c.args.self.now in
-    let note = c.note-item.result in
-    let within : c.loop-slot.slot < length c.note_ahead-read.new.notes = search rules in
-    notes-put (IsContiguousRead nfa No) (contiguous_matches_at nfa) c.args.bytes.now c.loop-slot.notes c.put.new.notes c.loop-slot.slot c.placed.result c.loop-slot.invariant
-    (placed-each _ c.args.bytes.now c.note_ahead-read.new.notes c.loop-slot.slot note c.placed.result c.note_ahead-read.ensures within c.placed.ensures)
-    c.put.ensures
+pub returns-clause-reads : goal.returns-clause-reads
+returns-clause-reads c =
+    rows-ahead _ c.args.anew c.in-Some-rows_of.from c.in-Some-row_of.start c.args.sid c.in-Some.row c.args.bytes.now c.args.at c.args.len c.note_ahead-noted.result.read
+    (take c.note_ahead-noted.result.notes c.note_ahead-noted.new.notes) (take c.note_ahead-noted.result.notes c.place_notes.new.notes) c.args.steps.now c.note_ahead-noted.new.steps
+    c.in-Some-row_of.ensures c.in-Some-rows_of.ensures c.in-Some.ensures.1 c.place_notes.ensures.placed c.note_ahead-noted.ensures.reads

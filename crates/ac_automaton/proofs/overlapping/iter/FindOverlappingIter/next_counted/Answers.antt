@@ -1,56 +1,61 @@
 -- Each call shows the first of the rest, and the sums stay within one walk.
-use Rattle.std.proofs.Common.{rules, ◌≡◌, ℕ, ◌+◌, List, [], ◌∷◌, drop, is_some, if◌then◌else◌, MatchOption, sym, subst}
-use Rattle.ac_input.specs.Number.{StateID}
+use Rattle.std.proofs.Common.{rules, ◌≡◌, ℕ, ◌+◌, ◌-◌, ◌*◌, ◌≤◌, [], ◌∷◌, drop, MatchOption, sym, subst}
 use Rattle.ac_input.specs.Computed.{listing_of}
-use Rattle.ac_input.specs.Input.{search_of}
-use Rattle.ac_automaton.specs.Overlapping.{StandsAt}
-use Rattle.ac_automaton.proofs.overlapping.OverlappingStateLemmas.{counted-after, shown-counted, stands-after, stands-work, yields-next}
+use Rattle.ac_input.specs.Work.{lookups_per_byte}
+use Rattle.ac_automaton.specs.Ahead.{less_ahead, most_ahead}
+use Rattle.ac_automaton.specs.Automaton.{searched}
+use Rattle.ac_automaton.proofs.overlapping.OverlappingAheadLemmas.{HasRun, come-shown, less-counted, run-looks, run-on}
+use Rattle.ac_automaton.proofs.overlapping.OverlappingStateLemmas.{shown-counted, stands-work, yields-next}
+use Rattle.ac_automaton.proofs.overlapping.iter.FindOverlappingIter.next_counted.Given.{Over}
+use Rattle.ac_automaton.proofs.overlapping.iter.FindOverlappingIter.next_counted.Goals.{After-add-2}
 use Rattle.ac_automaton.proofs.overlapping.iter.FindOverlappingIter.next_counted.Goals as goal
+
+-- what the call leaves
+ran : (g : Over) (c : After-add-2 g) → HasRun g.A.Automaton c.self.inside.automaton.now c.self.inside.input c.self.inside.shown.value c.show_next-shown.result c.with_found-self-inside.result.value c.add.new.self c.show_next-shown.new.ahead
+ran g c =
+    let i = c.self.inside in
+    let inv = c.self.invariant in
+    let shown = c.show_next-shown in
+    run-on g.A.Automaton i.automaton.now i.input i.place i.shown.value shown.result c.with_found-self-inside.result.value i.sums c.add.new.self c.new-done.result shown.new.steps i.ahead shown.new.ahead inv.3 inv.4 inv.6 shown.ensures.shows shown.ensures.paid c.new-done.ensures c.add.ensures c.with_found-self-inside.ensures
 
 pub invariant_of-self : goal.invariant_of-self
 invariant_of-self g c =
-    let i = c.self.inside in
-    let m = (g.A.Automaton.built i.automaton.now).dictionary in
-    let d = (g.A.Automaton.built i.automaton.now).deterministic in
-    let s = search_of m i.input.anchored i.input.haystack i.input.span in
-    let R = g.A.Automaton.Reaches i.automaton.now i.input.anchored in
-    let E = g.A.Automaton.matches i.automaton.now in
-    let stands = c.self.invariant.2 in
-    let shows = c.search_overlapping_ahead-shown.ensures.shows (drop i.shown.value (listing_of s)) stands.left in
-    let after = stands-after R E m d s i.place i.shown.value c.search_overlapping_ahead-shown.result i.sums c.new-done.result c.search_overlapping_ahead-shown.new.steps c.add.new.self stands shows c.search_overlapping_ahead-shown.ensures.pays c.new-done.ensures c.add.ensures in
-    (c.self.invariant.0, c.self.invariant.1, subst (λ (k : ℕ). StandsAt R E m d s c.search_overlapping_ahead-shown.result.place k c.add.new.self) (sym c.with_found-self-inside.ensures) after, counted-after (g.A.Automaton.built i.automaton.now) i.input i.place c.search_overlapping_ahead-shown.result i.sums c.new-done.result c.search_overlapping_ahead-shown.new.steps c.add.new.self c.self.invariant.3 c.search_overlapping_ahead-shown.ensures.counts c.new-done.ensures c.add.ensures, c.search_overlapping_ahead-shown.ensures.known)
+    let inv = c.self.invariant in
+    let run = ran g c in
+    (inv.0, inv.1, inv.2, run.stands, run.counted, c.show_next-shown.ensures.ahead, run.made)
 
 pub returns-clause-gives : goal.returns-clause-gives
 returns-clause-gives g c =
     let i = c.self.inside in
-    let s = search_of (g.A.Automaton.built i.automaton.now).dictionary i.input.anchored i.input.haystack i.input.span in
-    let L = listing_of s in
+    let L = listing_of (searched (g.A.Automaton.built i.automaton.now) i.input) in
     let n : ℕ = i.shown.value in
-    let r = c.search_overlapping_ahead-shown.result.found in
-    let stands = c.self.invariant.2 in
-    let shows = c.search_overlapping_ahead-shown.ensures.shows (drop n L) stands.left in
-    let yields = yields-next L n r shows.0 in
+    let r = c.show_next-shown.result.found in
+    let yields = yields-next L n r (ran g c).shows.0 in
     let counted = subst (λ (k : ℕ). MatchOption r ((drop n L ≡ []) × (drop k L ≡ [])) (λ o. drop n L ≡ o ∷ drop k L)) (sym c.with_found-self-inside.ensures) yields in
     (rw (← c.self.view_is) counted, search rules)
 
 pub returns-clause-cost : goal.returns-clause-cost
 returns-clause-cost g c =
     let i = c.self.inside in
-    let m = (g.A.Automaton.built i.automaton.now).dictionary in
-    let d = (g.A.Automaton.built i.automaton.now).deterministic in
-    let s = search_of m i.input.anchored i.input.haystack i.input.span in
-    let R = g.A.Automaton.Reaches i.automaton.now i.input.anchored in
-    let E = g.A.Automaton.matches i.automaton.now in
-    let stands = c.self.invariant.2 in
-    let shows = c.search_overlapping_ahead-shown.ensures.shows (drop i.shown.value (listing_of s)) stands.left in
-    let after = stands-after R E m d s i.place i.shown.value c.search_overlapping_ahead-shown.result i.sums c.new-done.result c.search_overlapping_ahead-shown.new.steps c.add.new.self stands shows c.search_overlapping_ahead-shown.ensures.pays c.new-done.ensures c.add.ensures in
-    let lives = λ (text : List ℕ) (sid : StateID) (reads : R text sid). g.met.A.Automaton.lives i.automaton.now i.input.anchored text sid reads in
-    let work = stands-work R E m d s c.search_overlapping_ahead-shown.result.place (if is_some c.search_overlapping_ahead-shown.result.found then i.shown.value + 1 else i.shown.value) c.add.new.self lives after in
-    (search rules, record { looked = work.looked; scanned = work.scanned; moved = work.moved })
+    let a = i.automaton.now in
+    let inv = c.self.invariant in
+    let shown = c.show_next-shown in
+    let run = ran g c in
+    let b = g.A.Automaton.built a in
+    let s = searched b i.input in
+    let lives = g.met.A.Automaton.lives a i.input.anchored in
+    let work = stands-work (g.A.Automaton.Reaches a i.input.anchored) (g.A.Automaton.matches a) b.dictionary b.deterministic s shown.result.place c.with_found-self-inside.result.value (less_ahead c.add.new.self shown.new.ahead) lives run.stands in
+    let looks = run-looks i.reads_ahead g.A.Automaton a i.input shown.result.place c.with_found-self-inside.result.value c.add.new.self shown.new.ahead inv.0 lives run.stands shown.ensures.ahead in
+    let come = come-shown b i.input shown.result.place shown.result.found inv.1 run.shows.2 in (
+      search rules,
+      record { looked = looks.0; scanned = work.scanned; moved = work.moved },
+      subst (λ (at : ℕ). c.add.new.self.looked.value ≤ lookups_per_byte b.deterministic * (at - i.input.span.start) + most_ahead) come looks.1,
+    )
 
 pub returns-clause-counted : goal.returns-clause-counted
 returns-clause-counted g c =
     let i = c.self.inside in
     let b = g.A.Automaton.built i.automaton.now in
-    let shows = c.search_overlapping_ahead-shown.ensures.shows (drop i.shown.value (listing_of (search_of b.dictionary i.input.anchored i.input.haystack i.input.span))) c.self.invariant.2.left in
-    shown-counted b i.input c.search_overlapping_ahead-shown.result c.add.new.self (counted-after b i.input i.place c.search_overlapping_ahead-shown.result i.sums c.new-done.result c.search_overlapping_ahead-shown.new.steps c.add.new.self c.self.invariant.3 c.search_overlapping_ahead-shown.ensures.counts c.new-done.ensures c.add.ensures) shows.2
+    let shown = c.show_next-shown in
+    let run = ran g c in
+    less-counted b i.input _ c.add.new.self shown.new.ahead (shown-counted b i.input shown.result (less_ahead c.add.new.self shown.new.ahead) run.counted run.shows.2)

@@ -1,12 +1,39 @@
 -- A search reads on to the next state that matches.
+use Rattle.std.proofs.Common.{◌≡◌, ◌+◌, ◌-◌, ℕ, None, subst, arith}
+use Rattle.ac_input.specs.Number.{StateID}
 use Rattle.ac_input.specs.declared.search.Anchored.TheVariants.{No}
-use Rattle.std.proofs.Common.{arith}
-use Rattle.ac_automaton.proofs.stream.StreamListingLemmas.{reads-on}
+use Rattle.ac_automaton.specs.FindAhead.{IsAheadOf}
+use Rattle.ac_automaton.proofs.overlapping.OverlappingAheadLemmas.{onward-stays, settles-none}
+use Rattle.ac_automaton.proofs.stream.StreamListingLemmas.{reads-nothing, reads-on}
 use Rattle.ac_automaton.proofs.stream.overlapping.search.read_on.Goals as goal
 
+pub returns-then-from-held-clause-reads : goal.returns-then-from-held-clause-reads
+returns-then-from-held-clause-reads g c = (
+  c.args.steps.now,
+  settles-none c.args.ahead.now c.args.steps.now,
+  λ s is.
+      let a = c.args.automaton.now in
+      reads-nothing (g.A.Automaton.Reaches a No) (g.A.Automaton.matches a) (g.A.Automaton.built a) s c.args.place.now c.args.held.now c.args.steps.now is c.requires.given c.if-from-held.true,
+)
+
 pub returns-clause-reads : goal.returns-clause-reads
-returns-clause-reads g c = λ s is.
+returns-clause-reads g c =
     let a = c.args.automaton.now in
     let stop = c.advance_to_match-stop in
-    reads-on (g.A.Automaton.Reaches a) (g.A.Automaton.matches a) (g.A.Automaton.built a) s c.args.place.now c.args.held.now stop.result c.list_len.result c.args.steps.now stop.new.steps
-    (g.met.A.Automaton.tells a No) (g.met.A.Automaton.lives a No) is c.requires.given c.if-from-held.false stop.ensures.goes stop.ensures.cost c.list_len.ensures (omega (arith, c.list_len.type_inv))
+    let cost = stop.ensures.cost in (
+      cost.0,
+      cost.1,
+      λ s is.
+          reads-on (g.A.Automaton.Reaches a) (g.A.Automaton.matches a) (g.A.Automaton.built a) s c.args.place.now c.args.held.now stop.result c.list_len.result c.args.steps.now cost.0
+          (g.met.A.Automaton.tells a No) (g.met.A.Automaton.lives a No) is c.requires.given c.if-from-held.false stop.ensures.goes cost.2 c.list_len.ensures (omega (arith, c.list_len.type_inv)),
+    )
+
+pub returns-clause-ahead : goal.returns-clause-ahead
+returns-clause-ahead g c =
+    let a = c.args.automaton.now in
+    let stop = c.advance_to_match-stop in
+    let place = c.args.place.now in
+    let from = c.requires.stands.1.stands.from in
+    let at : place.at - place.from + stop.result.taken ≡ place.at + stop.result.taken - place.from = omega (arith, from) in
+    subst (λ (n : ℕ). IsAheadOf g.A.Automaton a None c.args.held.now n stop.result.sid stop.new.ahead) at
+    (subst (λ (sid : StateID). IsAheadOf g.A.Automaton a None c.args.held.now (place.at - place.from + stop.result.taken) sid stop.new.ahead) (onward-stays (g.A.Automaton.matches a) stop.result.sid) stop.ensures.ahead)

@@ -1,10 +1,11 @@
 -- A search that has read nothing stands in the start state.
-use Rattle.std.proofs.Common.{[], false, subst, sym, arith}
+use Rattle.std.proofs.Common.{[], None, false, subst, sym, arith}
 use Rattle.ac_input.specs.declared.search.Anchored.TheVariants.{No}
+use Rattle.ac_automaton.specs.Ahead.{less_ahead}
 use Rattle.ac_automaton.specs.Stream.StreamListing.{IsOnListing, ListingProgress, fresh_listing}
 use Rattle.ac_automaton.specs.Stream.StreamListingSearch.{IsListingSearch}
-use Rattle.ac_automaton.proofs.ahead.AheadLemmas.{blank-notes}
-use Rattle.ac_automaton.proofs.stream.StreamListingSearchLemmas.{first_place, fresh-listing-right, fresh-listing-view}
+use Rattle.ac_automaton.proofs.ahead.AheadLemmas.{ahead-none}
+use Rattle.ac_automaton.proofs.stream.StreamListingSearchLemmas.{first_place, fresh-listing-right, fresh-listing-view, less-none}
 use Rattle.ac_automaton.proofs.stream.overlapping.search.ListingSearch.beginning.Given.{Over}
 use Rattle.ac_automaton.proofs.stream.overlapping.search.ListingSearch.beginning.Goals as goal
 
@@ -18,9 +19,13 @@ right g c =
 pub invariant_of-result : goal.invariant_of-result
 invariant_of-result g c =
     let a = c.args.automaton.now in
-    let view = fresh-listing-view (g.A.Automaton.built a) c.empty.result.items c.zero.result.value c.args.start c.list_len.result c.new.result c.empty.ensures c.zero.ensures c.new.ensures in (
-      subst (λ (t : ListingProgress). IsListingSearch (g.A.Automaton.Reaches a No) (g.A.Automaton.matches a) t (first_place c.args.start c.list_len.result) c.zero.result.value c.in_ok-bytes.bytes.len [] 0 false) (sym view) (right g c),
-      blank-notes (g.A.Automaton.Reaches a No) (g.A.Automaton.matches a) _ _ c.none.ensures,
+    let b = g.A.Automaton.built a in
+    let view = fresh-listing-view b c.empty.result.items c.zero.result.value c.args.start c.list_len.result c.new.result c.empty.ensures c.zero.ensures c.new.ensures in
+    let less = fresh-listing-view b c.empty.result.items c.zero.result.value c.args.start c.list_len.result (less_ahead c.new.result c.none.result) c.empty.ensures c.zero.ensures (less-none c.new.result c.none.result c.new.ensures) in (
+      subst IsOnListing (sym view) (right g c).stands.course,
+      subst (λ (t : ListingProgress). IsListingSearch (g.A.Automaton.Reaches a No) (g.A.Automaton.matches a) t (first_place c.args.start c.list_len.result) c.zero.result.value c.in_ok-bytes.bytes.len [] 0 false) (sym less) (right g c),
+      ahead-none b (g.A.Automaton.Reaches a No) (g.A.Automaton.matches a) None [] 0 c.args.start c.none.result c.none.ensures.room c.none.ensures.none (λ standard. omega (arith, c.none.ensures.nothing)),
+      omega (arith, c.none.ensures.nothing),
     )
 
 pub returns-clause-fresh : goal.returns-clause-fresh

@@ -1,14 +1,15 @@
--- Each lane has walked, and every note is true.
+-- Each lane has read as much, and its notes cover it.
 use Rattle.std.proofs.Common.{◌-◌}
 use Rattle.ac_input.specs.declared.search.Anchored.TheVariants.{No}
-use Rattle.ac_automaton.specs.Ahead.{AreNotes, HaveLeft, HaveWalked, is_up_to}
-use Rattle.ac_automaton.proofs.lanes.note_ahead.Given as goal
+use Rattle.ac_automaton.specs.Ahead.{HaveNoted, HaveRead, HaveRoomFor, HaveWalked, is_up_to}
+use Rattle.ac_automaton.proofs.lanes.read_lanes.Given as goal
 
 abbrev pub invariant-loop-left : goal.invariant-loop-left
 invariant-loop-left g l = record {
-  left : HaveLeft l.left l.lanes;
+  left : HaveRoomFor l.left l.lanes;
   walked : HaveWalked (g.A.LookUp.Reaches l.automaton No) (is_up_to l.last) l.bytes l.lanes;
-  known : AreNotes g.A.LookUp.Reaches g.A.LookUp.matches l.automaton l.bytes l.notes;
+  noted : HaveNoted g.A.LookUp l.automaton l.anew l.bytes l.notes l.initial.lanes l.lanes;
+  read : HaveRead l.initial.lanes l.lanes l.initial.steps l.steps;
 }
 
 abbrev pub decreases-loop-left : goal.decreases-loop-left

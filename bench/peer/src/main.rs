@@ -1,7 +1,7 @@
 //! The public Rust crate behind two command lines of this repository, for comparison.
 //!
 //! `peer MODE RULES [--kind KIND] [--engine ENGINE]` does what `acsub` does: it replaces or lists in standard input what the rules
-//! of a file of hex match. `peer in-memory WORDS FILE PASSES ENGINE KIND` does what `in_memory` does: it times searches of a file
+//! of a file of hex match. `peer in-memory WORDS FILE PASSES ENGINE KIND` does what `bench_in_memory` does: it times searches of a file
 //! that is held. An ENGINE is `auto`, `nfa` or `dfa`. Faults end it by a panic.
 use aho_corasick::{AhoCorasick, AhoCorasickBuilder, MatchKind};
 use std::io::{self, BufWriter, Read, Write};

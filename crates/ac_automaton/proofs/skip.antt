@@ -1,3 +1,4 @@
 pub mod IdleLemmas
 pub mod PassingLemmas
 pub mod ReadOnLemmas
+pub mod StopLemmas

@@ -3,6 +3,7 @@ pub mod DecideLemmas
 pub mod DecideWalkLemmas
 pub mod SearchAheadLemmas
 pub mod SearchLemmas
+pub mod SequenceLemmas
 pub mod StreamAheadLemmas
 pub mod StreamAnswerLemmas
 pub mod StreamBudgetLemmas
@@ -13,7 +14,6 @@ pub mod StreamLeftLemmas
 pub mod StreamLemmas
 pub mod StreamListingLemmas
 pub mod StreamListingSearchLemmas
-pub mod StreamOverlappingIterLemmas
 pub mod StreamPushLemmas
 pub mod StreamReplaceLemmas
 pub mod StreamReplacerLemmas

@@ -26,7 +26,8 @@ noted_len [] = 0
 noted_len (note ∷ notes) = note.len + noted_len notes
 
 -- The bytes of a note, of which there are some, lead from one state to another, and no state between the two matches.
-pub record IsNote (Reaches : List ℕ → StateID → Type 0) (matches : StateID → List ℕ) (bytes : List ℕ) (note : Note) : Type 0 where
+pub record IsNote (Reaches : List ℕ → StateID → Type 0) (matches : StateID → List ℕ) (bytes : List ℕ)
+    (note : Note) : Type 0 where
   pub some : 0 < note.len
   pub within : note.from + note.len ≤ length bytes
   pub begins : IsReached Reaches note.sid
@@ -34,7 +35,8 @@ pub record IsNote (Reaches : List ℕ → StateID → Type 0) (matches : StateID
   pub plain : PassesPlain Reaches (is_matching matches) note.sid (drop note.from bytes) note.len
 
 -- Each text that ends in the byte leads a search to this one state, where no pattern matches.
-pub record Frees (Reaches : List ℕ → StateID → Type 0) (matches : StateID → List ℕ) (byte : ℕ) (sid : StateID) : Type 0 where
+pub record Frees (Reaches : List ℕ → StateID → Type 0) (matches : StateID → List ℕ) (byte : ℕ)
+    (sid : StateID) : Type 0 where
   pub only : (text : List ℕ) (other : StateID) → Reaches (text ++ byte ∷ []) other → other ≡ sid
   pub quiet : matches sid ≡ []
 
@@ -42,38 +44,50 @@ pub record Frees (Reaches : List ℕ → StateID → Type 0) (matches : StateID 
 abbrev pub onward : (StateID → List ℕ) → Option StateID → StateID → StateID
 onward matches anew sid = if is_matching matches sid then unwrap_or anew sid else sid
 
--- A search that stands at a place in a state comes to the note and takes it: the note begins there in that state, or later, after a
+-- A search that stands at a place in a state comes to the note and takes it: the note begins there in that state, or
+-- later, after a
 -- byte that frees the search for the note's state.
 pub record ComesTo (Free : ℕ → StateID → Type 0) (bytes : List ℕ) (at : ℕ) (sid : StateID) (note : Note) : Type 0 where
   pub later : at ≤ note.from
   pub here : at ≡ note.from → note.sid ≡ sid
   pub freed : at < note.from → Free (get_or bytes (note.from - 1) 0) note.sid
 
--- A search that stands at a place in a state takes each of these notes in order, and then stands at another place in another state.
+-- A search that stands at a place in a state takes each of these notes in order, and then stands at another place in
+-- another state.
 -- Between them lie bytes that free it.
-abbrev pub TakesBy : (ℕ → StateID → Type 0) → (StateID → List ℕ) → Option StateID → List ℕ → ℕ → StateID → List Note → ℕ → StateID → Type 0
+abbrev pub TakesBy : (ℕ → StateID → Type 0) → (StateID → List ℕ) → Option StateID → List ℕ → ℕ → StateID → List Note → ℕ
+    → StateID → Type 0
 TakesBy Free matches anew bytes at sid [] to next = (to ≡ at) × (next ≡ sid)
-TakesBy Free matches anew bytes at sid (note ∷ notes) to next = ComesTo Free bytes at sid note × TakesBy Free matches anew bytes (note.from + note.len) (onward matches anew note.next) notes to next
+TakesBy Free matches anew bytes at sid (note ∷ notes) to next =
+    ComesTo Free bytes at sid note
+    × TakesBy Free matches anew bytes (note.from + note.len) (onward matches anew note.next) notes to next
 
 -- the bytes that free a search are those that lead each one to the state
 abbrev pub IsNext : (List ℕ → StateID → Type 0) → (StateID → List ℕ) → List ℕ → ℕ → StateID → Note → Type 0
 IsNext Reaches matches = ComesTo (Frees Reaches matches)
 
 -- a search takes each of these notes, and between them lie bytes that lead each search to one state
-abbrev pub TakesTo : (List ℕ → StateID → Type 0) → (StateID → List ℕ) → Option StateID → List ℕ → ℕ → StateID → List Note → ℕ → StateID → Type 0
+abbrev pub TakesTo : (List ℕ → StateID → Type 0) → (StateID → List ℕ) → Option StateID → List ℕ → ℕ → StateID
+    → List Note → ℕ → StateID → Type 0
 TakesTo Reaches matches = TakesBy (Frees Reaches matches) matches
 
 -- a search that stands at a place in a state takes each of these notes, in order
-abbrev pub TakesEachBy : (ℕ → StateID → Type 0) → (StateID → List ℕ) → Option StateID → List ℕ → ℕ → StateID → List Note → Type 0
-TakesEachBy Free matches anew bytes at sid notes = (to : ℕ) × (next : StateID) × TakesBy Free matches anew bytes at sid notes to next
+abbrev pub TakesEachBy : (ℕ → StateID → Type 0) → (StateID → List ℕ) → Option StateID → List ℕ → ℕ → StateID → List Note
+    → Type 0
+TakesEachBy Free matches anew bytes at sid notes =
+    (to : ℕ) × (next : StateID) × TakesBy Free matches anew bytes at sid notes to next
 
 -- the same, where the bytes between lead each search to one state
-abbrev pub TakesEach : (List ℕ → StateID → Type 0) → (StateID → List ℕ) → Option StateID → List ℕ → ℕ → StateID → List Note → Type 0
+abbrev pub TakesEach : (List ℕ → StateID → Type 0) → (StateID → List ℕ) → Option StateID → List ℕ → ℕ → StateID
+    → List Note → Type 0
 TakesEach Reaches matches = TakesEachBy (Frees Reaches matches) matches
 
--- An automaton has read so many bytes ahead of a search, of the next `len` from a place on: just those that these notes cover. It
+-- An automaton has read so many bytes ahead of a search, of the next `len` from a place on: just those that these notes
+-- cover. It
 -- looked at one state for each. A search of the standard kind takes each note.
-pub record ReadsAheadBy (Free : ℕ → StateID → Type 0) (b : Built) (Reaches : List ℕ → StateID → Type 0) (matches : StateID → List ℕ) (anew : Option StateID) (sid : StateID) (bytes : List ℕ) (at len read : ℕ) (notes : List Note) (before after : Steps) : Type 0 where
+pub record ReadsAheadBy (Free : ℕ → StateID → Type 0) (b : Built) (Reaches : List ℕ → StateID → Type 0)
+    (matches : StateID → List ℕ) (anew : Option StateID) (sid : StateID) (bytes : List ℕ) (at len read : ℕ)
+    (notes : List Note) (before after : Steps) : Type 0 where
   pub are : All (IsNote Reaches matches bytes) notes
   pub within : All (λ note. (at ≤ note.from) × (note.from + note.len ≤ at + len)) notes
   pub covered : noted_len notes ≡ read
@@ -82,7 +96,8 @@ pub record ReadsAheadBy (Free : ℕ → StateID → Type 0) (b : Built) (Reaches
   pub taken : b.dictionary.kind ≡ Standard → TakesEachBy Free matches anew bytes at sid notes
 
 -- the same, where the bytes between the notes lead each search to one state
-abbrev pub ReadsAhead : Built → (List ℕ → StateID → Type 0) → (StateID → List ℕ) → Option StateID → StateID → List ℕ → ℕ → ℕ → ℕ → List Note → Steps → Steps → Type 0
+abbrev pub ReadsAhead : Built → (List ℕ → StateID → Type 0) → (StateID → List ℕ) → Option StateID → StateID → List ℕ → ℕ
+    → ℕ → ℕ → List Note → Steps → Steps → Type 0
 ReadsAhead b Reaches matches = ReadsAheadBy (Frees Reaches matches) b Reaches matches
 
 -- ---- what a search keeps of it
@@ -95,12 +110,15 @@ left_notes ahead = drop ahead.next (take ahead.end ahead.notes)
 abbrev pub bytes_ahead : Ahead → ℕ
 bytes_ahead ahead = noted_len (left_notes ahead) + ahead.lost.value
 
--- What was read ahead of a search that stands at a place of the bytes in a state. A search of the standard kind loses no note.
-pub record IsAhead (b : Built) (Reaches : List ℕ → StateID → Type 0) (matches : StateID → List ℕ) (anew : Option StateID) (bytes : List ℕ) (at : ℕ) (sid : StateID) (ahead : Ahead) : Type 0 where
+-- What was read ahead of a search that stands at a place of the bytes in a state. A search of the standard kind loses
+-- no note.
+pub record IsAhead (b : Built) (Reaches : List ℕ → StateID → Type 0) (matches : StateID → List ℕ)
+    (anew : Option StateID) (bytes : List ℕ) (at : ℕ) (sid : StateID) (ahead : Ahead) : Type 0 where
   pub room : ahead.end ≤ length ahead.notes
   pub are : All (IsNote Reaches matches bytes) (left_notes ahead)
   pub most : noted_len (left_notes ahead) ≤ most_ahead
-  pub taken : b.dictionary.kind ≡ Standard → (ahead.lost.value ≡ 0) × TakesEach Reaches matches anew bytes at sid (left_notes ahead)
+  pub taken : b.dictionary.kind ≡ Standard
+      → (ahead.lost.value ≡ 0) × TakesEach Reaches matches anew bytes at sid (left_notes ahead)
 
 -- of some notes, the first that begins at the place or later, and those after it
 abbrev pub notes_from : ℕ → List Note → List Note
@@ -127,7 +145,8 @@ pub record HasForgotten (before : Ahead) (place : ℕ) (after : Ahead) : Type 0 
   pub until : after.until ≡ place
   pub room : after.end ≤ length after.notes
 
--- Before these bytes, `base` bytes were read. No byte of all these was read ahead twice, and none after the place up to which nothing
+-- Before these bytes, `base` bytes were read. No byte of all these was read ahead twice, and none after the place up to
+-- which nothing
 -- more is read ahead.
 abbrev pub IsReadOnce : ℕ → List ℕ → Ahead → Type 0
 IsReadOnce base bytes ahead = bytes_ahead ahead ≤ base + min ahead.until (length bytes)
@@ -136,7 +155,8 @@ IsReadOnce base bytes ahead = bytes_ahead ahead ≤ base + min ahead.until (leng
 abbrev pub StaysReadOnce : List ℕ → Ahead → Ahead → Type 0
 StaysReadOnce bytes before after = (base : ℕ) → IsReadOnce base bytes before → IsReadOnce base bytes after
 
--- What a call's bytes cost, whenever they were looked at: the looks that the call made, and those that were made ahead of it, less
+-- What a call's bytes cost, whenever they were looked at: the looks that the call made, and those that were made ahead
+-- of it, less
 -- those that it made ahead of later bytes.
 pub record Settles (before after : Ahead) (steps paid : Steps) : Type 0 where
   pub looked : paid.looked.value + bytes_ahead after ≡ steps.looked.value + bytes_ahead before
@@ -169,7 +189,8 @@ pub record EachPair (R : Lane → Lane → Type 0) (before after : Lanes) : Type
 
 -- a lane that has read nothing yet
 abbrev pub lane_from : ℕ → StateID → ℕ → ℕ → ℕ → Lane
-lane_from at sid end slot slots = record { from = at; first = sid; at = at; sid = sid; end = end; slot = slot; slots = slots }
+lane_from at sid end slot slots =
+    record { from = at; first = sid; at = at; sid = sid; end = end; slot = slot; slots = slots }
 
 -- A lane may begin at the place, past another place and at most so far: the byte before it is one of these.
 pub record MayBegin (after : List Bool) (bytes : List ℕ) (from to place : ℕ) : Type 0 where
@@ -179,7 +200,8 @@ pub record MayBegin (after : List Bool) (bytes : List ℕ) (from to place : ℕ)
   pub is : IsTrue (has after (get_or bytes (place - 1) 0))
 
 -- Walks side by side are cut after the byte, where this is the state.
-pub record IsLaneCut (after : List Bool) (start : StateID) (matches : StateID → List ℕ) (byte : ℕ) (sid : StateID) : Type 0 where
+pub record IsLaneCut (after : List Bool) (start : StateID) (matches : StateID → List ℕ) (byte : ℕ)
+    (sid : StateID) : Type 0 where
   pub small : byte < 256
   pub is : IsTrue (has after byte)
   pub state : sid ≡ start
@@ -199,9 +221,11 @@ pub record LaneBegins (at : ℕ) (sid : StateID) (slots : ℕ) (lane : Lane) : T
 abbrev pub HaveOwnNotes : Lanes → Type 0
 HaveOwnNotes lanes = (lanes.a.slots ≤ lanes.b.slot) × (lanes.b.slots ≤ lanes.c.slot) × (lanes.c.slots ≤ lanes.d.slot)
 
--- Four lanes cut the bytes from one place to another. The first begins in the state of the search. Each other one begins in the
+-- Four lanes cut the bytes from one place to another. The first begins in the state of the search. Each other one
+-- begins in the
 -- start, just after one of the bytes of `after`.
-pub record CutBytes (after : List Bool) (bytes : List ℕ) (at : ℕ) (sid start : StateID) (to slots : ℕ) (lanes : Lanes) : Type 0 where
+pub record CutBytes (after : List Bool) (bytes : List ℕ) (at : ℕ) (sid start : StateID) (to slots : ℕ)
+    (lanes : Lanes) : Type 0 where
   pub a : LaneBegins at sid slots lanes.a
   pub b : LaneBegins lanes.a.end start slots lanes.b
   pub c : LaneBegins lanes.b.end start slots lanes.c
@@ -213,9 +237,11 @@ pub record CutBytes (after : List Bool) (bytes : List ℕ) (at : ℕ) (sid start
   pub first : lanes.a.slot ≡ 0
   pub apart : HaveOwnNotes lanes
 
--- The bytes that a lane has read since its last note lead from its first state to the one where it stands, and a search would stop
+-- The bytes that a lane has read since its last note lead from its first state to the one where it stands, and a search
+-- would stop
 -- at no state between.
-pub record WalkedTo (Reaches : List ℕ → StateID → Type 0) (stops : StateID → Bool) (bytes : List ℕ) (lane : Lane) : Type 0 where
+pub record WalkedTo (Reaches : List ℕ → StateID → Type 0) (stops : StateID → Bool) (bytes : List ℕ)
+    (lane : Lane) : Type 0 where
   pub ordered : lane.from ≤ lane.at
   pub within : lane.at ≤ length bytes
   pub begins : IsReached Reaches lane.first
@@ -228,7 +254,8 @@ abbrev pub is_up_to : StateID → StateID → Bool
 is_up_to last sid = nat_le sid last
 
 -- A lane that has read on, if at all, to a state at which a search wouldn't stop; its end lies within the bytes.
-pub record HasWalked (Reaches : List ℕ → StateID → Type 0) (stops : StateID → Bool) (bytes : List ℕ) (lane : Lane) : Type 0 where
+pub record HasWalked (Reaches : List ℕ → StateID → Type 0) (stops : StateID → Bool) (bytes : List ℕ)
+    (lane : Lane) : Type 0 where
   pub to : WalkedTo Reaches stops bytes lane
   pub quiet : lane.from < lane.at → ¬ IsTrue (stops lane.sid)
   pub inside : (lane.at ≤ lane.end) × (lane.end ≤ length bytes)
@@ -238,7 +265,8 @@ abbrev pub HaveWalked : (List ℕ → StateID → Type 0) → (StateID → Bool)
 HaveWalked Reaches stops bytes lanes = EachLane (HasWalked Reaches stops bytes) lanes
 
 -- A lane has read at least one byte more, and may stand in a state at which a search stops.
-pub record HasGone (Reaches : List ℕ → StateID → Type 0) (stops : StateID → Bool) (bytes : List ℕ) (before after : Lane) : Type 0 where
+pub record HasGone (Reaches : List ℕ → StateID → Type 0) (stops : StateID → Bool) (bytes : List ℕ)
+    (before after : Lane) : Type 0 where
   pub to : WalkedTo Reaches stops bytes after
   pub on : before.at < after.at
   pub within : after.at ≤ after.end
@@ -289,34 +317,46 @@ StaysIn size begun lane = (begun.slot ≤ lane.slot) × (lane.slot ≤ begun.slo
 abbrev pub lane_notes : List Note → Lane → Lane → List Note
 lane_notes notes begun lane = slice_range notes begun.slot lane.slot
 
--- A lane's notes cover what it has read up to its last note, and each begins where the one before it ends. Where this is sure, a
+-- A lane's notes cover what it has read up to its last note, and each begins where the one before it ends. Where this
+-- is sure, a
 -- search that comes to the lane takes each.
-pub record HasNoted (Reaches : List ℕ → StateID → Type 0) (matches : StateID → List ℕ) (anew : Option StateID) (sure : Type 0) (bytes : List ℕ) (notes : List Note) (begun lane : Lane) : Type 0 where
+pub record HasNoted (Reaches : List ℕ → StateID → Type 0) (matches : StateID → List ℕ) (anew : Option StateID)
+    (sure : Type 0) (bytes : List ℕ) (notes : List Note) (begun lane : Lane) : Type 0 where
   pub slots : (begun.slot ≤ lane.slot) × (lane.slot ≤ lane.slots) × (lane.slots ≡ begun.slots)
   pub end : lane.end ≡ begun.end
   pub covered : begun.from + noted_len (lane_notes notes begun lane) ≡ lane.from
   pub are : All (IsNote Reaches matches bytes) (lane_notes notes begun lane)
   pub within : All (λ note. (begun.from ≤ note.from) × (note.from + note.len ≤ lane.from)) (lane_notes notes begun lane)
-  pub taken : sure → TakesBy NoByte matches anew bytes begun.from begun.first (lane_notes notes begun lane) lane.from lane.first
+  pub taken : sure → TakesBy NoByte matches anew bytes begun.from begun.first (lane_notes notes begun lane) lane.from
+      lane.first
   pub full : lane.slots ≤ lane.slot → lane.from ≡ lane.at
 
--- The notes of each lane cover what it has read up to its last note. Under the standard kind, a search that comes to the lane takes
+-- The notes of each lane cover what it has read up to its last note. Under the standard kind, a search that comes to
+-- the lane takes
 -- each.
 abbrev pub HaveNoted : {S : Type 0} → Ghosts S → S → Option StateID → List ℕ → List Note → Lanes → Lanes → Type 0
-HaveNoted A automaton anew bytes notes begun lanes = EachPair (HasNoted (A.Reaches automaton No) (A.matches automaton) anew ((A.built automaton).dictionary.kind ≡ Standard) bytes notes) begun lanes
+HaveNoted A automaton anew bytes notes begun lanes =
+    EachPair
+    (HasNoted (A.Reaches automaton No) (A.matches automaton) anew ((A.built automaton).dictionary.kind ≡ Standard) bytes
+    notes) begun lanes
 
 -- the notes of all four lanes, in order
 abbrev pub lanes_notes : List Note → Lanes → Lanes → List Note
-lanes_notes notes begun lanes = lane_notes notes begun.a lanes.a ++ (lane_notes notes begun.b lanes.b ++ (lane_notes notes begun.c lanes.c ++ lane_notes notes begun.d lanes.d))
+lanes_notes notes begun lanes =
+    lane_notes notes begun.a lanes.a
+    ++ (lane_notes notes begun.b lanes.b ++ (lane_notes notes begun.c lanes.c ++ lane_notes notes begun.d lanes.d))
 
--- What walking side by side requires of an automaton. It looks at one state for a byte, a search begins in `start`, and no state
+-- What walking side by side requires of an automaton. It looks at one state for a byte, a search begins in `start`, and
+-- no state
 -- after `last` matches. Under the standard kind all others do, and a byte of `after` leads each search to the start.
 pub record MayNote {S : Type 0} (A : Ghosts S) (automaton : S) (start last : StateID) (after : List Bool) : Type 0 where
   pub one : IsTrue (A.built automaton).deterministic
   pub starts : A.Reaches automaton No [] start
   pub quiet : (sid : StateID) → last < sid → A.matches automaton sid ≡ []
-  pub some : (A.built automaton).dictionary.kind ≡ Standard → (sid : StateID) → IsReached (A.Reaches automaton No) sid → sid ≤ last → IsTrue (is_matching (A.matches automaton) sid)
-  pub frees : (A.built automaton).dictionary.kind ≡ Standard → (byte : ℕ) → byte < 256 → IsTrue (has after byte) → (text : List ℕ) (sid : StateID) → A.Reaches automaton No (text ++ byte ∷ []) sid → sid ≡ start
+  pub some : (A.built automaton).dictionary.kind ≡ Standard → (sid : StateID) → IsReached (A.Reaches automaton No) sid
+      → sid ≤ last → IsTrue (is_matching (A.matches automaton) sid)
+  pub frees : (A.built automaton).dictionary.kind ≡ Standard → (byte : ℕ) → byte < 256 → IsTrue (has after byte)
+      → (text : List ℕ) (sid : StateID) → A.Reaches automaton No (text ++ byte ∷ []) sid → sid ≡ start
 
 -- an automaton may walk side by side, where no state after `last` matches
 abbrev pub MayWalkAside : {S : Type 0} → Ghosts S → S → StateID → Type 0

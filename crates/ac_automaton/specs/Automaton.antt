@@ -28,7 +28,8 @@ OwnsPrefilter b = (f : Filter) → b.prefilter ≡ Some f → f.dictionary ≡ b
 
 -- ---- states
 
--- A state that is reached from one start, by some text. Which text is left open: a caller may know only that there is one.
+-- A state that is reached from one start, by some text. Which text is left open: a caller may know only that there is
+-- one.
 abbrev pub IsReached : (List ℕ → StateID → Type 0) → StateID → Type 0
 IsReached Reaches sid = ∥ ((text : List ℕ) × Reaches text sid) ∥₁
 
@@ -45,7 +46,8 @@ abbrev pub Leads : (List ℕ → StateID → Type 0) → StateID → List ℕ �
 Leads Reaches from bytes to = (text : List ℕ) → Reaches text from → Reaches (text ++ bytes) to
 
 -- what it may cost to read these bytes from a state
-abbrev pub IsReadCost : Built → (Anchored → List ℕ → StateID → Type 0) → Anchored → StateID → List ℕ → Steps → Steps → Type 0
+abbrev pub IsReadCost : Built → (Anchored → List ℕ → StateID → Type 0) → Anchored → StateID → List ℕ → Steps → Steps
+    → Type 0
 IsReadCost b Reaches anchored sid bytes old new =
     (text : List ℕ) (before after : Option ℕ) → Reaches anchored text sid
     → IsLive b.dictionary (is_anchored anchored) text before
@@ -62,9 +64,11 @@ TellsDead b dead anchored text = IsTrue dead ↔ IsDead b anchored text
 
 -- at a start where no pattern matches, none of the bytes read is live
 abbrev pub StartIsEmpty : Built → List ℕ → Bool → Anchored → List ℕ → Type 0
-StartIsEmpty b matches start anchored text = IsTrue start → matches ≡ [] → IsLive b.dictionary (is_anchored anchored) text (Some (length text))
+StartIsEmpty b matches start anchored text =
+    IsTrue start → matches ≡ [] → IsLive b.dictionary (is_anchored anchored) text (Some (length text))
 
--- What the result of `is_start` means for a text. A start isn't dead, and has no live byte if no pattern matches there. A state
+-- What the result of `is_start` means for a text. A start isn't dead, and has no live byte if no pattern matches there.
+-- A state
 -- whose text has no live byte is a start.
 pub record StartTells (b : Built) (matches : List ℕ) (start : Bool) (anchored : Anchored) (text : List ℕ) : Type 0 where
   pub alive : IsTrue start → ¬ IsDead b anchored text
@@ -75,17 +79,21 @@ pub record StartTells (b : Built) (matches : List ℕ) (start : Bool) (anchored 
 abbrev pub TellsStart : Built → (Anchored → List ℕ → StateID → Type 0) → (StateID → List ℕ) → StateID → Bool → Type 0
 TellsStart b Reaches matches sid start = AtEach Reaches sid (StartTells b (matches sid) start)
 
--- A state at which a search has more to do than to read on: the text is dead, or patterns match, or it is a start and there is a
+-- A state at which a search has more to do than to read on: the text is dead, or patterns match, or it is a start and
+-- there is a
 -- prefilter to run.
 abbrev pub IsSpecial : Built → List ℕ → Bool → Anchored → List ℕ → Type 0
-IsSpecial b matches start anchored text = IsDead b anchored text ⊎ (matches ≢ []) ⊎ (IsTrue start × (b.prefilter ≢ None))
+IsSpecial b matches start anchored text =
+    IsDead b anchored text ⊎ (matches ≢ []) ⊎ (IsTrue start × (b.prefilter ≢ None))
 
 -- no state on the way is special, except perhaps the last one
 abbrev pub PassesPlain : (List ℕ → StateID → Type 0) → (StateID → Bool) → StateID → List ℕ → ℕ → Type 0
-PassesPlain Reaches special sid bytes taken = (at : ℕ) → 0 < at → at < taken → (mid : StateID) × Leads Reaches sid (take at bytes) mid × ¬ IsTrue (special mid)
+PassesPlain Reaches special sid bytes taken =
+    (at : ℕ) → 0 < at → at < taken → (mid : StateID) × Leads Reaches sid (take at bytes) mid × ¬ IsTrue (special mid)
 
 -- Reading on over bytes stops at the first special state, or after the last byte.
-pub record Advances (Reaches : List ℕ → StateID → Type 0) (special : StateID → Bool) (sid : StateID) (bytes : List ℕ) (stop : Advance) : Type 0 where
+pub record Advances (Reaches : List ℕ → StateID → Type 0) (special : StateID → Bool) (sid : StateID) (bytes : List ℕ)
+    (stop : Advance) : Type 0 where
   pub taken : (stop.taken ≤ length bytes) × (0 < length bytes → 0 < stop.taken)
   pub reads : Leads Reaches sid (take stop.taken bytes) stop.sid
   pub plain : PassesPlain Reaches special sid bytes stop.taken
@@ -112,7 +120,8 @@ refusal_of No = InvalidInputUnanchored
 refusal_of Yes = InvalidInputAnchored
 
 -- the result is the start for this anchoring, or an error if there is none
-abbrev pub AnswersStart : (Anchored → Type 0) → (Anchored → List ℕ → StateID → Type 0) → Anchored → Result StateID MatchErrorKind → Type 0
+abbrev pub AnswersStart : (Anchored → Type 0) → (Anchored → List ℕ → StateID → Type 0) → Anchored
+    → Result StateID MatchErrorKind → Type 0
 AnswersStart supports Reaches anchored (Ok sid) = supports anchored × Reaches anchored [] sid
 AnswersStart supports Reaches anchored (Err error) = (¬ supports anchored × (error ≡ refusal_of anchored))
 
@@ -136,11 +145,14 @@ prefilter_for b Yes = None
 -- what a find may cost, and the least that it counts: each byte that it passes
 pub record IsFindCost (b : Built) (asked : Asked) (before after : Steps) (r : Option Occurrence) : Type 0 where
   pub work : IsFindWork (kind_asked b asked) b.deterministic (searched b asked) r before after
-  pub counted : HasCounted (prefilter_for b asked.anchored) (come_at_least (searched b asked) r - asked.span.start) before after
+  pub counted : HasCounted (prefilter_for b asked.anchored) (come_at_least (searched b asked) r - asked.span.start)
+      before after
 
 -- the result is the match that the search finds, if any, or an error if its anchoring has no start
 abbrev pub Finds : Dictionary → (Anchored → Type 0) → Asked → Result (Option Occurrence) MatchErrorKind → Type 0
-Finds m supports asked (Ok r) = supports asked.anchored × IsBest (asked_kind m.kind asked.earliest) (search_of m asked.anchored asked.haystack asked.span) r
+Finds m supports asked (Ok r) =
+    supports asked.anchored × IsBest (asked_kind m.kind asked.earliest)
+    (search_of m asked.anchored asked.haystack asked.span) r
 Finds m supports asked (Err error) = (¬ supports asked.anchored × (error ≡ refusal_of asked.anchored))
 
 -- what a find may cost; an error costs nothing

@@ -36,15 +36,18 @@ pub record IsQuiet (m : Dictionary) (anchored : Anchored) (text : List ℕ) : Ty
   pub alive : (from : ℕ) × IsLive m (is_anchored anchored) text (Some from)
 
 -- A cursor read on: no state on the way matched or was dead, and this is what the looks cost.
-pub record HasReadOn (b : Built) (anchored : Anchored) (s : Search) (from to : Cursor) (before after : Steps) : Type 0 where
+pub record HasReadOn (b : Built) (anchored : Anchored) (s : Search) (from to : Cursor)
+    (before after : Steps) : Type 0 where
   pub further : from.at < to.at
   pub quiet : (at : ℕ) → from.at < at → at < to.at → IsQuiet b.dictionary anchored (read_to (walked s from) at)
   pub lookups : (live live_after : Option ℕ)
       → IsLive b.dictionary (is_anchored anchored) (read_to (walked s from) from.at) live
       → IsLive b.dictionary (is_anchored anchored) (read_to (walked s from) to.at) live_after
-      → IsLookups b.deterministic (to.at - from.at) (live_len (read_to (walked s from) from.at) live) (live_len (read_to (walked s from) to.at) live_after) before after
+      → IsLookups b.deterministic (to.at - from.at) (live_len (read_to (walked s from) from.at) live)
+      (live_len (read_to (walked s from) to.at) live_after) before after
 
--- Whether an entry counts at a state that was reached by this many bytes. From the anchored start only patterns of that length do.
+-- Whether an entry counts at a state that was reached by this many bytes. From the anchored start only patterns of that
+-- length do.
 abbrev pub counts : Dictionary → Bool → ℕ → ℕ → Bool
 counts m anchored read n = not anchored || (length (get_or m.patterns n []) == read)
 
@@ -72,7 +75,8 @@ ReadsFurther b asked from to before after = HasReadOn b asked.anchored (searched
 
 -- the result is the match of the state where a walk stands
 abbrev pub IsTaken : Built → (StateID → List ℕ) → Asked → Cursor → Option Occurrence → Type 0
-IsTaken b matches asked cursor r = r ≡ taken b.dictionary asked.anchored cursor.at (cursor.at - cursor.from) (matches cursor.sid)
+IsTaken b matches asked cursor r =
+    r ≡ taken b.dictionary asked.anchored cursor.at (cursor.at - cursor.from) (matches cursor.sid)
 
 -- the state is reached by a text of at most `at` bytes
 abbrev pub IsReachedWithin : (List ℕ → StateID → Type 0) → StateID → ℕ → Type 0

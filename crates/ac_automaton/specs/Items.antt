@@ -28,7 +28,9 @@ EachLiesWithin rest b asked s = EachRunFrom (YieldsFirst rest) s (λ p. AllItems
 
 -- each match of a walk lies in the input, and begins where the one before it ended or later
 abbrev pub MatchesAreInOrder : Built → Asked → Walk → Type 0
-MatchesAreInOrder b asked w = EachLiesWithin left_of b asked w × LieInOrder (length b.dictionary.patterns) (length asked.haystack) asked.span.start (left_of w)
+MatchesAreInOrder b asked w =
+    EachLiesWithin left_of b asked w
+    × LieInOrder (length b.dictionary.patterns) (length asked.haystack) asked.span.start (left_of w)
 
 -- a run returns at most one occurrence of each pattern for each place of the haystack, including its end
 abbrev pub AreFewForEach : Built → Asked → Run → Type 0

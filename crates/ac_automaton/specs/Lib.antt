@@ -14,15 +14,14 @@ pub use Rattle.ac_input.specs.Laws.LiveLaws
 pub use Rattle.ac_input.specs.Steps
 pub use Rattle.ac_input.specs.Input
 pub use Rattle.ac_input.specs.Work
-pub mod ReadOn
+pub mod Look
 pub mod Ahead
 pub mod FindAhead
 pub mod Errors
 pub mod Automaton
 pub mod Named
 pub mod Starters
-pub mod Held
-pub mod Passing
+pub mod Skip
 pub mod Cursor
 pub mod Find
 pub mod Iter

@@ -17,7 +17,8 @@ is_starter Many byte = true
 
 -- a byte that is no starter after the addition was none before, and isn't the byte that was added
 abbrev pub AddsStarter : Starters → ℕ → Starters → Type 0
-AddsStarter before added after = (byte : ℕ) → is_starter after byte ≡ false → (is_starter before byte ≡ false) × (byte ≢ added)
+AddsStarter before added after =
+    (byte : ℕ) → is_starter after byte ≡ false → (is_starter before byte ≡ false) × (byte ≢ added)
 
 -- each byte below `limit` that is no starter is idle
 abbrev pub SkipsBelow : (ℕ → Type 0) → ℕ → Starters → Type 0
@@ -29,9 +30,11 @@ pub record IsIdleFront (starters : Starters) (bytes : List ℕ) (len : ℕ) : Ty
   pub idle : (k : ℕ) → k < len → is_starter starters (slice_index bytes k) ≡ false
   pub ends : len < length bytes → is_starter starters (slice_index bytes len) ≡ true
 
--- The first `passed` bytes are passed over, each with one look, and none of them is a starter. In a state other than the start,
+-- The first `passed` bytes are passed over, each with one look, and none of them is a starter. In a state other than
+-- the start,
 -- none is passed.
-pub record PassesIdle (starters : Starters) (start sid : StateID) (bytes : List ℕ) (passed : ℕ) (before after : Steps) : Type 0 where
+pub record PassesIdle (starters : Starters) (start sid : StateID) (bytes : List ℕ) (passed : ℕ)
+    (before after : Steps) : Type 0 where
   pub within : passed ≤ length bytes
   pub at : 0 < passed → sid ≡ start
   pub idle : (k : ℕ) → k < passed → is_starter starters (slice_index bytes k) ≡ false

@@ -5,7 +5,6 @@ pub mod StreamLaws
 pub mod StreamListing
 pub mod StreamListingSearch
 pub mod StreamListingWalk
-pub mod StreamOverlappingIter
 pub mod StreamPush
 pub mod StreamReplace
 pub mod StreamReplaceWith
@@ -15,13 +14,14 @@ pub mod StreamSearch
 pub mod StreamWalk
 use Rattle.std.specs.Prelude.{◌≡◌, ◌≢◌, ◌⊎◌, ℕ, ◌+◌, ◌-◌, ◌*◌, ◌<◌, ◌≤◌, max, Bool, List, [], ◌∷◌, ◌++◌, length, drop, take, false, true, Option, None, Some, Result, Ok, Err}
 use Rattle.std.specs.List.{All, concat}
+use Rattle.ac_input.specs.Number.{usize_max}
 use Rattle.ac_input.specs.declared.search.Anchored.{Anchored}
 use Rattle.ac_input.specs.declared.search.Anchored.TheVariants.{No}
 use Rattle.ac_input.specs.declared.search.MatchKind.{MatchKind}
 use Rattle.ac_input.specs.declared.search.MatchKind.TheVariants.{Standard, LeftmostFirst, LeftmostLongest}
 use Rattle.ac_input.specs.declared.steps.Steps.{Steps}
 use Rattle.ac_input.specs.Laws.BeginningLaws.{IsBeginning}
-use Rattle.ac_input.specs.Computed.{walk_of}
+use Rattle.ac_input.specs.Computed.{listing_of, walk_of}
 use Rattle.ac_input.specs.Cut.{IsCut}
 use Rattle.ac_input.specs.Dictionary.{Dictionary, IsLive, whole}
 use Rattle.ac_input.specs.Occurrence.{Occurrence}
@@ -29,9 +29,8 @@ use Rattle.ac_input.specs.Steps.{Done}
 use Rattle.ac_input.specs.Work.{longest, shortest, lookups_per_byte}
 use Rattle.ac_automaton.specs.Ahead.{most_ahead}
 use Rattle.ac_automaton.specs.Automaton.{Built, refusal_of}
-use Rattle.ac_automaton.specs.Devices.Buffer.{room_for}
+use Rattle.ac_automaton.specs.Devices.Buffer.{least_room, room_for}
 use Rattle.ac_automaton.specs.Devices.Moved.{AllFit, HasGiven}
-use Rattle.ac_automaton.specs.Replace.{matches_in}
 use Rattle.ac_automaton.specs.declared.error.MatchErrorKind.{MatchErrorKind}
 use Rattle.ac_automaton.specs.declared.error.MatchErrorKind.TheVariants.{UnsupportedStream, UnsupportedEmpty}
 use Rattle.ac_automaton.specs.declared.error.StreamError.{StreamError}
@@ -40,11 +39,40 @@ use Rattle.ac_automaton.specs.declared.stream.StreamKinds.{StreamKinds}
 use Rattle.ac_automaton.specs.declared.stream.StreamKinds.TheVariants.{AnyKind, OnlyStandard}
 use Rattle.ac_automaton.specs.declared.watched.Watched.{Watched}
 
--- How far a search of a stream has come: its automaton; the pieces that its reads returned; whether it was told that no more
--- comes; the matches that it returned; where the held bytes begin, which reach to the end of what was read; up to which place the
--- automaton has read; where it last began anew; and how many states it looked at, places it scanned and bytes it moved. It begins
--- anew at first, after a match, and where nothing of what was read is live. Places are counted from the first byte that was read.
-pub record StreamProgress : Type 0 where
+-- ---- what a search of a stream returns
+
+-- the matches under the automaton's kind, one after another; or all occurrences
+pub data Sequence : Type 0 where
+  Picks : Sequence
+  Occurrences : Sequence
+
+-- the items of a text
+abbrev pub items_of : Sequence → Dictionary → List ℕ → List Occurrence
+items_of Picks m x = walk_of m.kind (whole m x false)
+items_of Occurrences m x = listing_of (whole m x false)
+
+-- the place of an item by which its sequence goes on: matches by where they start, occurrences by where they end
+abbrev pub place_of : Sequence → Occurrence → ℕ
+place_of Picks o = o.start
+place_of Occurrences o = o.end
+
+-- how many bytes the buffer has room for
+abbrev pub room_of : Sequence → Built → ℕ
+room_of Picks b = room_for (max (longest b.dictionary.patterns) 1)
+room_of Occurrences b = least_room
+
+-- ---- how far it has come
+
+-- How far a search of a stream has come: its automaton; the pieces that its reads returned; whether it was told that no
+-- more
+-- comes; the items that it returned; where the held bytes begin, which reach to the end of what was read; up to which
+-- place the
+-- automaton has read; before which place it needs no byte any more; and how many states it looked at, places it scanned
+-- and bytes
+-- it moved. For matches `last` is where it last began anew: at first, after a match, and where nothing of what was read
+-- is live.
+-- For occurrences it is `at`. Places are counted from the first byte that was read.
+pub record StreamProgress (sequence : Sequence) : Type 0 where
   pub built : Built
   pub pieces : List (List ℕ)
   pub closed : Bool
@@ -57,27 +85,37 @@ pub record StreamProgress : Type 0 where
   pub moved : ℕ
 
 -- a search that has read nothing yet
-abbrev pub fresh_progress : Built → StreamProgress
-fresh_progress b = record { built = b; pieces = []; closed = false; given = []; from = 0; at = 0; last = 0; looked = 0; scanned = 0; moved = 0 }
+abbrev pub fresh_progress : {q : Sequence} → Built → StreamProgress q
+fresh_progress b =
+    record {
+      built = b;
+      pieces = [];
+      closed = false;
+      given = [];
+      from = 0;
+      at = 0;
+      last = 0;
+      looked = 0;
+      scanned = 0;
+      moved = 0;
+    }
 
 -- the bytes that were read
-abbrev pub read_by : StreamProgress → List ℕ
+abbrev pub read_by : {q : Sequence} → StreamProgress q → List ℕ
 read_by s = concat s.pieces
 
--- how many bytes the buffer has room for
-abbrev pub room_of : Built → ℕ
-room_of b = room_for (max (longest b.dictionary.patterns) 1)
-
--- The place up to which everything is decided: each match not returned yet begins there or later, whatever is still read.
-abbrev pub cut_of : StreamProgress → ℕ
+-- The place up to which everything is decided: each match not returned yet begins there or later, and each occurrence
+-- ends there or
+-- later, whatever is still read.
+abbrev pub cut_of : {q : Sequence} → StreamProgress q → ℕ
 cut_of s = max s.last (s.at - max (longest s.built.dictionary.patterns) 1)
 
 -- few enough bytes that each place is a `usize`
 abbrev pub CanBeCounted : List ℕ → Type 0
-CanBeCounted x = length x ≤ 18446744073709551615
+CanBeCounted x = length x ≤ usize_max
 
 -- the automaton has read all that was read
-abbrev pub IsSearched : StreamProgress → Type 0
+abbrev pub IsSearched : {q : Sequence} → StreamProgress q → Type 0
 IsSearched s = s.at ≡ length (read_by s)
 
 -- ---- when everything is decided
@@ -92,17 +130,19 @@ end_of (o ∷ (next ∷ os)) = end_of (next ∷ os)
 abbrev pub NothingIsLive : Dictionary → List ℕ → Type 0
 NothingIsLive m text = IsLive m false text (Some (length text))
 
--- The matches that a text decides: however it goes on, they are the first ones. Under standard they are all matches of the text.
+-- The items that a text decides: however it goes on, they are the first ones. Under standard they are all items of the
+-- text.
 -- The rest of the text after the last of them isn't dead, so what follows may still change the next one.
-pub record Decides (m : Dictionary) (x : List ℕ) (os : List Occurrence) : Type 0 where
-  pub first : ((more : List ℕ) → IsBeginning os (walk_of m.kind (whole m (x ++ more) false)))
-  pub all : m.kind ≡ Standard → os ≡ walk_of m.kind (whole m x false)
+pub record Decides (q : Sequence) (m : Dictionary) (x : List ℕ) (os : List Occurrence) : Type 0 where
+  pub first : ((more : List ℕ) → IsBeginning os (items_of q m (x ++ more)))
+  pub all : m.kind ≡ Standard → os ≡ items_of q m x
   pub open_ : ¬ IsLive m false (drop (end_of os) x) None
 
--- After a place, a text has at most as many bytes left as the longest pattern has, or one byte; and none, if all of it is decided.
+-- After a place, a text has at most as many bytes left as the longest pattern has, or one byte; and none, if all of it
+-- is decided.
 pub record IsNear (m : Dictionary) (x : List ℕ) (place : ℕ) : Type 0 where
   pub kept : length x ≤ place + max (longest m.patterns) 1
-  pub all : ((os : List Occurrence) → Decides m x os → NothingIsLive m (drop (end_of os) x)) → length x ≤ place
+  pub all : ((os : List Occurrence) → Decides Picks m x os → NothingIsLive m (drop (end_of os) x)) → length x ≤ place
 
 -- the front of a text up to a cut, as far as it can be written
 pub record IsFront (m : Dictionary) (output : List ℕ → List ℕ) (x text : List ℕ) : Type 0 where
@@ -113,12 +153,14 @@ pub record IsFront (m : Dictionary) (output : List ℕ → List ℕ) (x text : L
 
 -- ---- whether a stream can be searched
 
--- there is a start for a search that isn't anchored, the kind is the standard one unless any is accepted, and no pattern is empty
+-- there is a start for a search that isn't anchored, the kind is the standard one unless any is accepted, and no
+-- pattern is empty
 abbrev pub CanStream : StreamKinds → Built → (Anchored → Type 0) → Type 0
 CanStream OnlyStandard b supports = supports No × (b.dictionary.kind ≡ Standard) × (1 ≤ shortest b.dictionary.patterns)
 CanStream AnyKind b supports = supports No × (1 ≤ shortest b.dictionary.patterns)
 
--- the error of a search that isn't supported: there is no start, or else the kind isn't accepted, or else a pattern is empty
+-- the error of a search that isn't supported: there is no start, or else the kind isn't accepted, or else a pattern is
+-- empty
 abbrev pub IsConfigRefusal : StreamKinds → Built → (Anchored → Type 0) → MatchErrorKind → Type 0
 IsConfigRefusal OnlyStandard b supports error =
     (¬ supports No × (error ≡ refusal_of No))
@@ -136,11 +178,16 @@ IsStreamRefusal kinds b supports other = ⊥
 
 -- ---- what holds wherever a search stands
 
--- Whatever is still read, the matches that were returned are the first ones, and all others begin at the cut or later.
-abbrev pub IsDecided : StreamProgress → Type 0
-IsDecided s = (more : List ℕ) → (s.closed ≡ true → more ≡ []) → (rest : List Occurrence) × (matches_in s.built (read_by s ++ more) ≡ s.given ++ rest) × All (λ o. cut_of s ≤ o.start) rest
+-- Whatever is still read, the items that were returned are the first ones, and the places of all others are at the cut
+-- or later.
+abbrev pub IsDecided : {q : Sequence} → StreamProgress q → Type 0
+IsDecided {q} s =
+    (more : List ℕ) → (s.closed ≡ true → more ≡ [])
+    → (rest : List Occurrence) × (items_of q s.built.dictionary (read_by s ++ more) ≡ s.given ++ rest)
+    × All (λ o. cut_of s ≤ place_of q o) rest
 
--- How many of n bytes may be looked at again, with so many matches: none under standard; under a leftmost kind each once, read ahead
+-- How many of n bytes may be looked at again, with so many matches: none under standard; under a leftmost kind each
+-- once, read ahead
 -- in vain, and after each match as many as the longest pattern has, and one.
 abbrev pub again_for : MatchKind → ℕ → ℕ → ℕ → ℕ
 again_for Standard longest n matches = 0
@@ -152,35 +199,43 @@ abbrev pub read_again : Dictionary → ℕ → ℕ → ℕ
 read_again m n matches = again_for m.kind (longest m.patterns) n matches
 
 -- how many bytes a search may have looked at, those that it looked at again included
-abbrev pub read_in_all : StreamProgress → ℕ
+abbrev pub read_in_all : {q : Sequence} → StreamProgress q → ℕ
 read_in_all s = length (read_by s) + read_again s.built.dictionary (length (read_by s)) (length s.given)
 
--- What a search has cost. It made at least one look for each byte that it has passed. In total it made at most one, or two if the
--- automaton isn't deterministic, for each byte that was read, those looked at again included. Under standard it made at most as many
--- for the bytes that it has passed, and one for each byte that was read ahead. It scanned nothing, and moved at most a seventh of the
--- bytes that were read.
-pub record IsWithinStreamBudget (s : StreamProgress) : Type 0 where
+-- What a search has cost. It made at least one look for each byte that it has passed. In total it made at most one, or
+-- two if the
+-- automaton isn't deterministic, for each byte that was read, those looked at again included. Under standard it made at
+-- most as many
+-- for the bytes that it has passed, and one for each byte that was read ahead. It scanned nothing, and moved at most a
+-- seventh of the
+-- bytes that were read. A search for occurrences moved none.
+pub record IsWithinStreamBudget {q : Sequence} (s : StreamProgress q) : Type 0 where
   pub some : s.at ≤ s.looked
   pub looked : s.looked ≤ lookups_per_byte s.built.deterministic * read_in_all s
   pub near : s.built.dictionary.kind ≡ Standard → s.looked ≤ lookups_per_byte s.built.deterministic * s.at + most_ahead
   pub scanned : s.scanned ≡ 0
   pub moved : 7 * s.moved ≤ length (read_by s)
+  pub unmoved : q ≡ Occurrences → s.moved ≡ 0
 
--- What holds of a search wherever it stands. No read returned more than the buffer has room for. The matches that it returned are
--- the first of those of what was read.
-pub record IsOnCourse (s : StreamProgress) : Type 0 where
+-- What holds of a search wherever it stands. No read returned more than the buffer has room for. The items that it
+-- returned are
+-- the first of those of what was read. Only a search under standard returns occurrences, and it needs nothing of what
+-- it has passed.
+pub record IsOnCourse {q : Sequence} (s : StreamProgress q) : Type 0 where
+  pub standard : q ≡ Occurrences → s.built.dictionary.kind ≡ Standard
+  pub passed : q ≡ Occurrences → s.last ≡ s.at
   pub unclosed : s.built.dictionary.kind ≡ Standard → s.closed ≡ false
   pub filled : 1 ≤ shortest s.built.dictionary.patterns
   pub ordered : (s.last ≤ s.at) × (s.at ≤ length (read_by s))
-  pub kept : (s.from ≤ cut_of s) × (s.from ≤ s.at) × (length (read_by s) ≤ s.from + room_of s.built)
-  pub short : AllFit (room_of s.built) s.pieces
-  pub begun : IsBeginning s.given (matches_in s.built (read_by s))
+  pub kept : (s.from ≤ cut_of s) × (s.from ≤ s.at) × (length (read_by s) ≤ s.from + room_of q s.built)
+  pub short : AllFit (room_of q s.built) s.pieces
+  pub begun : IsBeginning s.given (items_of q s.built.dictionary (read_by s))
   pub ended : end_of s.given ≤ s.last
   pub decided : IsDecided s
   pub paid : IsWithinStreamBudget s
 
 -- A search of a stream was made, which has read nothing yet; or the error says why not.
-abbrev pub AnswersNew : StreamKinds → Built → (Anchored → Type 0) → Result StreamProgress StreamError → Type 0
+abbrev pub AnswersNew : StreamKinds → Built → (Anchored → Type 0) → Result (StreamProgress Picks) StreamError → Type 0
 AnswersNew kinds b supports (Ok s) = CanStream kinds b supports × (s ≡ fresh_progress b) × IsOnCourse s
 AnswersNew kinds b supports (Err error) = IsStreamRefusal kinds b supports error
 
@@ -198,30 +253,32 @@ may_wait LeftmostFirst = true
 may_wait LeftmostLongest = true
 
 -- a search after it was told that no more comes; under standard that changes nothing
-abbrev pub closed_by : StreamProgress → StreamProgress
+abbrev pub closed_by : {q : Sequence} → StreamProgress q → StreamProgress q
 closed_by s = record s { closed = may_wait s.built.dictionary.kind }
 
 -- the search counted exactly what was done in between
-abbrev pub StreamCounts : StreamProgress → StreamProgress → Steps → Steps → Type 0
-StreamCounts s t before after = (states places bytes : ℕ) × Done states places bytes before after × (t.looked ≡ s.looked + states) × (t.scanned ≡ s.scanned + places) × (t.moved ≡ s.moved + bytes)
+abbrev pub StreamCounts : {q : Sequence} → StreamProgress q → StreamProgress q → Steps → Steps → Type 0
+StreamCounts s t before after =
+    (states places bytes : ℕ) × Done states places bytes before after × (t.looked ≡ s.looked + states)
+    × (t.scanned ≡ s.scanned + places) × (t.moved ≡ s.moved + bytes)
 
 -- what was done was counted, and the search is on its course
-abbrev pub GoesOn : StreamProgress → StreamProgress → Steps → Steps → Type 0
+abbrev pub GoesOn : {q : Sequence} → StreamProgress q → StreamProgress q → Steps → Steps → Type 0
 GoesOn s t before after = StreamCounts s t before after × IsOnCourse t
 
 -- nothing was counted in between
-pub record CountsNothing (s t : StreamProgress) : Type 0 where
+pub record CountsNothing {q : Sequence} (s t : StreamProgress q) : Type 0 where
   pub looked : t.looked ≡ s.looked
   pub scanned : t.scanned ≡ s.scanned
   pub moved : t.moved ≡ s.moved
 
 -- everything is unchanged, except that bytes before the cut may have been dropped
-pub record IsRolled (s t : StreamProgress) : Type 0 where
+pub record IsRolled (s t : StreamProgress Picks) : Type 0 where
   pub from : (s.from ≤ t.from) × (t.from ≤ cut_of s)
   pub same : t ≡ record s { from = t.from; moved = t.moved }
 
 -- Nothing was read in between, and the same bytes are held. Under standard a search doesn't go back.
-pub record ReadsNothing (s t : StreamProgress) : Type 0 where
+pub record ReadsNothing {q : Sequence} (s t : StreamProgress q) : Type 0 where
   pub on : s.built.dictionary.kind ≡ Standard → s.at ≤ t.at
   pub last : s.last ≤ t.last
   pub closed : t.closed ≡ s.closed
@@ -229,34 +286,42 @@ pub record ReadsNothing (s t : StreamProgress) : Type 0 where
   pub pieces : t.pieces ≡ s.pieces
   pub from : t.from ≡ s.from
 
--- a match among the held bytes; under standard the automaton had not read its last byte before
-pub record IsHeldMatch (s : StreamProgress) (o : Occurrence) : Type 0 where
+-- An item among the bytes that were read. The bytes of a match are held; under standard the automaton had not read the
+-- last of them
+-- before. Nor had it read the last of an occurrence, if all occurrences in what it had read were returned.
+pub record IsHeldItem {q : Sequence} (s : StreamProgress q) (o : Occurrence) : Type 0 where
   pub pattern : o.pattern < length s.built.dictionary.patterns
-  pub held : s.from ≤ o.start
-  pub behind : s.last ≤ o.start
+  pub held : q ≡ Picks → s.from ≤ o.start
+  pub behind : s.last ≤ place_of q o
   pub some : o.start < o.end
-  pub new : s.built.dictionary.kind ≡ Standard → s.at < o.end
+  pub new : q ≡ Picks → s.built.dictionary.kind ≡ Standard → s.at < o.end
+  pub past : q ≡ Occurrences → s.given ≡ items_of q s.built.dictionary (take s.at (read_by s)) → s.at < o.end
   pub within : o.end ≤ length (read_by s)
 
--- All matches of what was read are decided: under standard always, under a leftmost kind once no more comes.
-abbrev pub EachIsDecided : StreamProgress → Type 0
+-- All items of what was read are decided: under standard always, under a leftmost kind once no more comes.
+abbrev pub EachIsDecided : {q : Sequence} → StreamProgress q → Type 0
 EachIsDecided s = (s.built.dictionary.kind ≡ Standard) ⊎ (s.closed ≡ true)
 
--- All that was read was searched, and all matches that it decides were returned. What comes after the last of them isn't dead. If
+-- All that was read was searched, and all items that it decides were returned. What comes after the last of them isn't
+-- dead. If
 -- nothing of that is live, the search began anew at its end.
-pub record AreAllGiven (s : StreamProgress) : Type 0 where
+pub record AreAllGiven {q : Sequence} (s : StreamProgress q) : Type 0 where
   pub searched : IsSearched s
-  pub all : EachIsDecided s → s.given ≡ matches_in s.built (read_by s)
+  pub all : EachIsDecided s → s.given ≡ items_of q s.built.dictionary (read_by s)
   pub open_ : ¬ IsLive s.built.dictionary false (drop (end_of s.given) (read_by s)) None
   pub anew : NothingIsLive s.built.dictionary (drop (end_of s.given) (read_by s)) → s.last ≡ s.at
 
--- This is the next match of what was read; or there is none, and all decided ones were returned if places can be counted.
-abbrev pub FindsHeld : StreamProgress → Option Occurrence → StreamProgress → Type 0
+-- This is the next item of what was read; or there is none, and all decided ones were returned if places can be
+-- counted.
+abbrev pub FindsHeld : {q : Sequence} → StreamProgress q → Option Occurrence → StreamProgress q → Type 0
 FindsHeld s None t = ReadsNothing s t × (t.given ≡ s.given) × (CanBeCounted (read_by s) → AreAllGiven t)
-FindsHeld s (Some o) t = ReadsNothing s t × (t.given ≡ s.given ++ o ∷ []) × (t.last ≡ o.end) × (t.at ≡ o.end) × IsHeldMatch s o × CanBeCounted (read_by s) × ¬ AreAllGiven s
+FindsHeld s (Some o) t =
+    ReadsNothing s t × (t.given ≡ s.given ++ o ∷ []) × (t.last ≡ o.end) × (t.at ≡ o.end) × IsHeldItem s o
+    × CanBeCounted (read_by s) × ¬ AreAllGiven s
 
 -- One read returned a piece, which the search appended to what it had read. Bytes before the cut may have been dropped.
-pub record HasRead {R : Type 0} (remaining : R → Option (List ℕ)) (s t : StreamProgress) (before after : Watched R) (piece : List ℕ) (failed : ℕ) : Type 0 where
+pub record HasRead {R : Type 0} {q : Sequence} (remaining : R → Option (List ℕ)) (s t : StreamProgress q)
+    (before after : Watched R) (piece : List ℕ) (failed : ℕ) : Type 0 where
   pub built : t.built ≡ s.built
   pub pieces : t.pieces ≡ s.pieces ++ piece ∷ []
   pub closed : t.closed ≡ s.closed
@@ -264,13 +329,17 @@ pub record HasRead {R : Type 0} (remaining : R → Option (List ℕ)) (s t : Str
   pub at : t.at ≡ s.at
   pub last : t.last ≡ s.last
   pub from : t.from ≤ cut_of s
-  pub short : length piece ≤ room_of s.built
+  pub short : length piece ≤ room_of q s.built
   pub read : HasGiven remaining before after (piece ∷ []) failed
 
--- The result of a read: how many bytes it returned, none at the end; or the error of a failed read; or that there are more bytes
+-- The result of a read: how many bytes it returned, none at the end; or the error of a failed read; or that there are
+-- more bytes
 -- than places.
-abbrev pub ReadsMore : {R : Type 0} → (R → Option (List ℕ)) → StreamProgress → StreamProgress → Watched R → Watched R → Result ℕ StreamError → Type 0
-ReadsMore remaining s t before after (Ok n) = (piece : List ℕ) × HasRead remaining s t before after piece 0 × (length piece ≡ n) × CanBeCounted (read_by t)
+abbrev pub ReadsMore : {R : Type 0} {q : Sequence} → (R → Option (List ℕ)) → StreamProgress q → StreamProgress q
+    → Watched R → Watched R → Result ℕ StreamError → Type 0
+ReadsMore remaining s t before after (Ok n) =
+    (piece : List ℕ) × HasRead remaining s t before after piece 0 × (length piece ≡ n) × CanBeCounted (read_by t)
 ReadsMore remaining s t before after (Err (Read error)) = HasRead remaining s t before after [] 1
-ReadsMore remaining s t before after (Err Position) = (piece : List ℕ) × HasRead remaining s t before after piece 0 × ¬ CanBeCounted (read_by t)
+ReadsMore remaining s t before after (Err Position) =
+    (piece : List ℕ) × HasRead remaining s t before after piece 0 × ¬ CanBeCounted (read_by t)
 ReadsMore remaining s t before after (Err other) = ⊥

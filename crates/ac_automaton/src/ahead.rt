@@ -15,7 +15,7 @@ ghost use Rattle.std.specs.Prelude.{◌≡◌, ◌+◌, ◌≤◌, ◌<◌, List
 ghost use Rattle.ac_automaton.specs.Ahead.{HasForgotten, HasSkipped, IsPaid, Settles, StaysReadOnce, bytes_ahead, left_notes, most_ahead, notes_from, onward};
 ghost use Rattle.ac_automaton.specs.FindAhead.{IsAheadOf};
 ghost use Rattle.ac_automaton.specs.Automaton.{AdvancesToMatch, IsReached, IsReadCost, is_matching};
-ghost use Rattle.ac_automaton.specs.Passing.{ReadsPart};
+ghost use Rattle.ac_automaton.specs.Skip.{ReadsPart};
 
 use crate::automaton::{Advance, Automaton};
 use ac_input::history::Count;

@@ -46,7 +46,6 @@ pub trait Automaton {
     ghost use Rattle.ac_input.specs.declared.search.Anchored.{Anchored};
     ghost use Rattle.ac_input.specs.Number.{StateID};
     ghost use Rattle.ac_input.specs.Input.{is_anchored};
-    ghost use Rattle.ac_input.specs.Laws.LiveLaws.{IsOwnInverse};
     ghost use Rattle.ac_input.specs.Dictionary.{IsLive};
     ghost use Rattle.ac_input.specs.Tells.{Tells};
     ghost use Rattle.ac_input.specs.Work.{longest, shortest};
@@ -57,8 +56,7 @@ pub trait Automaton {
     ghost use Rattle.ac_automaton.specs.Overlapping.OverlappingIter.{AnswersListing, rest_of};
     ghost use Rattle.ac_automaton.specs.Items.{AreFewForEach, MatchesAreInOrder, EachLiesWithin, FindsWithin};
     ghost use Rattle.ac_automaton.specs.Stream.{AnswersNew};
-    ghost use Rattle.ac_automaton.specs.Stream.StreamIter.{FindsStream};
-    ghost use Rattle.ac_automaton.specs.Stream.StreamOverlappingIter.{AnswersStreamListing};
+    ghost use Rattle.ac_automaton.specs.Stream.StreamIter.{AnswersStreamListing, FindsStream};
     ghost use Rattle.ac_automaton.specs.Stream.StreamReplace.{AcceptsStream, CostsStream, ReplacesStream};
     ghost use Rattle.ac_automaton.specs.Stream.StreamReplaceWith.{ReplacesStreamWith};
     ghost use Rattle.ac_automaton.specs.Stream.StreamReplacer.{AnswersReplacer};
@@ -257,15 +255,6 @@ pub trait Automaton {
     ghost tells: { (self : Self) (anchored : Anchored) (text : List ℕ) (sid : StateID)
         → Reaches self anchored text sid
         → Tells (built self).dictionary anchored text (matches self sid) };
-
-    /// A text has a live prefix, or is dead.
-    ghost lives: { (self : Self) (anchored : Anchored) (text : List ℕ) (sid : StateID)
-        → Reaches self anchored text sid
-        → (from : Option ℕ) × IsLive (built self).dictionary (is_anchored anchored) text from };
-
-    /// Each byte is the partner of its partner.
-    ghost pairs: { (self : Self) (anchored : Anchored) (text : List ℕ) (sid : StateID)
-        → Reaches self anchored text sid → IsOwnInverse (built self).dictionary.pairing };
 
     /// At which states a search has more to do than to read on.
     ghost stops: { (self : Self) (anchored : Anchored) (text : List ℕ) (sid : StateID)

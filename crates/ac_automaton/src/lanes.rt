@@ -12,7 +12,7 @@
 //! While the lanes are read each writes notes into its own part of the notes. In the end those parts are moved together. A lane
 //! whose part is full reads no further, and the others stop with it.
 ghost use Rattle.std.specs.Prelude.{◌≡◌, ◌≤◌, ◌<◌, ◌+◌, ◌-◌, ℕ, IsTrue, false, IfSome, [], ◌∷◌, ◌++◌, length, take, drop, slice_range, unwrap_or, nat_le};
-ghost use Rattle.ac_input.specs.Number.{StateID};
+ghost use Rattle.ac_input.specs.Number.{usize_max, StateID};
 ghost use Rattle.ac_input.specs.Steps.{Done};
 ghost use Rattle.ac_input.specs.declared.search.Anchored.TheVariants.{No};
 ghost use Rattle.ac_automaton.specs.Ahead.{LaneBegins, CutBytes, EachLane, EachPair, HasMore, HasRoomFor, HasStored, HaveGone, HaveNoted, HaveOwnNotes, HaveRead, HaveRoomFor, HaveWalked, IsLaneCut, MayBegin, MayNote, MayWalkAside, ReadsAheadBy, StaysIn, StoresIf, is_up_to, lane_from, lanes_notes, note_of};
@@ -67,7 +67,7 @@ impl Lane {
     /// The same, in another state after some bytes more.
     #[inline(always)]
     fn on(self, bytes: usize, sid: StateID) -> Lane
-        requires { self.at + bytes ≤ 18446744073709551615 }
+        requires { self.at + bytes ≤ usize_max }
         ensures { result ≡ record self { at = self.at + bytes; sid = sid } }
     {
         Lane {
@@ -182,10 +182,10 @@ impl Lanes {
     /// The same, in other states after some bytes more.
     #[inline(always)]
     fn on(self, bytes: usize, a: StateID, b: StateID, c: StateID, d: StateID) -> Lanes
-        requires a { self.a.at + bytes ≤ 18446744073709551615 }
-        requires b { self.b.at + bytes ≤ 18446744073709551615 }
-        requires c { self.c.at + bytes ≤ 18446744073709551615 }
-        requires d { self.d.at + bytes ≤ 18446744073709551615 }
+        requires a { self.a.at + bytes ≤ usize_max }
+        requires b { self.b.at + bytes ≤ usize_max }
+        requires c { self.c.at + bytes ≤ usize_max }
+        requires d { self.d.at + bytes ≤ usize_max }
         ensures a { result.a ≡ record self.a { at = self.a.at + bytes; sid = a } }
         ensures b { result.b ≡ record self.b { at = self.b.at + bytes; sid = b } }
         ensures c { result.c ≡ record self.c { at = self.c.at + bytes; sid = c } }

@@ -9,7 +9,6 @@ pub mod error;
 mod find;
 mod find_ahead;
 mod gain;
-pub mod held;
 pub mod iter;
 pub mod lanes;
 pub mod laws;

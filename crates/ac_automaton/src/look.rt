@@ -3,7 +3,7 @@
 //! A search that skips needs no more of an automaton than where bytes lead. An automaton that skips in its own `advance` says that
 //! here, so that its searches and the skip don't call each other.
 ghost use Rattle.std.specs.Prelude.{◌≡◌, ◌<◌, ◌↔◌, IsTrue};
-ghost use Rattle.ac_automaton.specs.ReadOn.{is_between};
+ghost use Rattle.ac_automaton.specs.Look.{is_between};
 
 use crate::automaton::Advance;
 use ac_input::primitives::StateID;
@@ -63,11 +63,10 @@ pub trait LookUp {
     ghost use Rattle.ac_input.specs.declared.search.Anchored.{Anchored};
     ghost use Rattle.ac_input.specs.Number.{StateID};
     ghost use Rattle.ac_input.specs.Input.{is_anchored};
-    ghost use Rattle.ac_input.specs.Laws.LiveLaws.{IsOwnInverse};
     ghost use Rattle.ac_input.specs.Dictionary.{IsLive};
     ghost use Rattle.ac_input.specs.Tells.{Tells};
     ghost use Rattle.ac_automaton.specs.Automaton.{Built, IsReached, Leads, IsReadCost};
-    ghost use Rattle.ac_automaton.specs.ReadOn.{ReadsTo};
+    ghost use Rattle.ac_automaton.specs.Look.{ReadsTo};
 
     /// What the automaton was built as.
     ghost built: { Self → Built };
@@ -91,7 +90,7 @@ pub trait LookUp {
     /// This is the loop in which a search spends its time. It looks up one byte after another; an automaton with a faster way has its
     /// own.
     #[inline(always)]
-    fn read_on(
+    fn read_until(
         &self,
         anchored: Anchored,
         sid: StateID,
@@ -123,13 +122,4 @@ pub trait LookUp {
     ghost tells: { (self : Self) (anchored : Anchored) (text : List ℕ) (sid : StateID)
         → Reaches self anchored text sid
         → Tells (built self).dictionary anchored text (matches self sid) };
-
-    /// A text has a live prefix, or is dead.
-    ghost lives: { (self : Self) (anchored : Anchored) (text : List ℕ) (sid : StateID)
-        → Reaches self anchored text sid
-        → (from : Option ℕ) × IsLive (built self).dictionary (is_anchored anchored) text from };
-
-    /// Each byte is the partner of its partner.
-    ghost pairs: { (self : Self) (anchored : Anchored) (text : List ℕ) (sid : StateID)
-        → Reaches self anchored text sid → IsOwnInverse (built self).dictionary.pairing };
 }

@@ -89,7 +89,7 @@ impl Output {
             self.hold_back(bytes);
             return Ok(());
         }
-        write_all(writer, bytes)
+        write_whole(writer, bytes)
     }
 
     /// Holds the bytes back. There is room for them.
@@ -107,7 +107,7 @@ impl Output {
         ensures sent { Sends W.contents [] writer.old writer.new self.old self.new result }
         ensures none { self.new ≡ [] }
     {
-        let sent = write_all(writer, &self.bytes.as_slice()[..self.filled]);
+        let sent = write_whole(writer, &self.bytes.as_slice()[..self.filled]);
         self.filled = 0;
         sent
     }
@@ -159,11 +159,4 @@ impl Output {
         self.send(writer, bytes)?;
         self.send_held(writer)
     }
-}
-
-/// Writes all the bytes; nothing is held back.
-fn write_all<W: Write>(writer: &mut Watched<W>, bytes: &[u8]) -> Result<(), StreamError>
-    ensures { Sends W.contents bytes.now writer.old writer.new [] [] result }
-{
-    write_whole(writer, bytes)
 }

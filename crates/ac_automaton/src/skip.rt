@@ -10,10 +10,13 @@
 //! An automaton stores [`Skips`] and reads on by them. They skip only where the search stops at no start, and by openings only where
 //! it isn't anchored. Where the openings pass few bytes, they are left for a while, as a prefilter is, and the automaton's loop stops
 //! at no start.
-ghost use Rattle.std.specs.Prelude.{◌<◌, ◌≤◌, length};
+//!
+//! The numbers of the states have one order in every automaton: those that match, the starts, the others. So one comparison decides
+//! whether a search has more to do at a state than to read on: with the last special state ([`last_special`]).
+ghost use Rattle.std.specs.Prelude.{◌≡◌, ◌<◌, ◌≤◌, IfOk, length, option_map};
 ghost use Rattle.ac_automaton.specs.Automaton.{IsReached};
-ghost use Rattle.ac_automaton.specs.ReadOn.{StaysBut};
-ghost use Rattle.ac_automaton.specs.Passing.{HasPassed, MayReadBy, MaySkipBy, ReadsAll, ReadsSome, ReadsToBy};
+ghost use Rattle.ac_automaton.specs.Look.{StaysBut};
+ghost use Rattle.ac_automaton.specs.Skip.{HasPassed, MayReadBy, MaySkipBy, ReadsAll, ReadsSome, ReadsToBy, last_special_of};
 
 use crate::automaton::Advance;
 use crate::gain::Gain;
@@ -23,6 +26,8 @@ use ac_input::primitives::StateID;
 use ac_input::search::Anchored;
 use ac_input::steps::Steps;
 use ac_literal::openings::Openings;
+use ac_literal::prefilter::Prefilter;
+use std::alloc::{AllocError, Global};
 
 /// How many bytes openings have to pass, to pay.
 const COST: usize = 24;
@@ -77,7 +82,7 @@ impl Skips {
                 return skip_idle(automaton, starters, start, anchored, sid, bytes, to, steps);
             }
         }
-        automaton.read_on(anchored, sid, bytes, to, steps)
+        automaton.read_until(anchored, sid, bytes, to, steps)
     }
 }
 
@@ -142,15 +147,15 @@ fn read_some<A: LookUp>(
         steps.old steps.new }
 {
     if alone == 0 {
-        return automaton.read_on(anchored, sid, bytes, to.up_to(start), steps);
+        return automaton.read_until(anchored, sid, bytes, to.up_to(start), steps);
     }
     let part = &bytes[..alone.min(bytes.len())];
-    automaton.read_on(anchored, sid, part, to, steps)
+    automaton.read_until(anchored, sid, part, to, steps)
 }
 
 /// Reads on to the first state between two numbers, these included, and passes the bytes that can't begin a pattern.
 ///
-/// It stays out of the calls that make it, whose other loops are the slower for it.
+/// Not inlined: inlining it slows the callers' other loops.
 #[inline(never)]
 fn skip<A: LookUp>(
     automaton: &A,
@@ -206,7 +211,7 @@ fn skip<A: LookUp>(
 
 /// Reads on to the first state between two numbers, these included, and passes the bytes that leave it in the start.
 ///
-/// It stays out of the calls that make it, whose other loops are the slower for it.
+/// Not inlined: inlining it slows the callers' other loops.
 #[inline(never)]
 fn skip_idle<A: LookUp>(
     automaton: &A,
@@ -242,5 +247,33 @@ fn skip_idle<A: LookUp>(
     Advance {
         sid: current,
         taken: read,
+    }
+}
+
+/// The last state at which a search has more to do than to read on: the anchored start if there is a prefilter, since the search
+/// runs it at a start; otherwise the last state that matches.
+pub fn last_special(
+    held: &Option<Prefilter>,
+    start_anchored: StateID,
+    max_match: StateID,
+) -> StateID
+    ensures { result ≡ last_special_of held.now start_anchored max_match }
+{
+    match held {
+        Some(_) => start_anchored,
+        None => max_match,
+    }
+}
+
+/// A copy of the prefilter, if there is one, in memory from `alloc`.
+pub fn clone_prefilter(
+    alloc: Global,
+    held: Option<&Prefilter>,
+) -> Result<Option<Prefilter>, AllocError>
+    ensures { IfOk result (λ copy. copy ≡ option_map (λ p. p.now) held.entry) }
+{
+    match held {
+        Some(prefilter) => Ok(Some(prefilter.clone(alloc)?)),
+        None => Ok(None),
     }
 }

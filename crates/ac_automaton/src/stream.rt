@@ -1,4 +1,4 @@
-//! The matches of a stream, one after another.
+//! The items of a stream, one after another: its matches, or every occurrence.
 //!
 //! A stream comes in pieces. They are held in one buffer, which is allocated before the first piece, and each piece is searched before
 //! the next one is taken. So a match is returned as soon as it is decided, a stream may be as long as places can be counted, and no
@@ -10,7 +10,7 @@
 //!
 //! - [`StreamFindIter`] is the search as an iterator that reads from a reader, from
 //!   [`try_stream_find_iter`](crate::automaton::Automaton::try_stream_find_iter). The first empty read ends it, and so does the first
-//!   error.
+//!   error. It is a [`StreamIter`], as the iterator over every occurrence is: see [`overlapping`].
 //! - [`StreamSearch`] owns no reader: its pieces are pushed when they come. From
 //!   [`try_stream_search`](crate::automaton::Automaton::try_stream_search).
 //! - [`StreamReplacer`] is passed its pieces too, and hands out the text with each match replaced. From
@@ -18,7 +18,7 @@
 ghost use Rattle.std.specs.Prelude.{◌≡◌, false};
 ghost use Rattle.std.specs.Borrow.{sem};
 ghost use Rattle.ac_automaton.specs.Stream.{FindsHeld, GoesOn};
-ghost use Rattle.ac_automaton.specs.Stream.StreamIter.{FindsStream, GivesItem, KeepsReader, RestsIfRefused, TurnGives, progress_of, reader_name, reader_of};
+ghost use Rattle.ac_automaton.specs.Stream.StreamIter.{FindsStream, GivesItem, KeepsReader, RestsIfRefused, TurnGives, reader_name, reader_of, search_of};
 
 pub mod overlapping;
 pub(crate) mod replace;
@@ -50,22 +50,71 @@ pub enum StreamKinds {
     AnyKind,
 }
 
-/// The remaining matches of a stream. From
-/// [`try_stream_find_iter`](crate::automaton::Automaton::try_stream_find_iter).
+/// A search of a stream for the items of one sequence. An iterator asks it for the next one, and reads for it.
+pub trait ItemSearch {
+    ghost use Rattle.std.specs.Prelude.{◌≡◌, false, true, Option};
+    ghost use Rattle.ac_automaton.specs.Stream.{CanBeCounted, FindsHeld, GoesOn, IsOnCourse, IsSearched, ReadsMore, Sequence, StreamProgress, closed_by, read_by};
+
+    /// What it returns.
+    ghost sequence: { Sequence };
+
+    /// How far it has come.
+    ghost progress: { Self → StreamProgress sequence };
+
+    /// The next item of what was read, without a read; counts what it does. None means that all of them were returned.
+    fn next_held(&mut self, steps: &mut Steps) -> Option<Match>
+        ensures finds { FindsHeld (progress self.old) result (progress self.new) }
+        ensures goes { GoesOn (progress self.old) (progress self.new) steps.old steps.new };
+
+    /// Whether there are more bytes than places: then no item is left.
+    fn is_past_places(&self) -> bool
+        ensures over { result ≡ true → ¬ CanBeCounted (read_by (progress self.now)) }
+        ensures open { result ≡ false → CanBeCounted (read_by (progress self.now)) };
+
+    /// Whether it was told that nothing more comes.
+    fn has_closed(&self) -> bool
+        requires course { IsOnCourse (progress self.now) }
+        ensures closed { result ≡ (progress self.now).closed };
+
+    /// One read. Everything that was read before must have been searched. Returns how many bytes it read.
+    fn read_on<R: Read>(
+        &mut self,
+        reader: &mut Watched<R>,
+        steps: &mut Steps,
+    ) -> Result<usize, StreamError>
+        requires open { reader.old.ended ≡ false }
+        requires unclosed { (progress self.old).closed ≡ false }
+        requires searched { IsSearched (progress self.old) }
+        ensures read { ReadsMore R.remaining (progress self.old) (progress self.new) reader.old reader.new result }
+        ensures goes { GoesOn (progress self.old) (progress self.new) steps.old steps.new };
+
+    /// Tells it that nothing more comes.
+    fn close(&mut self)
+        requires course { IsOnCourse (progress self.old) }
+        ensures closed { progress self.new ≡ closed_by (progress self.old) }
+        ensures kept { IsOnCourse (progress self.new) };
+}
+
+/// The remaining items of a stream: [`StreamFindIter`] over matches, and
+/// [`StreamFindOverlappingIter`](overlapping::StreamFindOverlappingIter) over every occurrence.
 ///
 /// After its first error, and after its first `None`, it always returns `None`, and never calls the reader again.
 ///
-/// It ends, so a `for` may go over it. Its items can be one more than a `usize` counts: a match at each place, and an error. So
-/// count them in a loop, and not by `count`.
+/// It ends, so a `for` may go over it. Its items can be more than a `usize` counts: a match at each place, and an error, or one
+/// occurrence of each pattern at each place. So count them in a loop, and not by `count`.
 #[derive(Drop)]
-pub struct StreamFindIter<'a, A: Search, R> {
-    stream: StreamSearch<&'a A>,
+pub struct StreamIter<'a, S, R> {
+    stream: S,
     reader: &'a mut Watched<R>,
 }
 
+/// The remaining matches of a stream. From
+/// [`try_stream_find_iter`](crate::automaton::Automaton::try_stream_find_iter).
+pub type StreamFindIter<'a, A, R> = StreamIter<'a, StreamSearch<&'a A>, R>;
+
 /// The outcome of one turn of a search.
 enum Turn {
-    /// A match among the bytes that were read.
+    /// An item among the bytes that were read.
     Found(Match),
     /// All of these were returned, and more bytes were read.
     More,
@@ -94,27 +143,28 @@ pub fn stream_find_iter<'a, A: Search, R>(
         reader.entry result }
 {
     let stream = StreamSearch::new(automaton, kinds, alloc)?;
-    Ok(StreamFindIter { stream, reader })
+    Ok(StreamIter { stream, reader })
 }
 
-/// The next match of what was read; or one read, if there is none.
-fn search_or_read<A: Search, R: Read>(
-    stream: &mut StreamSearch<A>,
+/// The next item of what was read; or one read, if there is none.
+fn search_or_read<S: ItemSearch, R: Read>(
+    stream: &mut S,
     reader: &mut Watched<R>,
     steps: &mut Steps,
 ) -> Turn
-    ensures gives { TurnGives R.remaining stream.old stream.new reader.old reader.new result }
-    ensures goes { GoesOn stream.old stream.new steps.old steps.new }
+    ensures gives { TurnGives R.remaining (S.progress stream.old) (S.progress stream.new)
+        reader.old reader.new result }
+    ensures goes { GoesOn (S.progress stream.old) (S.progress stream.new) steps.old steps.new }
 {
-    if let Some(found) = stream.next_counted(steps) {
+    if let Some(found) = stream.next_held(steps) {
         return Turn::Found(found);
     }
-    if stream.is_over() || stream.is_closed() || reader.ended() {
+    if stream.is_past_places() || stream.has_closed() || reader.ended() {
         return Turn::Over;
     }
-    match stream.read_more(reader, steps) {
+    match stream.read_on(reader, steps) {
         Ok(0) => {
-            stream.finish();
+            stream.close();
             Turn::Ended
         }
         Ok(_) => Turn::More,
@@ -122,7 +172,7 @@ fn search_or_read<A: Search, R: Read>(
     }
 }
 
-impl<'a, A: Search, R: Read> StreamFindIter<'a, A, R> {
+impl<'a, S: Drop, R> StreamIter<'a, S, R> {
     /// The reader, as the search left it.
     ///
     /// A caller whose own contract speaks of the reader ends the search this way. If the search is dropped, the reader is the
@@ -133,21 +183,23 @@ impl<'a, A: Search, R: Read> StreamFindIter<'a, A, R> {
     {
         self.reader
     }
+}
 
-    /// The next match among the bytes that were read, without a read; counts what it does. None means that all of them were
+impl<'a, S: ItemSearch, R: Read> StreamIter<'a, S, R> {
+    /// The next item among the bytes that were read, without a read; counts what it does. None means that all of them were
     /// returned.
     pub fn next_held_counted(&mut self, steps: &mut Steps) -> Option<Match>
-        ensures finds { FindsHeld (progress_of self.old) result (progress_of self.new) }
+        ensures finds { FindsHeld (S.progress (search_of self.old)) result (S.progress (search_of self.new)) }
         ensures reader { KeepsReader self.old self.new }
-        ensures goes { GoesOn (progress_of self.old) (progress_of self.new) steps.old steps.new }
+        ensures goes { GoesOn (S.progress (search_of self.old)) (S.progress (search_of self.new)) steps.old steps.new }
     {
-        self.stream.next_counted(steps)
+        self.stream.next_held(steps)
     }
 
     /// The next item, as `next` returns it; counts what it does.
     pub fn next_counted(&mut self, steps: &mut Steps) -> Option<Result<Match, StreamError>>
-        ensures gives { GivesItem R.remaining self.old self.new result }
-        ensures goes { GoesOn (progress_of self.old) (progress_of self.new) steps.old steps.new }
+        ensures gives { GivesItem S.progress R.remaining self.old self.new result }
+        ensures goes { GoesOn (S.progress (search_of self.old)) (S.progress (search_of self.new)) steps.old steps.new }
     {
         loop {
             match search_or_read(&mut self.stream, self.reader, steps) {
@@ -161,16 +213,16 @@ impl<'a, A: Search, R: Read> StreamFindIter<'a, A, R> {
     }
 }
 
-impl<'a, A: Search, R: Read> Iterator for StreamFindIter<'a, A, R> {
+impl<'a, S: ItemSearch + Drop, R: Read> Iterator for StreamIter<'a, S, R> {
     ghost use Rattle.std.specs.Iterator.{at_most};
     ghost use Rattle.ac_automaton.specs.Stream.{IsOnCourse};
-    ghost use Rattle.ac_automaton.specs.Stream.StreamIter.{GivesItem, most_left, progress_of};
+    ghost use Rattle.ac_automaton.specs.Stream.StreamIter.{GivesItem, most_left, search_of};
 
     type Item = Result<Match, StreamError>;
 
-    ghost next_gives = { λ s r t. GivesItem R.remaining s t r × IsOnCourse (progress_of t) };
+    ghost next_gives = { λ s r t. GivesItem S.progress R.remaining s t r × IsOnCourse (S.progress (search_of t)) };
 
-    ghost remaining = { λ s. at_most (most_left s) };
+    ghost remaining = { λ s. at_most (most_left S.progress s) };
 
     fn next(&mut self) -> Option<Result<Match, StreamError>> {
         let mut steps = Steps::new();

@@ -1,4 +1,5 @@
--- An export that borrows an automaton, and makes a value of it that a handle holds. Its parameters are the pointer, the allocator
+-- An export that borrows an automaton, and makes a value of it that a handle holds. Its parameters are the pointer, the
+-- allocator
 -- and the variable with the handle, and its result is a status.
 use Rattle.ac_c.proofs.Lending.{ℕ, List, [], ◌∷◌, refl, id⊢, raw, ◌⊛◌, later, ◌$◌, ◌∵◌, !, qed, move, use1, split, await, done, of_opd, addr, stop, no_more, and_then, returns, enter, alloc_all, pass_all, free_all, look_at, get, through, sets, lands_as, fact, tables, shr_vals, heard, calls_from, triple_of, framed, Ghosts, Good, lent_to, lends, Says, over, says, named, mut_vals, mut_Tells, u32, uint_Lawful, w32}
 use seplogic.Ra.Ura.{Ura}
@@ -24,7 +25,8 @@ use Rattle.aho_corasick.specs.contracts.ahocorasick.AhoCorasick.{the_row as R}
 abbrev pub handed : RattleType → List (Slot 1)
 handed H = plain (λ _. Heap.the_row) ∷ mut_ref_to (0 ∷ []) tt (plain (λ _. H)) ∷ []
 
--- the pointer is copied once more because its type changes, and the handle is lent again. The types that no step reads are variables
+-- the pointer is copied once more because its type changes, and the handle is lent again. The types that no step reads
+-- are variables
 abbrev pub handing : RattleType → Callee → (a b c d : Ty) (j k : Lifetime) (m : Mutability) → Fn
 handing H g a b c d j k m = record {
   lifetimes = 1;
@@ -32,7 +34,8 @@ handing H g a b c d j k m = record {
   ty_params = [];
   givens = 0;
   params = 3;
-  locals = local (ty_int w32) value_local ∷ local ty_ptr value_local ∷ local (layout Heap.the_row) value_local ∷ local (ty_ref (named 0) mut (pointee H.written)) value_local
+  locals = local (ty_int w32) value_local ∷ local ty_ptr value_local ∷ local (layout Heap.the_row) value_local
+      ∷ local (ty_ref (named 0) mut (pointee H.written)) value_local
       ∷ local ty_ptr value_local ∷ local (ty_ref j m a) value_local ∷ local (ty_ref k mut b) value_local ∷ [];
   body = seq (assign (place 4 []) (rv_opd (copy (place 1 []))))
       (seq (assign (place 5 []) (addr_of (place 4 (deref c ∷ []))))
@@ -43,7 +46,14 @@ handing H g a b c d j k m = record {
 -- what the callee has: a reference in the pointer's place
 abbrev pub asked : RattleType → Ended
 asked H = record {
-  signature = record { lifetimes = 2; outlives = []; params = shr_ref_to (0 ∷ []) tt (plain (λ _. R)) ∷ plain (λ _. Heap.the_row) ∷ mut_ref_to (1 ∷ []) tt (plain (λ _. H)) ∷ []; result = plain (λ _. u32) };
+  signature =
+      record {
+        lifetimes = 2;
+        outlives = [];
+        params = shr_ref_to (0 ∷ []) tt (plain (λ _. R)) ∷ plain (λ _. Heap.the_row)
+            ∷ mut_ref_to (1 ∷ []) tt (plain (λ _. H)) ∷ [];
+        result = plain (λ _. u32);
+      };
   kept = (yes, (yes, (yes, tt)));
 }
 
@@ -57,7 +67,12 @@ module _ (H : RattleType) (φ : R.Denot → H.Denot → H.Denot → ℕ → Type
 
   module _ {M : Type 1} {𝓤 : Ura M} (𝓛 : Logic 𝓤) where
     abbrev pub answers : Clauses 𝓤 (asked H)
-    answers κs a = record { ghost = Unit {0}; requires = λ g. emp 𝓤; ensures = λ g r end. fact 𝓤 (φ a.0.now a.1.1.0.now end.1.1.0.now r) }
+    answers κs a =
+        record {
+          ghost = Unit {0};
+          requires = λ g. emp 𝓤;
+          ensures = λ g r end. fact 𝓤 (φ a.0.now a.1.1.0.now end.1.1.0.now r);
+        }
 
     abbrev G : Contract 𝓤
     G = triple_of 𝓛 (asked H).signature (closing 𝓛 (asked H) answers)
@@ -69,13 +84,24 @@ module _ (H : RattleType) (φ : R.Denot → H.Denot → H.Denot → ℕ → Type
       abbrev 𝓣 : MachineTables 𝓤 𝓛.H 𝓜
       𝓣 = tables 𝓤 𝓛.H 𝓜 𝓡 𝓡.env
 
-      pub lends_handle : (k g : Callee) (a b c d : Ty) (i j : Lifetime) (m : Mutability) → Closed 𝓤 𝓛.H 𝓣.C 𝓣.Λ k (handing H g a b c d i j m)
+      pub lends_handle : (k g : Callee) (a b c d : Ty) (i j : Lifetime) (m : Mutability)
+          → Closed 𝓤 𝓛.H 𝓣.C 𝓣.Λ k (handing H g a b c d i j m)
           → Meets 𝓛 (asked H).signature (𝓣.C g) (closing 𝓛 (asked H) answers)
           → Meets 𝓛 lender.signature (𝓣.C k) (closing 𝓛 lender (says 1 [] (handed H) (yes, (yes, tt)) u32 𝓛 answer))
-      lends_handle k g a b c d i j m closed met = lends 1 [] (handed H) (yes, (yes, tt)) u32 𝓛 𝓜 𝓡 answer G w (ty_int w32) k (handing H g a b c d i j m) g closed met (λ κs qs ok x us l p. refl)
-          (λ κs. (vals Heap.the_type heap.the_laws, (mut_vals, tt))) (λ κs. (tells Heap.the_type heap.the_laws, (mut_Tells (named 0) κs.0 H, tt)))
-          (λ κs qs ok x l p. (id⊢ 𝓤 _, λ v. id⊢ 𝓤 _)) (λ r v is. ((uint_Lawful 𝓛 w32).typed r _ is).0) (λ κs x p are P Q Post asks ends.
-          qed 𝓛 (raw P ∷ []) ∵ enter ! _ _ _ _ _ $ alloc_all ! (λ ls. pass_all ! refl ((tt, tt), (((heap.the_row_laws.lawful 𝓛).typed x.0 _ are.0).0, ((tt, tt), tt))) $
-          sets ! (of_opd ! (get ! refl)) refl (tt, tt) $ sets ! (addr ! (through ! refl (stop !))) refl (tt, tt) $ sets ! (addr ! (through ! refl (stop !))) refl (tt, tt) $
-          calls_from ! (framed 𝓤 𝓛.H 𝓜 𝓣) (raw P) _ Q asks (and_then ! (get ! refl) (and_then ! (get ! refl) (and_then ! (get ! refl) (no_more !)))) (λ v.
-          use1 𝓛 (later (raw (Post v) ⊛ raw (fact 𝓤 (Good (ty_int w32) v)))) (ends v) $ await ! tt $ split ! $ move ! (1 ∷ []) $ heard ! (Good (ty_int w32) v) (λ fits. lands_as ! refl refl fits $ returns ! (look_at ! 0 refl) $ free_all ! refl $ done !))))
+      lends_handle k g a b c d i j m closed met =
+          lends 1 [] (handed H) (yes, (yes, tt)) u32 𝓛 𝓜 𝓡 answer G w (ty_int w32) k (handing H g a b c d i j m) g
+          closed met (λ κs qs ok x us l p. refl)
+          (λ κs. (vals Heap.the_type heap.the_laws, (mut_vals, tt)))
+          (λ κs. (tells Heap.the_type heap.the_laws, (mut_Tells (named 0) κs.0 H, tt)))
+          (λ κs qs ok x l p. (id⊢ 𝓤 _, λ v. id⊢ 𝓤 _)) (λ r v is. ((uint_Lawful 𝓛 w32).typed r _ is).0)
+          (λ κs x p are P Q Post asks ends.
+          qed 𝓛 (raw P ∷ []) ∵ enter ! _ _ _ _ _
+          $ alloc_all !
+          (λ ls. pass_all ! refl ((tt, tt), (((heap.the_row_laws.lawful 𝓛).typed x.0 _ are.0).0, ((tt, tt), tt))) $
+          sets ! (of_opd ! (get ! refl)) refl (tt, tt) $ sets ! (addr ! (through ! refl (stop !))) refl (tt, tt)
+          $ sets ! (addr ! (through ! refl (stop !))) refl (tt, tt) $
+          calls_from ! (framed 𝓤 𝓛.H 𝓜 𝓣) (raw P) _ Q asks
+          (and_then ! (get ! refl) (and_then ! (get ! refl) (and_then ! (get ! refl) (no_more !)))) (λ v.
+          use1 𝓛 (later (raw (Post v) ⊛ raw (fact 𝓤 (Good (ty_int w32) v)))) (ends v) $ await ! tt $ split !
+          $ move ! (1 ∷ []) $ heard ! (Good (ty_int w32) v)
+          (λ fits. lands_as ! refl refl fits $ returns ! (look_at ! 0 refl) $ free_all ! refl $ done !))))

@@ -9,7 +9,7 @@ use Rattle.ac_input.specs.Same.{other}
 use Rattle.ac_noncontiguous.specs.Builder.{default_row_memory}
 use Rattle.ac_noncontiguous.specs.declared.error.BuildErrorKind.{BuildErrorKind}
 use Rattle.ac_noncontiguous.specs.declared.error.BuildErrorKind.TheVariants.{StateIDOverflow, PatternIDOverflow, PatternTooLong, Memory}
-use Rattle.aho_corasick.specs.AhoCorasick.{IsConfigured, MeansSame}
+use Rattle.aho_corasick.specs.AhoCorasick.{MeansSame}
 use Rattle.aho_corasick.specs.Served.{IsFrontBuilt, IsFrontBuildRefused}
 use Rattle.aho_corasick.specs.declared.ahocorasick.AhoCorasick.{AhoCorasick}
 use Rattle.aho_corasick.specs.declared.ahocorasick.AhoCorasickKind.{AhoCorasickKind}
@@ -45,14 +45,20 @@ build_refusal error = record { status = build_status error; fault = build_fault 
 -- ---- how the settings are read
 
 abbrev pub kind_by : ℕ → Option MatchKind
-kind_by n = if n == 0 then Some Standard else (if n == 1 then Some LeftmostFirst else (if n == 2 then Some LeftmostLongest else None))
+kind_by n =
+    if n == 0 then Some Standard
+    else (if n == 1 then Some LeftmostFirst else (if n == 2 then Some LeftmostLongest else None))
 
 abbrev pub start_kind_by : ℕ → Option StartKind
-start_kind_by n = if n == 0 then Some Unanchored else (if n == 1 then Some Anchored else (if n == 2 then Some Both else None))
+start_kind_by n =
+    if n == 0 then Some Unanchored else (if n == 1 then Some Anchored else (if n == 2 then Some Both else None))
 
 -- 0 leaves the choice to the library, and each further number names an automaton
 abbrev pub engine_by : ℕ → Option (Option AhoCorasickKind)
-engine_by n = if n == 0 then Some None else (if n == 1 then Some (Some NoncontiguousNFA) else (if n == 2 then Some (Some ContiguousNFA) else (if n == 3 then Some (Some DFA) else None)))
+engine_by n =
+    if n == 0 then Some None
+    else (if n == 1 then Some (Some NoncontiguousNFA)
+    else (if n == 2 then Some (Some ContiguousNFA) else (if n == 3 then Some (Some DFA) else None)))
 
 -- a dense depth, or none for the greatest number
 abbrev pub depth_by : ℕ → Option ℕ
@@ -64,12 +70,15 @@ pairs_of pairs = map (λ p. (p.a, p.b)) pairs
 -- which bytes match each other: the letters in their two cases, or those of the pairs
 abbrev pub IsPairingOf : Bool → List Pair → List ℕ → Type 0
 IsPairingOf true pairs pairing = (pairs ≡ []) × IsFolded true pairing
-IsPairingOf false pairs pairing = IsDistinct (named (pairs_of pairs)) × ((b : ℕ) → other pairing b ≡ partner (pairs_of pairs) b)
+IsPairingOf false pairs pairing =
+    IsDistinct (named (pairs_of pairs)) × ((b : ℕ) → other pairing b ≡ partner (pairs_of pairs) b)
 
 -- why there is no pairing: pairs are given beside folding; or a byte is named twice
 abbrev pub IsPairingRefused : Bool → List Pair → Refusal → Type 0
 IsPairingRefused true pairs refusal = (pairs ≢ []) × (refusal ≡ plain bad_pairs)
-IsPairingRefused false pairs refusal = (byte : ℕ) × IsFirstTwice (named (pairs_of pairs)) byte × (refusal ≡ record { status = bad_pairs; fault = record { count = 0; pattern = byte } })
+IsPairingRefused false pairs refusal =
+    (byte : ℕ) × IsFirstTwice (named (pairs_of pairs)) byte
+    × (refusal ≡ record { status = bad_pairs; fault = record { count = 0; pattern = byte } })
 
 abbrev pub PairsBy : ℕ → List Pair → Result (List ℕ) Refusal → Type 0
 PairsBy fold pairs (Ok pairing) = IsPairingOf (is_set fold) pairs pairing
@@ -89,11 +98,21 @@ pub record IsBuilderBy (settings : Settings) (pairs : List Pair) (b : AhoCorasic
 -- the status for the first of the settings whose number names nothing
 abbrev pub bad_number : Settings → Option ℕ
 bad_number s =
-    elim (kind_by s.kind) [ None ↦ Some bad_kind | Some kind ↦ elim (start_kind_by s.start_kind) [ None ↦ Some bad_start_kind | Some start ↦ elim (engine_by s.engine) [ None ↦ Some bad_engine | Some engine ↦ None ] ] ]
+    elim (kind_by s.kind) [
+      | None ↦ Some bad_kind
+      | Some kind ↦
+          elim (start_kind_by s.start_kind) [
+            | None ↦ Some bad_start_kind
+            | Some start ↦
+                elim (engine_by s.engine) [ None ↦ Some bad_engine | Some engine ↦ None ]
+          ]
+    ]
 
 -- why the settings are refused: a number that names nothing, or the pairing
 abbrev pub AreRefused : Settings → List Pair → Refusal → Type 0
-AreRefused s pairs refusal = ((status : ℕ) × (bad_number s ≡ Some status) × (refusal ≡ plain status)) ⊎ ((bad_number s ≡ None) × IsPairingRefused (is_set s.fold) pairs refusal)
+AreRefused s pairs refusal =
+    ((status : ℕ) × (bad_number s ≡ Some status) × (refusal ≡ plain status))
+    ⊎ ((bad_number s ≡ None) × IsPairingRefused (is_set s.fold) pairs refusal)
 
 abbrev pub AnswersBuilder : Settings → List Pair → Result AhoCorasickBuilder Refusal → Type 0
 AnswersBuilder settings pairs (Ok b) = IsBuilderBy settings pairs b
@@ -114,16 +133,21 @@ pub record AreDefaults (s : Settings) : Type 0 where
 
 -- the automaton that C's settings ask for; or why there is none: the settings are refused, or the library's build is
 abbrev pub IsBuiltFrom : List (List ℕ) → Settings → List Pair → Result AhoCorasick Refusal → Type 0
-IsBuiltFrom patterns settings pairs (Ok ac) = (b : AhoCorasickBuilder) × IsBuilderBy settings pairs b × IsConfigured b.settings patterns ac × IsFrontBuilt b patterns ac
+IsBuiltFrom patterns settings pairs (Ok ac) =
+    (b : AhoCorasickBuilder) × IsBuilderBy settings pairs b × IsFrontBuilt b patterns ac
 IsBuiltFrom patterns settings pairs (Err refusal) = AreRefused settings pairs refusal
-    ⊎ ((b : AhoCorasickBuilder) × IsBuilderBy settings pairs b × (error : BuildErrorKind) × IsFrontBuildRefused b patterns error × (refusal ≡ build_refusal error))
+    ⊎ ((b : AhoCorasickBuilder) × IsBuilderBy settings pairs b × (error : BuildErrorKind)
+    × IsFrontBuildRefused b patterns error × (refusal ≡ build_refusal error))
 
 -- the handle holds the automaton; or status and fault report why there is none, and the handle is unchanged
 abbrev pub AnswersBuild : List (List ℕ) → Settings → List Pair → HeldAutomaton → HeldAutomaton → Fault → ℕ → Type 0
 AnswersBuild patterns settings pairs old new fault status =
-    ((ac : AhoCorasick) × IsBuiltFrom patterns settings pairs (Ok ac) × (new ≡ Some ac) × (status ≡ ok) × (fault ≡ no_fault))
+    ((ac : AhoCorasick) × IsBuiltFrom patterns settings pairs (Ok ac) × (new ≡ Some ac) × (status ≡ ok)
+    × (fault ≡ no_fault))
     ⊎ (IsBuiltFrom patterns settings pairs (Err (record { status = status; fault = fault })) × (new ≡ old))
 
 -- the new handle holds a copy, which means the same automaton; or memory ran out, and the handle is unchanged
 abbrev pub IsShared : AhoCorasick → HeldAutomaton → HeldAutomaton → ℕ → Type 0
-IsShared ac old new status = ((copy : AhoCorasick) × MeansSame ac copy × (new ≡ Some copy) × (status ≡ ok)) ⊎ ((status ≡ no_memory) × (new ≡ old))
+IsShared ac old new status =
+    ((copy : AhoCorasick) × MeansSame ac copy × (new ≡ Some copy) × (status ≡ ok))
+    ⊎ ((status ≡ no_memory) × (new ≡ old))

@@ -33,17 +33,23 @@ IsSpanIn haystack b = IsSpanOf haystack (span_of b)
 
 -- the search of the haystack that the bounds ask for
 abbrev pub asked_by : List ℕ → Bounds → Asked
-asked_by haystack b = record { haystack = haystack; span = span_of b; anchored = anchoring b.anchored; earliest = is_set b.earliest }
+asked_by haystack b =
+    record { haystack = haystack; span = span_of b; anchored = anchoring b.anchored; earliest = is_set b.earliest }
 
 -- the status of a search for which the automaton has no start
 abbrev pub IsRefusedStart : AhoCorasick → Asked → ℕ → Type 0
-IsRefusedStart ac asked status = (¬ supported_by ac asked.anchored) × (status ≡ refusal_status (refusal_of asked.anchored))
+IsRefusedStart ac asked status =
+    (¬ supported_by ac asked.anchored) × (status ≡ refusal_status (refusal_of asked.anchored))
 
--- the match within the bounds, if there is one; or why nothing was searched: the span is bad, or the automaton has no start for the
+-- the match within the bounds, if there is one; or why nothing was searched: the span is bad, or the automaton has no
+-- start for the
 -- search
 abbrev pub IsFoundBy : AhoCorasick → List ℕ → Bounds → Result (Option Occurrence) ℕ → Type 0
-IsFoundBy ac haystack b (Ok r) = IsSpanIn haystack b × supported_by ac (anchoring b.anchored) × IsFound (as_built ac) (asked_by haystack b) r
-IsFoundBy ac haystack b (Err status) = ((status ≡ bad_span) × ¬ IsSpanIn haystack b) ⊎ (IsSpanIn haystack b × IsRefusedStart ac (asked_by haystack b) status)
+IsFoundBy ac haystack b (Ok r) =
+    IsSpanIn haystack b × supported_by ac (anchoring b.anchored) × IsFound (as_built ac) (asked_by haystack b) r
+IsFoundBy ac haystack b (Err status) =
+    ((status ≡ bad_span) × ¬ IsSpanIn haystack b)
+    ⊎ (IsSpanIn haystack b × IsRefusedStart ac (asked_by haystack b) status)
 
 -- what a search within bounds may cost; one that is refused costs nothing
 abbrev pub CostsFindIn : AhoCorasick → List ℕ → Bounds → Steps → Steps → Result (Option Occurrence) ℕ → Type 0
@@ -57,4 +63,5 @@ answer_of (Ok None) = record { found = nothing; status = none }
 answer_of (Err status) = record { found = nothing; status = status }
 
 abbrev pub AnswersFindIn : AhoCorasick → List ℕ → Bounds → Answer → Type 0
-AnswersFindIn ac haystack b answer = (r : Result (Option Occurrence) ℕ) × IsFoundBy ac haystack b r × (answer ≡ answer_of r)
+AnswersFindIn ac haystack b answer =
+    (r : Result (Option Occurrence) ℕ) × IsFoundBy ac haystack b r × (answer ≡ answer_of r)

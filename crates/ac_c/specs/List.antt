@@ -62,16 +62,20 @@ place_after p out (suc n) = elim (slice_get out n) [ None ↦ p | Some f ↦ rec
 -- why a listing doesn't go on: its span isn't one of the haystack, or the automaton lists no occurrences
 abbrev pub IsRefusedListing : AhoCorasick → List ℕ → Place → ℕ → Type 0
 IsRefusedListing ac haystack p status = ((status ≡ bad_cursor) × ¬ IsPlaceOver haystack p)
-    ⊎ (IsPlaceOver haystack p × (error : MatchErrorKind) × IsOverlappingRefusal (as_built ac) (supported_by ac) (asked_from haystack p p.start) error × (status ≡ refusal_status error))
+    ⊎ (IsPlaceOver haystack p × (error : MatchErrorKind)
+    × IsOverlappingRefusal (as_built ac) (supported_by ac) (asked_from haystack p p.start) error
+    × (status ≡ refusal_status error))
 
 -- the next occurrences of a listing, and its place after them; or why it doesn't go on, and the buffer is unchanged
 abbrev pub IsListedBy : AhoCorasick → List ℕ → Place → List Found → List Found → Result ℕ ℕ → Type 0
 IsListedBy ac haystack p old new (Ok count) =
-    IsPlaceOver haystack p × CanOverlap (as_built ac) (supported_by ac) (asked_from haystack p p.start) × AreGiven (left_of_listing ac haystack p) old new count
+    IsPlaceOver haystack p × CanOverlap (as_built ac) (supported_by ac) (asked_from haystack p p.start)
+    × AreGiven (left_of_listing ac haystack p) old new count
     × (left_of_listing ac haystack (place_after p new count) ≡ drop count (left_of_listing ac haystack p))
 IsListedBy ac haystack p old new (Err status) = IsRefusedListing ac haystack p status × (new ≡ old)
 
--- A run went on to where the second one stands, and counted exactly what it did. So far it costs no more than one walk over its span.
+-- A run went on to where the second one stands, and counted exactly what it did. So far it costs no more than one walk
+-- over its span.
 pub record RunsTo (run later : Run) (before after : Steps) : Type 0 where
   pub built : later.built ≡ run.built
   pub asked : later.asked ≡ run.asked
@@ -82,23 +86,28 @@ pub record RunsTo (run later : Run) (before after : Steps) : Type 0 where
 abbrev pub run_from : AhoCorasick → List ℕ → Place → Run
 run_from ac haystack p = fresh_run (as_built ac) (asked_from haystack p (begins_at p (longest (patterns_of ac))))
 
--- A run that filled a buffer has counted each byte up to the end of the last occurrence given, and has looked not far ahead of it; or
+-- A run that filled a buffer has counted each byte up to the end of the last occurrence given, and has looked not far
+-- ahead of it; or
 -- it has counted every byte of its span, if there is room left after n of them.
 pub record CountsFilled (later : Run) (p : Place) (out : List Found) (n : ℕ) : Type 0 where
   pub last : 0 < n → n ≡ length out → CountsRun later (before_of (place_after p out n))
   pub near : 0 < n → n ≡ length out → LooksNear later (before_of (place_after p out n))
   pub all : n < length out → CountsRun later None
 
--- The next occurrences cost what the run does from where it starts, and each byte that it passes is counted. A call that is refused
+-- The next occurrences cost what the run does from where it starts, and each byte that it passes is counted. A call
+-- that is refused
 -- costs nothing.
 abbrev pub CostsListing : AhoCorasick → List ℕ → Place → List Found → Steps → Steps → Result ℕ ℕ → Type 0
-CostsListing ac haystack p new before after (Ok count) = (later : Run) × RunsTo (run_from ac haystack p) later before after × CountsFilled later p new count
+CostsListing ac haystack p new before after (Ok count) =
+    (later : Run) × RunsTo (run_from ac haystack p) later before after × CountsFilled later p new count
 CostsListing ac haystack p new before after (Err status) = after ≡ before
 
 -- the result of a listing as C sees it, with the place after what was returned
 abbrev pub listed_of : Place → List Found → Result ℕ ℕ → Listed
-listed_of p new (Ok count) = record { place = place_after p new count; count = count; status = given_status (length new) count }
+listed_of p new (Ok count) =
+    record { place = place_after p new count; count = count; status = given_status (length new) count }
 listed_of p new (Err status) = record { place = p; count = 0; status = status }
 
 abbrev pub AnswersListed : AhoCorasick → List ℕ → Place → List Found → List Found → Listed → Type 0
-AnswersListed ac haystack p old new listed = (r : Result ℕ ℕ) × IsListedBy ac haystack p old new r × (listed ≡ listed_of p new r)
+AnswersListed ac haystack p old new listed =
+    (r : Result ℕ ℕ) × IsListedBy ac haystack p old new r × (listed ≡ listed_of p new r)

@@ -33,7 +33,8 @@ text_along haystack replacements w = text_of haystack replacements (left_of w)
 abbrev pub AreReplaceable : List ℕ → List (Bor (List ℕ)) → Walk → Type 0
 AreReplaceable haystack replacements w = LieInOrder (length replacements) (length haystack) 0 (left_of w)
 
--- Why there is no text: there isn't one replacement for each pattern; or the automaton has no search that isn't anchored.
+-- Why there is no text: there isn't one replacement for each pattern; or the automaton has no search that isn't
+-- anchored.
 abbrev pub IsReplaceRefused : AhoCorasick → List (Bor (List ℕ)) → ℕ → Type 0
 IsReplaceRefused ac replacements status = ((status ≡ wrong_count) × (length replacements ≢ pattern_count ac))
     ⊎ ((length replacements ≡ pattern_count ac) × (¬ supported_by ac No) × (status ≡ refusal_status (refusal_of No)))
@@ -51,19 +52,24 @@ IsLenOf text (Err status) = (2 ^ 64 ≤ length text) × (status ≡ too_many_byt
 
 -- the same of the haystack with each match replaced; or the status where there is no such text
 abbrev pub IsLenBy : AhoCorasick → List ℕ → List (Bor (List ℕ)) → Result ℕ ℕ → Type 0
-IsLenBy ac haystack replacements (Ok len) = IsReplaced ac replacements × IsLenOf (text_by ac haystack replacements) (Ok len)
-IsLenBy ac haystack replacements (Err status) = (IsReplaced ac replacements × IsLenOf (text_by ac haystack replacements) (Err status)) ⊎ IsReplaceRefused ac replacements status
+IsLenBy ac haystack replacements (Ok len) =
+    IsReplaced ac replacements × IsLenOf (text_by ac haystack replacements) (Ok len)
+IsLenBy ac haystack replacements (Err status) =
+    (IsReplaced ac replacements × IsLenOf (text_by ac haystack replacements) (Err status))
+    ⊎ IsReplaceRefused ac replacements status
 
 -- a buffer that begins with these bytes, and is unchanged after them
 abbrev pub begun_with : List ℕ → List ℕ → List ℕ
 begun_with bytes old = bytes ++ drop (length bytes) old
 
--- The buffer begins with the text, whose length is told; or it is too short, and the length is told; or no number of 64 bits says the
+-- The buffer begins with the text, whose length is told; or it is too short, and the length is told; or no number of 64
+-- bits says the
 -- length. The buffer is unchanged there.
 abbrev pub PutsText : List ℕ → List ℕ → List ℕ → Length → Type 0
 PutsText text old new made =
     ((length text ≤ length old) × (made ≡ record { len = length text; status = ok }) × (new ≡ begun_with text old))
-    ⊎ ((length old < length text) × (length text < 2 ^ 64) × (made ≡ record { len = length text; status = too_short }) × (new ≡ old))
+    ⊎ ((length old < length text) × (length text < 2 ^ 64) × (made ≡ record { len = length text; status = too_short })
+    × (new ≡ old))
     ⊎ ((2 ^ 64 ≤ length text) × (made ≡ record { len = 0; status = too_many_bytes }) × (new ≡ old))
 
 -- the haystack with each match replaced, into a buffer; or there is no such text, and the buffer is unchanged
@@ -80,16 +86,19 @@ walk_over ac haystack = fresh_walk (as_built ac) (whole_of haystack)
 abbrev pub is_long : List ℕ → Bool
 is_long haystack = nat_le 4096 (length haystack)
 
--- What it costs to know the length: a walk to its end, which may read ahead or not. If no number of 64 bits says the length, the walk
+-- What it costs to know the length: a walk to its end, which may read ahead or not. If no number of 64 bits says the
+-- length, the walk
 -- may stop before.
 abbrev pub CostsLen : Bool → Walk → Steps → Steps → Result ℕ ℕ → Type 0
 CostsLen ahead w before after (Ok len) = WalksToEnd ahead w before after
 CostsLen ahead w before after (Err status) = WalksOn ahead w before after
 
--- What a text into a buffer costs: a walk over the haystack for the length, and another one to write the text, if there is room. They
+-- What a text into a buffer costs: a walk over the haystack for the length, and another one to write the text, if there
+-- is room. They
 -- read ahead only where the haystack is long.
 pub record CostsInto (ac : AhoCorasick) (haystack : List ℕ) (status : ℕ) (before after : Steps) : Type 0 where
-  pub written : status ≡ ok → (between : Steps) × WalksToEnd (is_long haystack) (walk_over ac haystack) before between × WalksToEnd (is_long haystack) (walk_over ac haystack) between after
+  pub written : status ≡ ok → (between : Steps) × WalksToEnd (is_long haystack) (walk_over ac haystack) before between
+      × WalksToEnd (is_long haystack) (walk_over ac haystack) between after
   pub measured : status ≡ too_short → WalksToEnd (is_long haystack) (walk_over ac haystack) before after
   pub refused : status ≢ ok → status ≢ too_short → WalksOn (is_long haystack) (walk_over ac haystack) before after
 
@@ -97,11 +106,14 @@ pub record CostsInto (ac : AhoCorasick) (haystack : List ℕ) (status : ℕ) (be
 
 -- the text; or the status where memory ran out, or there is none
 abbrev pub IsReplacedBy : AhoCorasick → List ℕ → List (Bor (List ℕ)) → Result (Vec ℕ) ℕ → Type 0
-IsReplacedBy ac haystack replacements (Ok text) = IsReplaced ac replacements × (text.items ≡ text_by ac haystack replacements)
-IsReplacedBy ac haystack replacements (Err status) = (IsReplaced ac replacements × (status ≡ no_memory)) ⊎ IsReplaceRefused ac replacements status
+IsReplacedBy ac haystack replacements (Ok text) =
+    IsReplaced ac replacements × (text.items ≡ text_by ac haystack replacements)
+IsReplacedBy ac haystack replacements (Err status) =
+    (IsReplaced ac replacements × (status ≡ no_memory)) ⊎ IsReplaceRefused ac replacements status
 
 -- a text that holds it; or there is none, and the one that was there stays
 abbrev pub AnswersText : AhoCorasick → List ℕ → List (Bor (List ℕ)) → HeldText → HeldText → ℕ → Type 0
 AnswersText ac haystack replacements old new status =
-    (IsReplaced ac replacements × (status ≡ ok) × ((text : Vec ℕ) × (text.items ≡ text_by ac haystack replacements) × (new ≡ Some (record { bytes = text }))))
+    (IsReplaced ac replacements × (status ≡ ok)
+    × ((text : Vec ℕ) × (text.items ≡ text_by ac haystack replacements) × (new ≡ Some (record { bytes = text }))))
     ⊎ (IsReplacedBy ac haystack replacements (Err status) × (new ≡ old))

@@ -26,7 +26,9 @@ replacer_coded = coded_option the_row.coded
 
 -- the handle holds a replacement that was passed nothing yet; or why there is none, and the handle is unchanged
 abbrev pub AnswersReplacing : AhoCorasick → HeldReplacer → HeldReplacer → ℕ → Type 0
-AnswersReplacing ac old new status = (CanStream AnyKind (as_built ac) (supported_by ac) × (new ≡ Some (replacing_by ac)) × (status ≡ ok)) ⊎ (IsRefusedSearch ac status × (new ≡ old))
+AnswersReplacing ac old new status =
+    (CanStream AnyKind (as_built ac) (supported_by ac) × (new ≡ Some (replacing_by ac)) × (status ≡ ok))
+    ⊎ (IsRefusedSearch ac status × (new ≡ old))
 
 -- the first bytes of a piece were taken, or why none were; or the handle holds no replacement
 abbrev pub AnswersPushOn : List ℕ → HeldReplacer → HeldReplacer → Count → Type 0

@@ -30,7 +30,8 @@ IsReplacementOfPieces ac (Err status) = IsRefusedSearch ac status
 abbrev pub IsPushedOn : Replacing → List ℕ → Replacing → Count → Type 0
 IsPushedOn r piece t taken =
     ((r.replacer.finished ≡ true) × (t ≡ r) × (taken ≡ record { count = 0; status = finished }))
-    ⊎ ((r.replacer.finished ≡ false) × (got : Result ℕ StreamError) × PushesText r.replacer t.replacer piece got × (taken ≡ push_of got))
+    ⊎ ((r.replacer.finished ≡ false) × (got : Result ℕ StreamError) × PushesText r.replacer t.replacer piece got
+    × (taken ≡ push_of got))
 
 -- ---- what text comes next
 
@@ -43,12 +44,14 @@ abbrev pub slice_of : Option (List ℕ) → Length
 slice_of None = record { len = 0; status = none }
 slice_of (Some bytes) = record { len = length bytes; status = ok }
 
--- There isn't one replacement for each pattern, and nothing changed. Or the next slice of the text has this length; or there is no
+-- There isn't one replacement for each pattern, and nothing changed. Or the next slice of the text has this length; or
+-- there is no
 -- slice.
 abbrev pub IsGivenText : Replacing → List (Bor (List ℕ)) → Replacing → Length → Type 0
 IsGivenText r replacements t given =
     ((length replacements ≢ patterns_in r) × (t ≡ r) × (given ≡ record { len = 0; status = wrong_count }))
-    ⊎ ((length replacements ≡ patterns_in r) × (slice : Option (List ℕ)) × GivesText r.replacer t.replacer (map (λ b. b.now) replacements) slice × (given ≡ slice_of slice))
+    ⊎ ((length replacements ≡ patterns_in r) × (slice : Option (List ℕ))
+    × GivesText r.replacer t.replacer (map (λ b. b.now) replacements) slice × (given ≡ slice_of slice))
 
 -- ---- the end of the pieces
 

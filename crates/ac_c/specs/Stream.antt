@@ -25,7 +25,9 @@ stream_coded = coded_option the_row.coded
 
 -- the handle holds a search that was passed nothing yet; or why there is none, and the handle is unchanged
 abbrev pub AnswersStream : AhoCorasick → HeldStream → HeldStream → ℕ → Type 0
-AnswersStream ac old new status = (CanStream AnyKind (as_built ac) (supported_by ac) × (new ≡ Some (begun_by ac)) × (status ≡ ok)) ⊎ (IsRefusedSearch ac status × (new ≡ old))
+AnswersStream ac old new status =
+    (CanStream AnyKind (as_built ac) (supported_by ac) × (new ≡ Some (begun_by ac)) × (status ≡ ok))
+    ⊎ (IsRefusedSearch ac status × (new ≡ old))
 
 -- what a call returns where the handle holds no search
 abbrev pub counts_none : Count

@@ -42,5 +42,6 @@ pub record TellsAbout (ac : AhoCorasick) (about : About) : Type 0 where
 -- The length of pattern n, if there is one. No number past the greatest is a pattern's.
 abbrev pub AnswersLength : AhoCorasick → ℕ → Length → Type 0
 AnswersLength ac pattern told =
-    ((pattern < pattern_count ac) × (pattern ≤ greatest_number) × (told ≡ record { len = length (get_or (patterns_of ac) pattern []); status = ok }))
+    ((pattern < pattern_count ac) × (pattern ≤ greatest_number)
+    × (told ≡ record { len = length (get_or (patterns_of ac) pattern []); status = ok }))
     ⊎ (((pattern_count ac ≤ pattern) ⊎ (greatest_number < pattern)) × (told ≡ record { len = 0; status = bad_pattern }))

@@ -4,7 +4,7 @@ use Rattle.std.specs.Prelude.{ℕ, length}
 use Rattle.std.specs.declared.option.Option.{Option}
 use Rattle.std.specs.declared.option.Option.TheVariants.{None, Some}
 use Rattle.std.specs.Coded.{coded_option}
-use Rattle.ac_c.specs.contracts.bytes.Bytes.{the_row}
+use Rattle.ac_c.specs.contracts.text.Bytes.{the_row}
 
 -- a text, or none
 abbrev pub HeldText : Type 0

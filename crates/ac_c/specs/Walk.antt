@@ -21,7 +21,8 @@ abbrev pub no_place : ℕ
 no_place = 2 ^ 64 - 1
 
 abbrev pub cursor : ℕ → ℕ → ℕ → ℕ → ℕ → Cursor
-cursor start end last anchored earliest = record { start = start; end = end; last = last; anchored = anchored; earliest = earliest }
+cursor start end last anchored earliest =
+    record { start = start; end = end; last = last; anchored = anchored; earliest = earliest }
 
 abbrev pub bounds_of : Cursor → Bounds
 bounds_of c = record { start = c.start; end = c.end; anchored = c.anchored; earliest = c.earliest }
@@ -40,7 +41,9 @@ IsCursorIn haystack c = IsSpanIn haystack (bounds_of c) × IfSome (last_of c) (�
 
 -- the second cursor is the first one at another place
 abbrev pub Goes : Cursor → WalkPlace → Cursor → Type 0
-Goes c place d = (d ≡ record c { start = place.start; last = d.last }) × (IfSome place.last (λ last. last < no_place) → last_of d ≡ place.last)
+Goes c place d =
+    (d ≡ record c { start = place.start; last = d.last })
+    × (IfSome place.last (λ last. last < no_place) → last_of d ≡ place.last)
 
 -- the walk that stands at the cursor, and the matches that are left of it
 abbrev pub walk_of_cursor : AhoCorasick → List ℕ → Cursor → Walk
@@ -57,7 +60,9 @@ pub record IsCursorAfter (ac : AhoCorasick) (haystack : List ℕ) (c d : Cursor)
 
 -- why a walk doesn't go on: the cursor isn't valid for the haystack, or the automaton has no start for the search
 abbrev pub IsRefusedWalk : AhoCorasick → List ℕ → Cursor → ℕ → Type 0
-IsRefusedWalk ac haystack c status = ((status ≡ bad_cursor) × ¬ IsCursorIn haystack c) ⊎ (IsCursorIn haystack c × IsRefusedStart ac (asked_by haystack (bounds_of c)) status)
+IsRefusedWalk ac haystack c status =
+    ((status ≡ bad_cursor) × ¬ IsCursorIn haystack c)
+    ⊎ (IsCursorIn haystack c × IsRefusedStart ac (asked_by haystack (bounds_of c)) status)
 
 -- the cursor is valid for the haystack, and the automaton has a start for the search
 abbrev pub IsWalkBy : AhoCorasick → List ℕ → Cursor → Type 0
@@ -69,12 +74,16 @@ IsFirstLeft left r rest = MatchOption r ((left ≡ []) × (rest ≡ [])) (λ o. 
 
 -- the next match of a walk, and the cursor after it; or why the walk doesn't go on
 abbrev pub IsStepBy : AhoCorasick → List ℕ → Cursor → Result (Option Occurrence × Cursor) ℕ → Type 0
-IsStepBy ac haystack c (Ok step) = IsWalkBy ac haystack c × (rest : List Occurrence) × IsFirstLeft (left_of_walk ac haystack c) step.0 rest × IsCursorAfter ac haystack c step.1 rest
+IsStepBy ac haystack c (Ok step) =
+    IsWalkBy ac haystack c × (rest : List Occurrence) × IsFirstLeft (left_of_walk ac haystack c) step.0 rest
+    × IsCursorAfter ac haystack c step.1 rest
 IsStepBy ac haystack c (Err status) = IsRefusedWalk ac haystack c status
 
 -- What a step may cost, and that it counts each byte that it passes. One that is refused costs nothing.
 abbrev pub CostsStep : AhoCorasick → List ℕ → Cursor → Steps → Steps → Result (Option Occurrence × Cursor) ℕ → Type 0
-CostsStep ac haystack c before after (Ok step) = IsPickCost (as_built ac) (asked_by haystack (bounds_of c)) before after step.0 × PickCounts (as_built ac) (asked_by haystack (bounds_of c)) step.0 before after
+CostsStep ac haystack c before after (Ok step) =
+    IsPickCost (as_built ac) (asked_by haystack (bounds_of c)) before after step.0
+    × PickCounts (as_built ac) (asked_by haystack (bounds_of c)) step.0 before after
 CostsStep ac haystack c before after (Err status) = after ≡ before
 
 -- as C sees it
@@ -84,16 +93,19 @@ step_of c (Ok (None, d)) = record { cursor = d; found = nothing; status = none }
 step_of c (Err status) = record { cursor = c; found = nothing; status = status }
 
 abbrev pub AnswersStep : AhoCorasick → List ℕ → Cursor → Step → Type 0
-AnswersStep ac haystack c step = (r : Result (Option Occurrence × Cursor) ℕ) × IsStepBy ac haystack c r × (step ≡ step_of c r)
+AnswersStep ac haystack c step =
+    (r : Result (Option Occurrence × Cursor) ℕ) × IsStepBy ac haystack c r × (step ≡ step_of c r)
 
 -- the first entries of the buffer are the next matches, as many as it has room for
 pub record AreGiven (left : List Occurrence) (old new : List Found) (n : ℕ) : Type 0 where
   pub count : n ≡ min (length old) (length left)
   pub given : take n new ≡ map shown (take n left)
 
--- The walk, which may read ahead or not, stands at the first cursor, and its next matches went to the buffer. It stands at the second
+-- The walk, which may read ahead or not, stands at the first cursor, and its next matches went to the buffer. It stands
+-- at the second
 -- cursor after them.
-pub record TakesSome (ahead : Bool) (w : Walk) (c : Cursor) (old new : List Found) (before after : Steps) (taken : ℕ × Cursor) : Type 0 where
+pub record TakesSome (ahead : Bool) (w : Walk) (c : Cursor) (old new : List Found) (before after : Steps)
+    (taken : ℕ × Cursor) : Type 0 where
   pub given : AreGiven (left_of w) old new taken.0
   pub moved : Walk
   pub rest : left_of moved ≡ drop taken.0 (left_of w)
@@ -103,17 +115,21 @@ pub record TakesSome (ahead : Bool) (w : Walk) (c : Cursor) (old new : List Foun
 
 -- the next matches of a walk, and the cursor after them; or why the walk doesn't go on, and the buffer is unchanged
 abbrev pub IsSomeBy : AhoCorasick → List ℕ → Cursor → List Found → List Found → Result (ℕ × Cursor) ℕ → Type 0
-IsSomeBy ac haystack c old new (Ok taken) = IsWalkBy ac haystack c × AreGiven (left_of_walk ac haystack c) old new taken.0 × IsCursorAfter ac haystack c taken.1 (drop taken.0 (left_of_walk ac haystack c))
+IsSomeBy ac haystack c old new (Ok taken) =
+    IsWalkBy ac haystack c × AreGiven (left_of_walk ac haystack c) old new taken.0
+    × IsCursorAfter ac haystack c taken.1 (drop taken.0 (left_of_walk ac haystack c))
 IsSomeBy ac haystack c old new (Err status) = IsRefusedWalk ac haystack c status × (new ≡ old)
 
 -- a call with room for this many matches may read ahead
 abbrev pub are_many : ℕ → Bool
 are_many room = nat_le 16 room
 
--- The next matches cost what the walk does from one cursor to the other. With room for few it reads nothing ahead. A call that is
+-- The next matches cost what the walk does from one cursor to the other. With room for few it reads nothing ahead. A
+-- call that is
 -- refused costs nothing.
 abbrev pub CostsSome : AhoCorasick → List ℕ → Cursor → ℕ → Steps → Steps → Result (ℕ × Cursor) ℕ → Type 0
-CostsSome ac haystack c room before after (Ok taken) = (v : Walk) × WalksTo (are_many room) (walk_of_cursor ac haystack c) v before after × (v.at ≡ taken.1.start)
+CostsSome ac haystack c room before after (Ok taken) =
+    (v : Walk) × WalksTo (are_many room) (walk_of_cursor ac haystack c) v before after × (v.at ≡ taken.1.start)
 CostsSome ac haystack c room before after (Err status) = after ≡ before
 
 -- the status of a call that returned this count, for a buffer with this room
@@ -126,4 +142,5 @@ batch_of c room (Ok taken) = record { cursor = taken.1; count = taken.0; status 
 batch_of c room (Err status) = record { cursor = c; count = 0; status = status }
 
 abbrev pub AnswersSome : AhoCorasick → List ℕ → Cursor → List Found → List Found → Batch → Type 0
-AnswersSome ac haystack c old new batch = (r : Result (ℕ × Cursor) ℕ) × IsSomeBy ac haystack c old new r × (batch ≡ batch_of c (length old) r)
+AnswersSome ac haystack c old new batch =
+    (r : Result (ℕ × Cursor) ℕ) × IsSomeBy ac haystack c old new r × (batch ≡ batch_of c (length old) r)

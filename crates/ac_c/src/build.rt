@@ -76,7 +76,7 @@ impl Refusal {
     }
 
     /// What a build says of its error.
-    fn of(error: &BuildError) -> Refusal
+    fn from_error(error: &BuildError) -> Refusal
         ensures { result ≡ build_refusal error.now }
     {
         match *error.kind() {
@@ -239,7 +239,7 @@ fn built_by(
 {
     match builder_by(settings, pairs)?.build(alloc, patterns) {
         Ok(ac) => Ok(ac),
-        Err(error) => Err(Refusal::of(&error)),
+        Err(error) => Err(Refusal::from_error(&error)),
     }
 }
 
@@ -270,7 +270,7 @@ pub fn share(ac: &AhoCorasick, alloc: Global, other: &mut Handle) -> u32
     };
     match Box::new(alloc, copy) {
         Ok(copy) => {
-            *other = Handle::of(copy);
+            *other = Handle::from_box(copy);
             OK
         }
         Err(_) => NO_MEMORY,

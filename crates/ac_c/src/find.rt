@@ -73,7 +73,7 @@ fn as_answer(found: Result<Option<Match>, u32>) -> Answer
 {
     match found {
         Ok(Some(found)) => Answer {
-            found: Found::of(&found),
+            found: Found::from_match(&found),
             status: OK,
         },
         Ok(None) => Answer {

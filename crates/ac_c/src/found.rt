@@ -26,7 +26,7 @@ impl Found {
     }
 
     /// The match as C sees it.
-    pub fn of(found: &Match) -> Found
+    pub fn from_match(found: &Match) -> Found
         ensures { result ≡ shown found.now }
     {
         Found {

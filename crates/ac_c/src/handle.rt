@@ -33,7 +33,7 @@ unsafe impl Send for Handle {}
 
 impl Handle {
     /// Hides what is at the pointer.
-    fn of_slot(slot: Slot<AhoCorasick>) -> Handle
+    fn from_slot(slot: Slot<AhoCorasick>) -> Handle
         ensures { result.value ≡ slot.value }
     {
         let Slot { at, alloc } = slot;
@@ -58,14 +58,14 @@ impl Handle {
     pub fn none(alloc: Global) -> Handle
         ensures { result.value ≡ None }
     {
-        Handle::of_slot(Slot::none(alloc))
+        Handle::from_slot(Slot::none(alloc))
     }
 
     /// Puts an automaton behind a pointer.
-    pub fn of(automaton: Box<AhoCorasick, Global>) -> Handle
+    pub fn from_box(automaton: Box<AhoCorasick, Global>) -> Handle
         ensures { result.value ≡ Some automaton.value }
     {
-        Handle::of_slot(Slot::of(automaton))
+        Handle::from_slot(Slot::from_box(automaton))
     }
 
     /// The automaton, if there is one.

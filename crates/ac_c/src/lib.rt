@@ -25,7 +25,6 @@ ghost use Rattle.ac_c.specs.Tell.{AnswersLength, TellsAbout};
 ghost use Rattle.ac_c.specs.Walk.{AnswersSome, AnswersStep, cursor};
 
 pub mod build;
-pub mod bytes;
 pub mod find;
 pub mod found;
 pub mod handle;
@@ -54,12 +53,26 @@ use replacer::Replacer;
 use searching::{Count, View};
 use status::{NO_REPLACER, NO_STREAM, OK};
 use std::alloc::Global;
-use std::mem::replace as put;
+use std::mem::replace;
 use std::ptr::NonNull;
 use stream::Stream;
 use tell::About;
 use text::Text;
 use walk::{Batch, Step};
+
+/// Calls a function with what a handle holds, which it holds again after that. Gives `none` where it holds nothing.
+macro_rules! with {
+    ($handle:ident: $kind:ident in $alloc:ident, $none:expr, |$held:ident| $call:expr) => {
+        match replace($handle, $kind::none($alloc)).into_box() {
+            None => $none,
+            Some(mut $held) => {
+                let result = $call;
+                *$handle = $kind::from_box($held);
+                result
+            }
+        }
+    };
+}
 
 /// The settings at first.
 #[unsafe(no_mangle)]
@@ -84,7 +97,7 @@ pub extern "C" fn dado_raw_build(
 {
     match build::boxed_by(alloc, patterns, settings, pairs) {
         Ok(ac) => {
-            *handle = Handle::of(ac);
+            *handle = Handle::from_box(ac);
             *fault = Fault::nothing();
             OK
         }
@@ -114,14 +127,12 @@ pub extern "C" fn dado_raw_text_view(
     ensures kept { text.new.value ≡ text.old.value }
     ensures len { len.new ≡ held_len text.old.value }
 {
-    *len = 0;
-    if let Some(made) = put(text, Text::none(alloc)).into_box() {
+    *len = with!(text: Text in alloc, 0, |made| {
         if let Some(first) = made.bytes.as_slice().first() {
             *at = NonNull::from_ref(first).as_ptr();
         }
-        *len = made.bytes.len();
-        *text = Text::of(made);
-    }
+        made.bytes.len()
+    });
 }
 
 /// Frees the text, if there is one.
@@ -137,17 +148,7 @@ pub extern "C" fn dado_raw_text_free(alloc: Global, text: &mut Text)
 pub extern "C" fn dado_raw_stream_push(alloc: Global, stream: &mut Stream, piece: &[u8]) -> Count
     ensures { AnswersPush piece.now stream.old.value stream.new.value result }
 {
-    match put(stream, Stream::none(alloc)).into_box() {
-        None => Count {
-            count: 0,
-            status: NO_STREAM,
-        },
-        Some(mut search) => {
-            let taken = search.push(piece);
-            *stream = Stream::of(search);
-            taken
-        }
-    }
+    with!(stream: Stream in alloc, Count::none(NO_STREAM), |search| search.push(piece))
 }
 
 /// The next matches that are decided, as many as the buffer has room for.
@@ -159,17 +160,7 @@ pub extern "C" fn dado_raw_stream_some(
 ) -> Count
     ensures { AnswersNext stream.old.value stream.new.value out.old out.new result }
 {
-    match put(stream, Stream::none(alloc)).into_box() {
-        None => Count {
-            count: 0,
-            status: NO_STREAM,
-        },
-        Some(mut search) => {
-            let given = search.some(out);
-            *stream = Stream::of(search);
-            given
-        }
-    }
+    with!(stream: Stream in alloc, Count::none(NO_STREAM), |search| search.next_matches(out))
 }
 
 /// Where the held bytes lie, and where they stand in all that was passed. They lie there until the next push.
@@ -183,22 +174,12 @@ pub extern "C" fn dado_raw_stream_view(
     ensures view { result ≡ view_by stream.old.value }
     ensures course { IfSome stream.old.value (λ s. IsOnCourse s.search) }
 {
-    match put(stream, Stream::none(alloc)).into_box() {
-        None => View {
-            len: 0,
-            from: 0,
-            cut: 0,
-            status: NO_STREAM,
-        },
-        Some(search) => {
-            if let Some(first) = search.held().first() {
-                *at = NonNull::from_ref(first).as_ptr();
-            }
-            let view = search.view();
-            *stream = Stream::of(search);
-            view
+    with!(stream: Stream in alloc, View::none(NO_STREAM), |search| {
+        if let Some(first) = search.held().first() {
+            *at = NonNull::from_ref(first).as_ptr();
         }
-    }
+        search.view()
+    })
 }
 
 /// Tells the search that no more pieces come.
@@ -207,14 +188,10 @@ pub extern "C" fn dado_raw_stream_finish(alloc: Global, stream: &mut Stream) -> 
     ensures new { stream.new.value ≡ finish_by stream.old.value }
     ensures status { result ≡ finish_status stream.old.value }
 {
-    match put(stream, Stream::none(alloc)).into_box() {
-        None => NO_STREAM,
-        Some(mut search) => {
-            search.finish();
-            *stream = Stream::of(search);
-            OK
-        }
-    }
+    with!(stream: Stream in alloc, NO_STREAM, |search| {
+        search.finish();
+        OK
+    })
 }
 
 /// Frees the search, if there is one.
@@ -234,17 +211,7 @@ pub extern "C" fn dado_raw_replacer_push(
 ) -> Count
     ensures { AnswersPushOn piece.now replacer.old.value replacer.new.value result }
 {
-    match put(replacer, Replacer::none(alloc)).into_box() {
-        None => Count {
-            count: 0,
-            status: NO_REPLACER,
-        },
-        Some(mut begun) => {
-            let taken = begun.push(piece);
-            *replacer = Replacer::of(begun);
-            taken
-        }
-    }
+    with!(replacer: Replacer in alloc, Count::none(NO_REPLACER), |begun| begun.push(piece))
 }
 
 /// The next slice of the replaced text: its length, and its place, unless it is empty. It lies there until the next push.
@@ -257,17 +224,9 @@ pub extern "C" fn dado_raw_replacer_next(
 ) -> Length
     ensures { AnswersSlice replacements.now replacer.old.value replacer.new.value result }
 {
-    match put(replacer, Replacer::none(alloc)).into_box() {
-        None => Length {
-            len: 0,
-            status: NO_REPLACER,
-        },
-        Some(mut begun) => {
-            let slice = begun.next(replacements, at);
-            *replacer = Replacer::of(begun);
-            slice
-        }
-    }
+    with!(replacer: Replacer in alloc, Length::none(NO_REPLACER), |begun| {
+        begun.next(replacements, at)
+    })
 }
 
 /// Tells the replacement that no more pieces come.
@@ -276,14 +235,10 @@ pub extern "C" fn dado_raw_replacer_finish(alloc: Global, replacer: &mut Replace
     ensures new { replacer.new.value ≡ end_by replacer.old.value }
     ensures status { result ≡ end_status replacer.old.value }
 {
-    match put(replacer, Replacer::none(alloc)).into_box() {
-        None => NO_REPLACER,
-        Some(mut begun) => {
-            begun.finish();
-            *replacer = Replacer::of(begun);
-            OK
-        }
-    }
+    with!(replacer: Replacer in alloc, NO_REPLACER, |begun| {
+        begun.finish();
+        OK
+    })
 }
 
 /// Frees the replacement, if there is one.
@@ -397,7 +352,7 @@ pub unsafe extern "C" fn dado_raw_walk(
         (cursor start end last anchored earliest) out.old out.new result }
 {
     let ac = at as *const AhoCorasick;
-    walk::some(&*ac, haystack, start, end, last, anchored, earliest, out)
+    walk::next_matches(&*ac, haystack, start, end, last, anchored, earliest, out)
 }
 
 /// The next occurrences of a listing.
@@ -490,5 +445,5 @@ pub unsafe extern "C" fn dado_raw_tell(at: *const Opaque) -> About
     ensures answer { TellsAbout g.automaton result }
 {
     let ac = at as *const AhoCorasick;
-    tell::told(&*ac)
+    tell::describe(&*ac)
 }

@@ -38,16 +38,7 @@ pub struct Listed {
 fn is_later(place: Place, found: &Match) -> bool
     ensures { result ≡ is_after (before_of place) found.now }
 {
-    if place.begun == 0 {
-        return true;
-    }
-    if place.last.end != found.end() {
-        return place.last.end < found.end();
-    }
-    if place.last.start != found.start() {
-        return place.last.start < found.start();
-    }
-    place.last.pattern < found.pattern().as_u32()
+    place.begun == 0 || found.is_after(place.last.pattern, place.last.start, place.last.end)
 }
 
 /// From where on the haystack is searched.
@@ -114,7 +105,7 @@ fn fill(
 {
     for at in 0..out.len() {
         match next_later(matches, place, steps) {
-            Some(found) => out[at] = Found::of(&found),
+            Some(found) => out[at] = Found::from_match(&found),
             None => return at,
         }
     }
@@ -122,7 +113,7 @@ fn fill(
 }
 
 /// The place after so many of the buffer's entries were given.
-fn moved(place: Place, out: &[Found], count: usize) -> Place
+fn place_after(place: Place, out: &[Found], count: usize) -> Place
     requires { count ≤ length out.now }
     ensures { result ≡ place_after place out.now count }
 {
@@ -164,7 +155,7 @@ fn as_listed(place: Place, out: &[Found], listed: Result<usize, u32>) -> Listed
 {
     match listed {
         Ok(count) => Listed {
-            place: moved(place, out, count),
+            place: place_after(place, out, count),
             count,
             status: if count == 0 && out.len() > 0 {
                 NONE

@@ -6,9 +6,8 @@ ghost use Rattle.std.specs.Prelude.{◌≡◌, ◌≤◌, ◌+◌, ◌++◌, len
 ghost use Rattle.ac_c.specs.Walking.{IsAccounted, WalksToEnd};
 ghost use Rattle.ac_c.specs.Replace.{AnswersInto, AnswersText, AreReplaceable, CostsInto, CostsLen, IsLenBy, IsLenOf, IsReplaced, IsReplacedBy, begun_with, is_long, text_along, text_by, walk_over};
 
-use crate::bytes::Bytes;
 use crate::status::{NO_MEMORY, OK, TOO_MANY_BYTES, TOO_SHORT, WRONG_COUNT, refused};
-use crate::text::Text;
+use crate::text::{Bytes, Text};
 use crate::walking::Walking;
 use aho_corasick::{AhoCorasick, Input, ReplaceError, Steps};
 use std::alloc::Global;
@@ -19,6 +18,15 @@ use std::alloc::Global;
 pub struct Length {
     pub len: usize,
     pub status: u32,
+}
+
+impl Length {
+    /// There is no length, and why.
+    pub fn none(status: u32) -> Length
+        ensures { result ≡ record { len = 0; status = status } }
+    {
+        Length { len: 0, status }
+    }
 }
 
 /// How many bytes a haystack has with each of the matches replaced, if a number says it; counts what the walk does.
@@ -52,10 +60,10 @@ fn text_len<W: Walking + Drop>(
 }
 
 /// Copies bytes to a place of a buffer. Returns the place after them.
-fn put(out: &mut [u8], at: usize, bytes: &[u8]) -> usize
+fn copy_to(out: &mut [u8], at: usize, bytes: &[u8]) -> usize
     requires { at + length bytes.now ≤ length out.old }
     ensures end { result ≡ at + length bytes.now }
-    ensures put { out.new ≡ take at out.old ++ begun_with bytes.now (drop at out.old) }
+    ensures copied { out.new ≡ take at out.old ++ begun_with bytes.now (drop at out.old) }
 {
     let end = at + bytes.len();
     out[at..end].copy_from_slice(bytes);
@@ -81,11 +89,11 @@ fn write_text<W: Walking + Drop>(
     let mut at = 0;
     let mut len = 0;
     while let Some(found) = matches.next_match(steps) {
-        len = put(out, len, &haystack[at..found.start()]);
-        len = put(out, len, replacements[found.pattern().as_usize()]);
+        len = copy_to(out, len, &haystack[at..found.start()]);
+        len = copy_to(out, len, replacements[found.pattern().as_usize()]);
         at = found.end();
     }
-    put(out, len, &haystack[at..]);
+    copy_to(out, len, &haystack[at..]);
 }
 
 /// A haystack of this length is read ahead. For a shorter one the notes take longer to make than they save.
@@ -155,7 +163,7 @@ fn into_counted(
     ensures cost { CostsInto ac.now haystack.now result.status steps.old steps.new }
 {
     match len_counted(ac, haystack, replacements, steps) {
-        Err(status) => Length { len: 0, status },
+        Err(status) => Length::none(status),
         Ok(len) => {
             if len > out.len() {
                 return Length {
@@ -210,7 +218,7 @@ pub fn made(
         Ok(bytes) => match Box::new(alloc, Bytes { bytes }) {
             Err(_) => NO_MEMORY,
             Ok(made) => {
-                *text = Text::of(made);
+                *text = Text::from_box(made);
                 OK
             }
         },

@@ -35,7 +35,7 @@ unsafe impl Send for Replacer {}
 
 impl Replacer {
     /// Hides what is at the pointer.
-    fn of_slot(slot: Slot<Replacing>) -> Replacer
+    fn from_slot(slot: Slot<Replacing>) -> Replacer
         ensures { result.value ≡ slot.value }
     {
         let Slot { at, alloc } = slot;
@@ -60,14 +60,14 @@ impl Replacer {
     pub fn none(alloc: Global) -> Replacer
         ensures { result.value ≡ None }
     {
-        Replacer::of_slot(Slot::none(alloc))
+        Replacer::from_slot(Slot::none(alloc))
     }
 
     /// Puts a replacement of pieces behind a pointer.
-    pub fn of(replacement: Box<Replacing, Global>) -> Replacer
+    pub fn from_box(replacement: Box<Replacing, Global>) -> Replacer
         ensures { result.value ≡ Some replacement.value }
     {
-        Replacer::of_slot(Slot::of(replacement))
+        Replacer::from_slot(Slot::from_box(replacement))
     }
 
     /// The replacement, if there is one.
@@ -90,7 +90,7 @@ pub fn begin(ac: &AhoCorasick, alloc: Global, replacer: &mut Replacer) -> u32
 {
     match Replacing::begin(ac, alloc) {
         Ok(begun) => {
-            *replacer = Replacer::of(begun);
+            *replacer = Replacer::from_box(begun);
             OK
         }
         Err(status) => status,

@@ -63,17 +63,11 @@ impl Replacing {
             steps.new }
     {
         if self.replacer.is_finished() {
-            return Count {
-                count: 0,
-                status: FINISHED,
-            };
+            return Count::none(FINISHED);
         }
         match self.replacer.push_counted(piece, steps) {
             Ok(count) => Count { count, status: OK },
-            Err(_) => Count {
-                count: 0,
-                status: TOO_MANY_BYTES,
-            },
+            Err(_) => Count::none(TOO_MANY_BYTES),
         }
     }
 
@@ -96,16 +90,10 @@ impl Replacing {
             steps.new }
     {
         if replacements.len() != self.replacer.patterns_len() {
-            return Length {
-                len: 0,
-                status: WRONG_COUNT,
-            };
+            return Length::none(WRONG_COUNT);
         }
         match self.replacer.next_counted(replacements, steps) {
-            None => Length {
-                len: 0,
-                status: NONE,
-            },
+            None => Length::none(NONE),
             Some(slice) => {
                 if let Some(first) = slice.first() {
                     *at = NonNull::from_ref(first).as_ptr();

@@ -30,6 +30,15 @@ pub struct Count {
     pub status: u32,
 }
 
+impl Count {
+    /// Nothing was taken or given, and why.
+    pub fn none(status: u32) -> Count
+        ensures { result ≡ record { count = 0; status = status } }
+    {
+        Count { count: 0, status }
+    }
+}
+
 /// How many bytes are held, the place of the first one, the place up to which everything is decided, and the status. Places are
 /// counted from the first byte of the first piece.
 #[repr(C)]
@@ -39,6 +48,20 @@ pub struct View {
     pub from: usize,
     pub cut: usize,
     pub status: u32,
+}
+
+impl View {
+    /// Nothing is held, and why.
+    pub fn none(status: u32) -> View
+        ensures { result ≡ record { len = 0; from = 0; cut = 0; status = status } }
+    {
+        View {
+            len: 0,
+            from: 0,
+            cut: 0,
+            status,
+        }
+    }
 }
 
 /// Returns an error if the automaton can't search pieces.
@@ -87,7 +110,7 @@ fn fill(search: &mut StreamSearch<AhoCorasick>, out: &mut [Found], steps: &mut S
 {
     for at in 0..out.len() {
         match search.next_counted(steps) {
-            Some(found) => out[at] = Found::of(&found),
+            Some(found) => out[at] = Found::from_match(&found),
             None => return at,
         }
     }
@@ -132,29 +155,23 @@ impl Searching {
         ensures cost { StreamCounts self.old.search self.new.search steps.old steps.new }
     {
         if self.is_finished() {
-            return Count {
-                count: 0,
-                status: FINISHED,
-            };
+            return Count::none(FINISHED);
         }
         match self.search.push_counted(piece, steps) {
             Ok(count) => Count { count, status: OK },
-            Err(_) => Count {
-                count: 0,
-                status: TOO_MANY_BYTES,
-            },
+            Err(_) => Count::none(TOO_MANY_BYTES),
         }
     }
 
     /// The next matches that are decided, as many as the buffer has room for.
-    pub fn some(&mut self, out: &mut [Found]) -> Count
+    pub fn next_matches(&mut self, out: &mut [Found]) -> Count
         ensures { IsGiven self.old self.new out.old out.new result }
     {
-        self.some_counted(out, &mut Steps::new())
+        self.next_matches_counted(out, &mut Steps::new())
     }
 
     /// The same; counts what it does.
-    fn some_counted(&mut self, out: &mut [Found], steps: &mut Steps) -> Count
+    fn next_matches_counted(&mut self, out: &mut [Found], steps: &mut Steps) -> Count
         ensures given { IsGiven self.old self.new out.old out.new result }
         ensures cost { StreamCounts self.old.search self.new.search steps.old steps.new }
     {

@@ -35,7 +35,7 @@ impl<T> Slot<T> {
     }
 
     /// The value of a box, where it lies.
-    pub(crate) fn of(held: Box<T, Global>) -> Slot<T>
+    pub(crate) fn from_box(held: Box<T, Global>) -> Slot<T>
     where
         T: Drop,
         ensures { result.value ≡ Some held.value }

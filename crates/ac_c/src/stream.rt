@@ -35,7 +35,7 @@ unsafe impl Send for Stream {}
 
 impl Stream {
     /// Hides what is at the pointer.
-    fn of_slot(slot: Slot<Searching>) -> Stream
+    fn from_slot(slot: Slot<Searching>) -> Stream
         ensures { result.value ≡ slot.value }
     {
         let Slot { at, alloc } = slot;
@@ -60,14 +60,14 @@ impl Stream {
     pub fn none(alloc: Global) -> Stream
         ensures { result.value ≡ None }
     {
-        Stream::of_slot(Slot::none(alloc))
+        Stream::from_slot(Slot::none(alloc))
     }
 
     /// Puts a search of pieces behind a pointer.
-    pub fn of(search: Box<Searching, Global>) -> Stream
+    pub fn from_box(search: Box<Searching, Global>) -> Stream
         ensures { result.value ≡ Some search.value }
     {
-        Stream::of_slot(Slot::of(search))
+        Stream::from_slot(Slot::from_box(search))
     }
 
     /// The search, if there is one.
@@ -90,7 +90,7 @@ pub fn begin(ac: &AhoCorasick, alloc: Global, stream: &mut Stream) -> u32
 {
     match Searching::begin(ac, alloc) {
         Ok(search) => {
-            *stream = Stream::of(search);
+            *stream = Stream::from_box(search);
             OK
         }
         Err(status) => status,

@@ -54,7 +54,7 @@ fn engine_number(kind: AhoCorasickKind) -> u32
 }
 
 /// What an automaton was built of and as.
-pub fn told(ac: &AhoCorasick) -> About
+pub fn describe(ac: &AhoCorasick) -> About
     ensures { TellsAbout ac.now result }
 {
     About {
@@ -74,19 +74,13 @@ pub fn pattern_len(ac: &AhoCorasick, pattern: u32) -> Length
 {
     let number = pattern as usize;
     if number >= ac.patterns_len() {
-        return Length {
-            len: 0,
-            status: BAD_PATTERN,
-        };
+        return Length::none(BAD_PATTERN);
     }
     match PatternID::new(number) {
         Ok(id) => Length {
             len: Automaton::pattern_len(ac, id),
             status: OK,
         },
-        Err(_) => Length {
-            len: 0,
-            status: BAD_PATTERN,
-        },
+        Err(_) => Length::none(BAD_PATTERN),
     }
 }

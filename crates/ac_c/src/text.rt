@@ -2,10 +2,15 @@
 ghost use Rattle.std.specs.Prelude.{◌≡◌, Some, None, option_map};
 ghost use Rattle.ac_c.specs.Text.{HeldText, text_coded};
 
-use crate::bytes::Bytes;
 use crate::slot::Slot;
 use std::alloc::Global;
 use std::marker::Model;
+
+/// A text that the library allocated, as a value of this crate.
+#[derive(Drop)]
+pub struct Bytes {
+    pub bytes: Vec<u8>,
+}
 
 /// Stands behind the pointer. C never looks at it.
 #[repr(C)]
@@ -23,7 +28,7 @@ pub struct Text {
 }
 
 impl Model for Text {
-    ghost use Rattle.ac_c.specs.contracts.bytes.Bytes.{the_row};
+    ghost use Rattle.ac_c.specs.contracts.text.Bytes.{the_row};
     ghost use Rattle.ac_c.specs.Slot.{slot_owns};
 
     ghost also_owns = { λ h. slot_owns the_row h.alloc h.at h.value };
@@ -33,7 +38,7 @@ unsafe impl Send for Text {}
 
 impl Text {
     /// Hides what is at the pointer.
-    fn of_slot(slot: Slot<Bytes>) -> Text
+    fn from_slot(slot: Slot<Bytes>) -> Text
         ensures { result.value ≡ slot.value }
     {
         let Slot { at, alloc } = slot;
@@ -58,14 +63,14 @@ impl Text {
     pub fn none(alloc: Global) -> Text
         ensures { result.value ≡ None }
     {
-        Text::of_slot(Slot::none(alloc))
+        Text::from_slot(Slot::none(alloc))
     }
 
     /// Puts a text behind a pointer.
-    pub fn of(text: Box<Bytes, Global>) -> Text
+    pub fn from_box(text: Box<Bytes, Global>) -> Text
         ensures { result.value ≡ Some text.value }
     {
-        Text::of_slot(Slot::of(text))
+        Text::from_slot(Slot::from_box(text))
     }
 
     /// The text, if there is one.

@@ -69,7 +69,7 @@ fn place_at(cursor: Cursor) -> WalkPlace
 }
 
 /// The cursor, moved to another place of the walk.
-fn moved(cursor: Cursor, place: WalkPlace) -> Cursor
+fn cursor_at(cursor: Cursor, place: WalkPlace) -> Cursor
     ensures { Goes cursor place result }
 {
     Cursor {
@@ -108,7 +108,7 @@ fn step_counted(
         Err(error) => Err(refused(&error)),
         Ok(mut matches) => {
             let found = matches.next_counted(steps);
-            Ok((found, moved(cursor, matches.place())))
+            Ok((found, cursor_at(cursor, matches.place())))
         }
     }
 }
@@ -122,7 +122,7 @@ fn fill<W: Walking>(matches: &mut W, out: &mut [Found], steps: &mut Steps) -> us
 {
     for at in 0..out.len() {
         match matches.next_match(steps) {
-            Some(found) => out[at] = Found::of(&found),
+            Some(found) => out[at] = Found::from_match(&found),
             None => return at,
         }
     }
@@ -141,14 +141,14 @@ fn taken<W: Walking + Drop>(
 {
     let mut matches = matches;
     let count = fill(&mut matches, out, steps);
-    (count, moved(cursor, matches.stands()))
+    (count, cursor_at(cursor, matches.stands()))
 }
 
 /// With room for fewer matches nothing is read ahead, since the notes for it would take longer to make than they save.
 const FEW: usize = 16;
 
 /// The next matches, and where the walk stands then; counts what it does.
-fn some_counted(
+fn next_matches_counted(
     ac: &AhoCorasick,
     haystack: &[u8],
     cursor: Cursor,
@@ -180,7 +180,7 @@ fn as_step(cursor: Cursor, stepped: Result<(Option<Match>, Cursor), u32>) -> Ste
     match stepped {
         Ok((Some(found), cursor)) => Step {
             cursor,
-            found: Found::of(&found),
+            found: Found::from_match(&found),
             status: OK,
         },
         Ok((None, cursor)) => Step {
@@ -240,7 +240,7 @@ fn as_batch(cursor: Cursor, room: usize, taken: Result<(usize, Cursor), u32>) ->
 }
 
 /// The next matches of a walk that stands at a cursor, as many as the buffer has room for, as C sees it.
-pub fn some(
+pub fn next_matches(
     ac: &AhoCorasick,
     haystack: &[u8],
     start: usize,
@@ -261,6 +261,6 @@ pub fn some(
         earliest,
     };
     let room = out.len();
-    let taken = some_counted(ac, haystack, cursor, out, &mut Steps::new());
+    let taken = next_matches_counted(ac, haystack, cursor, out, &mut Steps::new());
     as_batch(cursor, room, taken)
 }

@@ -7,7 +7,15 @@ use Rattle.ac_input.specs.Computed.{best_of, walk_of, listing_of}
 
 -- the patterns b, abc and abcd, searched in abcd
 abbrev pub nested : Search
-nested = record { patterns = (98 ∷ []) ∷ (97 ∷ 98 ∷ 99 ∷ []) ∷ (97 ∷ 98 ∷ 99 ∷ 100 ∷ []) ∷ []; pairing = []; haystack = 97 ∷ 98 ∷ 99 ∷ 100 ∷ []; start = 0; end = 4; anchored = false }
+nested =
+    record {
+      patterns = (98 ∷ []) ∷ (97 ∷ 98 ∷ 99 ∷ []) ∷ (97 ∷ 98 ∷ 99 ∷ 100 ∷ []) ∷ [];
+      pairing = [];
+      haystack = 97 ∷ 98 ∷ 99 ∷ 100 ∷ [];
+      start = 0;
+      end = 4;
+      anchored = false;
+    }
 
 -- standard takes the pattern that ends first
 pub nested-standard : best_of Standard nested ≡ Some (record { pattern = 0; start = 1; end = 2 })
@@ -22,31 +30,54 @@ pub nested-longest : walk_of LeftmostLongest nested ≡ record { pattern = 2; st
 nested-longest = refl
 
 -- the listing has all three, by their ends
-pub nested-listed : listing_of nested ≡ record { pattern = 0; start = 1; end = 2 } ∷ record { pattern = 1; start = 0; end = 3 } ∷ record { pattern = 2; start = 0; end = 4 } ∷ []
+pub nested-listed : listing_of nested
+    ≡ record { pattern = 0; start = 1; end = 2 } ∷ record { pattern = 1; start = 0; end = 3 }
+    ∷ record { pattern = 2; start = 0; end = 4 } ∷ []
 nested-listed = refl
 
 -- the empty pattern and ab, searched in ab
 abbrev pub empty_and_ab : Search
-empty_and_ab = record { patterns = [] ∷ (97 ∷ 98 ∷ []) ∷ []; pairing = []; haystack = 97 ∷ 98 ∷ []; start = 0; end = 2; anchored = false }
+empty_and_ab =
+    record {
+      patterns = [] ∷ (97 ∷ 98 ∷ []) ∷ [];
+      pairing = [];
+      haystack = 97 ∷ 98 ∷ [];
+      start = 0;
+      end = 2;
+      anchored = false;
+    }
 
 -- the empty pattern lies at every place, the end included; at one end the longer comes first
-pub empty_and_ab-listed : listing_of empty_and_ab ≡ record { pattern = 0; start = 0; end = 0 } ∷ record { pattern = 0; start = 1; end = 1 } ∷ record { pattern = 1; start = 0; end = 2 } ∷ record { pattern = 0; start = 2; end = 2 } ∷ []
+pub empty_and_ab-listed : listing_of empty_and_ab
+    ≡ record { pattern = 0; start = 0; end = 0 } ∷ record { pattern = 0; start = 1; end = 1 }
+    ∷ record { pattern = 1; start = 0; end = 2 } ∷ record { pattern = 0; start = 2; end = 2 } ∷ []
 empty_and_ab-listed = refl
 
 -- ab and the empty pattern, searched in aab
 abbrev pub ab_and_empty : Search
-ab_and_empty = record { patterns = (97 ∷ 98 ∷ []) ∷ [] ∷ []; pairing = []; haystack = 97 ∷ 97 ∷ 98 ∷ []; start = 0; end = 3; anchored = false }
+ab_and_empty =
+    record {
+      patterns = (97 ∷ 98 ∷ []) ∷ [] ∷ [];
+      pairing = [];
+      haystack = 97 ∷ 97 ∷ 98 ∷ [];
+      start = 0;
+      end = 3;
+      anchored = false;
+    }
 
 -- after a match the empty pattern is not taken where that match ended
-pub ab_and_empty-first : walk_of LeftmostFirst ab_and_empty ≡ record { pattern = 1; start = 0; end = 0 } ∷ record { pattern = 0; start = 1; end = 3 } ∷ []
+pub ab_and_empty-first : walk_of LeftmostFirst ab_and_empty
+    ≡ record { pattern = 1; start = 0; end = 0 } ∷ record { pattern = 0; start = 1; end = 3 } ∷ []
 ab_and_empty-first = refl
 
 -- ab replaced by X and the empty pattern by a dash: standard takes the empty pattern at every place
-pub ab_and_empty-standard_text : replaced_from 0 (97 ∷ 97 ∷ 98 ∷ []) ((88 ∷ []) ∷ (45 ∷ []) ∷ []) (walk_of Standard ab_and_empty) ≡ 45 ∷ 97 ∷ 45 ∷ 97 ∷ 45 ∷ 98 ∷ 45 ∷ []
+pub ab_and_empty-standard_text : replaced_from 0 (97 ∷ 97 ∷ 98 ∷ []) ((88 ∷ []) ∷ (45 ∷ []) ∷ [])
+    (walk_of Standard ab_and_empty) ≡ 45 ∷ 97 ∷ 45 ∷ 97 ∷ 45 ∷ 98 ∷ 45 ∷ []
 ab_and_empty-standard_text = refl
 
 -- ab replaced by X and the empty pattern by a dash: leftmost-first takes ab where it lies
-pub ab_and_empty-first_text : replaced_from 0 (97 ∷ 97 ∷ 98 ∷ []) ((88 ∷ []) ∷ (45 ∷ []) ∷ []) (walk_of LeftmostFirst ab_and_empty) ≡ 45 ∷ 97 ∷ 88 ∷ []
+pub ab_and_empty-first_text : replaced_from 0 (97 ∷ 97 ∷ 98 ∷ []) ((88 ∷ []) ∷ (45 ∷ []) ∷ [])
+    (walk_of LeftmostFirst ab_and_empty) ≡ 45 ∷ 97 ∷ 88 ∷ []
 ab_and_empty-first_text = refl
 
 -- the empty pattern, searched in ab
@@ -54,37 +85,68 @@ abbrev pub empty_alone : Search
 empty_alone = record { patterns = [] ∷ []; pairing = []; haystack = 97 ∷ 98 ∷ []; start = 0; end = 2; anchored = false }
 
 -- the empty pattern replaced by a dash: one dash before each byte, and one at the end
-pub empty_alone-text : replaced_from 0 (97 ∷ 98 ∷ []) ((45 ∷ []) ∷ []) (walk_of Standard empty_alone) ≡ 45 ∷ 97 ∷ 45 ∷ 98 ∷ 45 ∷ []
+pub empty_alone-text : replaced_from 0 (97 ∷ 98 ∷ []) ((45 ∷ []) ∷ []) (walk_of Standard empty_alone)
+    ≡ 45 ∷ 97 ∷ 45 ∷ 98 ∷ 45 ∷ []
 empty_alone-text = refl
 
 -- a, given twice and searched in a
 abbrev pub twice_given : Search
-twice_given = record { patterns = (97 ∷ []) ∷ (97 ∷ []) ∷ []; pairing = []; haystack = 97 ∷ []; start = 0; end = 1; anchored = false }
+twice_given =
+    record {
+      patterns = (97 ∷ []) ∷ (97 ∷ []) ∷ [];
+      pairing = [];
+      haystack = 97 ∷ [];
+      start = 0;
+      end = 1;
+      anchored = false;
+    }
 
 -- the walk takes the one that was given first
 pub twice_given-walk : walk_of Standard twice_given ≡ record { pattern = 0; start = 0; end = 1 } ∷ []
 twice_given-walk = refl
 
 -- the listing has both
-pub twice_given-listed : listing_of twice_given ≡ record { pattern = 0; start = 0; end = 1 } ∷ record { pattern = 1; start = 0; end = 1 } ∷ []
+pub twice_given-listed : listing_of twice_given
+    ≡ record { pattern = 0; start = 0; end = 1 } ∷ record { pattern = 1; start = 0; end = 1 } ∷ []
 twice_given-listed = refl
 
 -- abcd, b, bce and ce, searched in abce
 abbrev pub chained : Search
-chained = record { patterns = (97 ∷ 98 ∷ 99 ∷ 100 ∷ []) ∷ (98 ∷ []) ∷ (98 ∷ 99 ∷ 101 ∷ []) ∷ (99 ∷ 101 ∷ []) ∷ []; pairing = []; haystack = 97 ∷ 98 ∷ 99 ∷ 101 ∷ []; start = 0; end = 4; anchored = false }
+chained =
+    record {
+      patterns = (97 ∷ 98 ∷ 99 ∷ 100 ∷ []) ∷ (98 ∷ []) ∷ (98 ∷ 99 ∷ 101 ∷ []) ∷ (99 ∷ 101 ∷ []) ∷ [];
+      pairing = [];
+      haystack = 97 ∷ 98 ∷ 99 ∷ 101 ∷ [];
+      start = 0;
+      end = 4;
+      anchored = false;
+    }
 
 -- a longer pattern whose beginning matches but not the rest is given up for one that starts later
-pub chained-first : walk_of LeftmostFirst chained ≡ record { pattern = 1; start = 1; end = 2 } ∷ record { pattern = 3; start = 2; end = 4 } ∷ []
+pub chained-first : walk_of LeftmostFirst chained
+    ≡ record { pattern = 1; start = 1; end = 2 } ∷ record { pattern = 3; start = 2; end = 4 } ∷ []
 chained-first = refl
 
 -- The digits 0 and 1 paired: the partners of the first 50 bytes. A byte past them is its own partner.
 abbrev pub digits_paired : List ℕ
-digits_paired = 0 ∷ 1 ∷ 2 ∷ 3 ∷ 4 ∷ 5 ∷ 6 ∷ 7 ∷ 8 ∷ 9 ∷ 10 ∷ 11 ∷ 12 ∷ 13 ∷ 14 ∷ 15 ∷ 16 ∷ 17 ∷ 18 ∷ 19 ∷ 20 ∷ 21 ∷ 22 ∷ 23 ∷ 24 ∷ 25 ∷ 26 ∷ 27 ∷ 28 ∷ 29 ∷ 30 ∷ 31 ∷ 32 ∷ 33 ∷ 34 ∷ 35 ∷ 36 ∷ 37 ∷ 38 ∷ 39 ∷ 40 ∷ 41 ∷ 42 ∷ 43 ∷ 44 ∷ 45 ∷ 46 ∷ 47 ∷ 49 ∷ 48 ∷ []
+digits_paired =
+    0 ∷ 1 ∷ 2 ∷ 3 ∷ 4 ∷ 5 ∷ 6 ∷ 7 ∷ 8 ∷ 9 ∷ 10 ∷ 11 ∷ 12 ∷ 13 ∷ 14 ∷ 15 ∷ 16 ∷ 17 ∷ 18 ∷ 19 ∷ 20 ∷ 21 ∷ 22 ∷ 23 ∷ 24
+    ∷ 25 ∷ 26 ∷ 27 ∷ 28 ∷ 29 ∷ 30 ∷ 31 ∷ 32 ∷ 33 ∷ 34 ∷ 35 ∷ 36 ∷ 37 ∷ 38 ∷ 39 ∷ 40 ∷ 41 ∷ 42 ∷ 43 ∷ 44 ∷ 45 ∷ 46 ∷ 47
+    ∷ 49 ∷ 48 ∷ []
 
 -- 0a and 1a, searched in 1a with the digits paired
 abbrev pub paired : Search
-paired = record { patterns = (48 ∷ 97 ∷ []) ∷ (49 ∷ 97 ∷ []) ∷ []; pairing = digits_paired; haystack = 49 ∷ 97 ∷ []; start = 0; end = 2; anchored = false }
+paired =
+    record {
+      patterns = (48 ∷ 97 ∷ []) ∷ (49 ∷ 97 ∷ []) ∷ [];
+      pairing = digits_paired;
+      haystack = 49 ∷ 97 ∷ [];
+      start = 0;
+      end = 2;
+      anchored = false;
+    }
 
 -- both patterns lie there
-pub paired-listed : listing_of paired ≡ record { pattern = 0; start = 0; end = 2 } ∷ record { pattern = 1; start = 0; end = 2 } ∷ []
+pub paired-listed : listing_of paired
+    ≡ record { pattern = 0; start = 0; end = 2 } ∷ record { pattern = 1; start = 0; end = 2 } ∷ []
 paired-listed = refl

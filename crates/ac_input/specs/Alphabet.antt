@@ -22,20 +22,24 @@ is_edge start end byte = (byte == end) || (byte + 1 == start)
 
 -- the range holds just one of this byte and the next
 abbrev pub HoldsJustOne : ℕ → ℕ → ℕ → Type 0
-HoldsJustOne start end byte = (nat_le start byte && nat_le byte end) ≢ (nat_le start (byte + 1) && nat_le (byte + 1) end)
+HoldsJustOne start end byte =
+    (nat_le start byte && nat_le byte end) ≢ (nat_le start (byte + 1) && nat_le (byte + 1) end)
 
 -- the class of a byte in a table of classes
 abbrev pub class : List ℕ → ℕ → ℕ
 class classes byte = get_or classes byte 0
 
--- A table of classes has an entry for each of the 256 bytes. Byte 0 is in class 0, and each other byte is in the class of the byte
+-- A table of classes has an entry for each of the 256 bytes. Byte 0 is in class 0, and each other byte is in the class
+-- of the byte
 -- before it or in the next class.
 pub record IsClasses (classes : List ℕ) : Type 0 where
   pub len : length classes ≡ 256
   pub first : class classes 0 ≡ 0
-  pub next : (b : ℕ) → b < 255 → (class classes (b + 1) ≡ class classes b) ⊎ (class classes (b + 1) ≡ class classes b + 1)
+  pub next : (b : ℕ) → b < 255 → (class classes (b + 1) ≡ class classes b)
+      ⊎ (class classes (b + 1) ≡ class classes b + 1)
 
--- The classes that boundaries make. A boundary is a byte after which a class ends. Byte 0 is in class 0; any other byte is in the
+-- The classes that boundaries make. A boundary is a byte after which a class ends. Byte 0 is in class 0; any other byte
+-- is in the
 -- next class if the byte before it is a boundary, else in that byte's class.
 pub record AreClassesOf (boundaries : List Bool) (classes : List ℕ) : Type 0 where
   pub first : class classes 0 ≡ 0
@@ -62,7 +66,8 @@ elements_from classes wanted at count = filter (λ b. class classes b == wanted)
 unfoldable pub elements : List ℕ → ℕ → List ℕ
 elements classes wanted = elements_from classes wanted 0 256
 
--- the runs of a rising list of bytes, after an open run from start to end; each run is given by its first and its last byte
+-- the runs of a rising list of bytes, after an open run from start to end; each run is given by its first and its last
+-- byte
 abbrev pub runs_behind : ℕ → ℕ → List ℕ → List (ℕ × ℕ)
 runs_behind start end [] = (start, end) ∷ []
 runs_behind start end (b ∷ bs) = if b == end + 1 then runs_behind start b bs else (start, end) ∷ runs_behind b b bs

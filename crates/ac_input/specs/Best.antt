@@ -7,12 +7,16 @@ use Rattle.ac_input.specs.declared.search.MatchKind.{MatchKind}
 use Rattle.ac_input.specs.declared.search.MatchKind.TheVariants.{Standard, LeftmostFirst, LeftmostLongest}
 use Rattle.ac_input.specs.Occurrence.{Search, Occurrence, Occurs}
 
--- The order in which a kind prefers occurrences, the preferred one first. Standard prefers the earliest end, then the earliest
--- start. The leftmost kinds prefer the earliest start, leftmost-longest then the latest end. Ties go to the lowest pattern number.
+-- The order in which a kind prefers occurrences, the preferred one first. Standard prefers the earliest end, then the
+-- earliest
+-- start. The leftmost kinds prefer the earliest start, leftmost-longest then the latest end. Ties go to the lowest
+-- pattern number.
 abbrev pub preference : MatchKind → Occurrence → Occurrence → Ordering
-preference Standard a b = ordering_then (nat_cmp a.end b.end) (ordering_then (nat_cmp a.start b.start) (nat_cmp a.pattern b.pattern))
+preference Standard a b =
+    ordering_then (nat_cmp a.end b.end) (ordering_then (nat_cmp a.start b.start) (nat_cmp a.pattern b.pattern))
 preference LeftmostFirst a b = ordering_then (nat_cmp a.start b.start) (nat_cmp a.pattern b.pattern)
-preference LeftmostLongest a b = ordering_then (nat_cmp a.start b.start) (ordering_then (nat_cmp b.end a.end) (nat_cmp a.pattern b.pattern))
+preference LeftmostLongest a b =
+    ordering_then (nat_cmp a.start b.start) (ordering_then (nat_cmp b.end a.end) (nat_cmp a.pattern b.pattern))
 
 -- the most preferred occurrence among those of which P holds; none where P holds of none
 abbrev pub IsLeast : MatchKind → (Occurrence → Type 0) → Option Occurrence → Type 0

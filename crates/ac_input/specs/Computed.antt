@@ -1,4 +1,5 @@
--- The best, the pick, the walk and the listing as functions that compute them. The laws prove that each is the only value that
+-- The best, the pick, the walk and the listing as functions that compute them. The laws prove that each is the only
+-- value that
 -- meets its relation.
 use Rattle.std.specs.Prelude.{ℕ, zero, suc, ◌+◌, ◌-◌, ◌*◌, Bool, true, false, ◌&&◌, ◌==◌, nat_le, List, [], ◌∷◌, ◌++◌, length, Option, Some, None, if◌then◌else◌, slice_range, filter}
 use Rattle.std.specs.declared.cmp.Ordering.{Ordering}
@@ -24,7 +25,9 @@ from_place s at (suc places) = at_place s at s.patterns 0 ++ from_place s (at + 
 
 -- all occurrences of the search, by start and number
 abbrev pub occurrences : Search → List Occurrence
-occurrences s = if s.anchored then from_place s s.start (if nat_le s.start s.end then 1 else 0) else from_place s s.start (s.end + 1 - s.start)
+occurrences s =
+    if s.anchored then from_place s s.start (if nat_le s.start s.end then 1 else 0)
+    else from_place s s.start (s.end + 1 - s.start)
 
 abbrev pub is_less : Ordering → Bool
 is_less Less = true
@@ -34,7 +37,8 @@ is_less Greater = false
 -- the one of some occurrences that the kind prefers
 abbrev pub least : MatchKind → List Occurrence → Option Occurrence
 least kind [] = None
-least kind (o ∷ os) = elim (least kind os) [ None ↦ Some o | Some b ↦ (if is_less (preference kind b o) then Some b else Some o) ]
+least kind (o ∷ os) =
+    elim (least kind os) [ None ↦ Some o | Some b ↦ (if is_less (preference kind b o) then Some b else Some o) ]
 
 -- the best occurrence
 abbrev pub best_of : MatchKind → Search → Option Occurrence
@@ -46,12 +50,18 @@ repeats (Some last) o = (o.start == last) && (o.end == last)
 
 -- the pick of a walk that stands at a place
 abbrev pub pick_of : MatchKind → Search → ℕ → Option ℕ → Option Occurrence
-pick_of kind s at last = elim (best_of kind (starting_at s at)) [ None ↦ None | Some b ↦ (if repeats last b then best_of kind (starting_at s (at + 1)) else Some b) ]
+pick_of kind s at last =
+    elim (best_of kind (starting_at s at)) [
+      | None ↦ None
+      | Some b ↦
+          (if repeats last b then best_of kind (starting_at s (at + 1)) else Some b)
+    ]
 
 -- the picks of a walk that stands at a place, at most this many
 abbrev pub walk_from : ℕ → MatchKind → Search → ℕ → Option ℕ → List Occurrence
 walk_from zero kind s at last = []
-walk_from (suc turns) kind s at last = elim (pick_of kind s at last) [ None ↦ [] | Some o ↦ o ∷ walk_from turns kind s o.end (Some o.end) ]
+walk_from (suc turns) kind s at last =
+    elim (pick_of kind s at last) [ None ↦ [] | Some o ↦ o ∷ walk_from turns kind s o.end (Some o.end) ]
 
 -- The walk that stands at a place. Each pick that isn't empty moves it on, so two turns a place are enough.
 abbrev pub walk_after : MatchKind → Search → ℕ → Option ℕ → List Occurrence

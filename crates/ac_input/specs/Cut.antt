@@ -6,4 +6,5 @@ use Rattle.ac_input.specs.Dictionary.{Dictionary, whole}
 
 -- no pick of the walk crosses the place
 abbrev pub IsCut : Dictionary → List ℕ → ℕ → Type 0
-IsCut m x k = (k ≤ length x) × ((o : Occurrence) → Contains (walk_of m.kind (whole m x false)) o → o.start < k → o.end ≤ k)
+IsCut m x k =
+    (k ≤ length x) × ((o : Occurrence) → Contains (walk_of m.kind (whole m x false)) o → o.start < k → o.end ≤ k)

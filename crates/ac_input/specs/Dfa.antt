@@ -16,17 +16,21 @@ Serves starts.Both anchored = Unit {0}
 Serves starts.Unanchored anchored = anchored ≡ anchorings.No
 Serves starts.Anchored anchored = anchored ≡ anchorings.Yes
 
--- How many states a deterministic automaton has, where one with failure links has `states`. For both anchorings it has each state
+-- How many states a deterministic automaton has, where one with failure links has `states`. For both anchorings it has
+-- each state
 -- twice, except those that stand for no prefix.
 abbrev pub dfa_states : StartKind → ℕ → ℕ
 dfa_states starts.Both states = 2 * states - fixed_states
 dfa_states starts.Unanchored states = states
 dfa_states starts.Anchored states = states
 
--- The number of the last state of a deterministic automaton. A state's number is the place of its row. A row has as many entries as
+-- The number of the last state of a deterministic automaton. A state's number is the place of its row. A row has as
+-- many entries as
 -- the least power of two that is enough for the classes.
 abbrev pub IsDfaSize : Dictionary → StartKind → Bool → ℕ → Type 0
-IsDfaSize m kind classes n = (states alphabet stride : ℕ) × HasStates m states × IsAlphabet m classes alphabet × IsLeastPowerOfTwo alphabet stride × (n ≡ (dfa_states kind states - 1) * stride)
+IsDfaSize m kind classes n =
+    (states alphabet stride : ℕ) × HasStates m states × IsAlphabet m classes alphabet
+    × IsLeastPowerOfTwo alphabet stride × (n ≡ (dfa_states kind states - 1) * stride)
 
 -- the number of the last state is past the greatest number
 abbrev pub IsDfaTooLarge : Dictionary → StartKind → Bool → Type 0
@@ -34,4 +38,6 @@ IsDfaTooLarge m kind classes = (n : ℕ) × IsDfaSize m kind classes n × (great
 
 -- a dictionary has only one size of table for each start kind, with byte classes or without
 abbrev pub DfaSizesAreOneNumber : Type 0
-DfaSizesAreOneNumber = (m : Dictionary) (kind : StartKind) (classes : Bool) (a b : ℕ) → IsDfaSize m kind classes a → IsDfaSize m kind classes b → a ≡ b
+DfaSizesAreOneNumber =
+    (m : Dictionary) (kind : StartKind) (classes : Bool) (a b : ℕ) → IsDfaSize m kind classes a
+    → IsDfaSize m kind classes b → a ≡ b

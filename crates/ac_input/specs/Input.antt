@@ -6,7 +6,8 @@ use Rattle.ac_input.specs.declared.search.Anchored.TheVariants.{No, Yes}
 use Rattle.ac_input.specs.Occurrence.{Search}
 use Rattle.ac_input.specs.Dictionary.{Dictionary}
 
--- an input: the haystack, the span that is searched, whether a match must start where the span does, and whether the earliest end
+-- an input: the haystack, the span that is searched, whether a match must start where the span does, and whether the
+-- earliest end
 -- is taken
 pub record Asked : Type 0 where
   pub haystack : List ℕ
@@ -20,7 +21,8 @@ IsSpanOf haystack span = (span.start ≤ span.end + 1) × (span.end ≤ length h
 
 -- the initial input: the whole haystack, a match may start anywhere, and the kind decides which one is returned
 abbrev pub whole_of : List ℕ → Asked
-whole_of haystack = record { haystack = haystack; span = record { start = 0; end = length haystack }; anchored = No; earliest = false }
+whole_of haystack =
+    record { haystack = haystack; span = record { start = 0; end = length haystack }; anchored = No; earliest = false }
 
 -- whether a search has to match at its start
 abbrev pub is_anchored : Anchored → Bool

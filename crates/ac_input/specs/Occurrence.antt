@@ -20,7 +20,8 @@ pub record Search : Type 0 where
 -- A pattern that lies whole in the span. An empty pattern lies at every place of it, its end included.
 pub record Occurs (s : Search) (o : Occurrence) : Type 0 where
   pub within : (s.start ≤ o.start) × (o.start ≤ o.end) × (o.end ≤ s.end)
-  pub same : (p : List ℕ) × (slice_get s.patterns o.pattern ≡ Some p) × IsTrue (same_text s.pairing p (slice_range s.haystack o.start o.end))
+  pub same : (p : List ℕ) × (slice_get s.patterns o.pattern ≡ Some p)
+      × IsTrue (same_text s.pairing p (slice_range s.haystack o.start o.end))
   pub anchor : IsTrue s.anchored → o.start ≡ s.start
 
 -- the same search, with a span that starts at another place

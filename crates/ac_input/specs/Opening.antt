@@ -5,7 +5,8 @@ use Rattle.ac_input.specs.Dictionary.{Dictionary, IsPattern}
 
 -- the text has, at a place, the first `len` bytes of some pattern
 abbrev pub IsOpening : Dictionary → ℕ → List ℕ → ℕ → Type 0
-IsOpening m len text at = (n : ℕ) × (p : List ℕ) × IsPattern m n p × IsTrue (same_text m.pairing (take len p) (take len (drop at text)))
+IsOpening m len text at =
+    (n : ℕ) × (p : List ℕ) × IsPattern m n p × IsTrue (same_text m.pairing (take len p) (take len (drop at text)))
 
 -- no place of the text has the first `len` bytes of a pattern
 abbrev pub HasNoOpening : Dictionary → ℕ → List ℕ → Type 0

@@ -8,7 +8,8 @@ IsDigit c v = ((v < 10) × (c ≡ 48 + v)) ⊎ ((10 ≤ v) × (v < 16) × ((c �
 -- the text spells the bytes, each by two hex digits, the high half first
 abbrev pub Spells : List ℕ → List ℕ → Type 0
 Spells [] [] = Unit {0}
-Spells (h ∷ l ∷ text) (byte ∷ bytes) = (high low : ℕ) × IsDigit h high × IsDigit l low × (byte ≡ 16 * high + low) × Spells text bytes
+Spells (h ∷ l ∷ text) (byte ∷ bytes) =
+    (high low : ℕ) × IsDigit h high × IsDigit l low × (byte ≡ 16 * high + low) × Spells text bytes
 Spells text bytes = ⊥
 
 -- a rule: a pattern and its replacement
@@ -17,7 +18,9 @@ Rule = List ℕ × List ℕ
 
 -- the text begins with a line that spells this rule, `hex TAB hex LF`; the rest follows
 abbrev pub BeginsWithRule : List ℕ → Rule → List ℕ → Type 0
-BeginsWithRule text rule more = (pattern replacement : List ℕ) × Spells pattern rule.0 × Spells replacement rule.1 × (text ≡ pattern ++ 9 ∷ (replacement ++ 10 ∷ more))
+BeginsWithRule text rule more =
+    (pattern replacement : List ℕ) × Spells pattern rule.0 × Spells replacement rule.1
+    × (text ≡ pattern ++ 9 ∷ (replacement ++ 10 ∷ more))
 
 -- the text begins with no rule
 abbrev pub BeginsWithNoRule : List ℕ → Type 0
@@ -30,25 +33,33 @@ IsRuleFile text (rule ∷ rules) = (more : List ℕ) × BeginsWithRule text rule
 
 -- the number of the first line that is no rule, counted from 1; all lines before it are rules
 abbrev pub FirstBadLine : List ℕ → ℕ → Type 0
-FirstBadLine text n = (front more : List ℕ) × (rules : List Rule) × (text ≡ front ++ more) × IsRuleFile front rules × (n ≡ length rules + 1) × (more ≢ []) × BeginsWithNoRule more
+FirstBadLine text n =
+    (front more : List ℕ) × (rules : List Rule) × (text ≡ front ++ more) × IsRuleFile front rules
+    × (n ≡ length rules + 1) × (more ≢ []) × BeginsWithNoRule more
 
 -- ---- plain text: a line is `pattern TAB replacement`, or a pattern alone
 
--- The text begins with a line whose bytes are `written`, and `more` follows it. A line ends at an LF, or at the end of the text.
+-- The text begins with a line whose bytes are `written`, and `more` follows it. A line ends at an LF, or at the end of
+-- the text.
 abbrev pub BeginsWithWritten : List ℕ → List ℕ → List ℕ → Type 0
-BeginsWithWritten text written more = ¬ Contains written 10 × ((text ≡ written ++ 10 ∷ more) ⊎ ((text ≡ written) × (more ≡ [])))
+BeginsWithWritten text written more =
+    ¬ Contains written 10 × ((text ≡ written ++ 10 ∷ more) ⊎ ((text ≡ written) × (more ≡ [])))
 
 -- the line is the written bytes without a CR at their end
 abbrev pub IsWrittenAs : List ℕ → List ℕ → Type 0
-IsWrittenAs line written = (written ≡ line ++ 13 ∷ []) ⊎ ((written ≡ line) × ((front : List ℕ) → written ≢ front ++ 13 ∷ []))
+IsWrittenAs line written =
+    (written ≡ line ++ 13 ∷ []) ⊎ ((written ≡ line) × ((front : List ℕ) → written ≢ front ++ 13 ∷ []))
 
--- The sides of a line: the bytes before its first TAB, and those after it. With no TAB they are the whole line, and nothing.
+-- The sides of a line: the bytes before its first TAB, and those after it. With no TAB they are the whole line, and
+-- nothing.
 abbrev pub AreSidesOf : List ℕ → Rule → Type 0
 AreSidesOf line rule = ¬ Contains rule.0 9 × ((line ≡ rule.0 ++ 9 ∷ rule.1) ⊎ ((line ≡ rule.0) × (rule.1 ≡ [])))
 
 -- the text begins with a line that is this rule; the rest follows
 abbrev pub BeginsWithTextRule : List ℕ → Rule → List ℕ → Type 0
-BeginsWithTextRule text rule more = (written line : List ℕ) × BeginsWithWritten text written more × IsWrittenAs line written × (AreSidesOf line rule × (rule.0 ≢ []) × ¬ Contains rule.1 9)
+BeginsWithTextRule text rule more =
+    (written line : List ℕ) × BeginsWithWritten text written more × IsWrittenAs line written
+    × (AreSidesOf line rule × (rule.0 ≢ []) × ¬ Contains rule.1 9)
 
 -- the text begins with no line that is a rule
 abbrev pub BeginsWithNoTextRule : List ℕ → Type 0
@@ -57,7 +68,8 @@ BeginsWithNoTextRule text = (rule : Rule) (more : List ℕ) → ¬ BeginsWithTex
 -- the text begins with these rules, one after another, and `more` follows the last
 abbrev pub BeginsWithAll : (List ℕ → Rule → List ℕ → Type 0) → List ℕ → List Rule → List ℕ → Type 0
 BeginsWithAll begins text [] more = text ≡ more
-BeginsWithAll begins text (rule ∷ rules) more = (rest : List ℕ) × begins text rule rest × BeginsWithAll begins rest rules more
+BeginsWithAll begins text (rule ∷ rules) more =
+    (rest : List ℕ) × begins text rule rest × BeginsWithAll begins rest rules more
 
 -- a whole rule file of plain text, and its rules in their order
 abbrev pub IsTextRuleFile : List ℕ → List Rule → Type 0
@@ -65,4 +77,6 @@ IsTextRuleFile text rules = BeginsWithAll BeginsWithTextRule text rules []
 
 -- the number of the first line of plain text that is no rule, counted from 1; all lines before it are rules
 abbrev pub FirstBadTextLine : List ℕ → ℕ → Type 0
-FirstBadTextLine text n = (rules : List Rule) × (more : List ℕ) × BeginsWithAll BeginsWithTextRule text rules more × (n ≡ length rules + 1) × (more ≢ []) × BeginsWithNoTextRule more
+FirstBadTextLine text n =
+    (rules : List Rule) × (more : List ℕ) × BeginsWithAll BeginsWithTextRule text rules more × (n ≡ length rules + 1)
+    × (more ≢ []) × BeginsWithNoTextRule more

@@ -1,10 +1,15 @@
 -- Which bytes, and which texts, count as the same.
-use Rattle.std.specs.Prelude.{◌≡◌, ℕ, ◌==◌, ◌||◌, ◌&&◌, Bool, true, false, List, [], ◌∷◌, get_or}
+use Rattle.std.specs.Prelude.{◌≡◌, ℕ, ◌==◌, ◌||◌, ◌&&◌, Bool, true, false, if◌then◌else◌, List, [], ◌∷◌, get_or}
 
--- A pairing gives each byte at most one other, which stands for it. It is the table of the 256 bytes' partners;
--- a byte in no pair is its own partner.
+-- the byte that a table names for a byte
+abbrev pub named_for : List ℕ → ℕ → ℕ
+named_for pairing byte = get_or pairing byte byte
+
+-- A pairing gives each byte at most one other, which stands for it. It is a table of 256 bytes: two bytes are partners
+-- where it
+-- names each of them for the other. A byte in no pair is its own partner.
 abbrev pub other : List ℕ → ℕ → ℕ
-other pairing byte = get_or pairing byte byte
+other pairing byte = if named_for pairing (named_for pairing byte) == byte then named_for pairing byte else byte
 
 -- a pairing of no pairs: each byte is its own partner
 abbrev pub IsUnpaired : List ℕ → Type 0

@@ -6,7 +6,8 @@ use Rattle.ac_input.specs.Occurrence.{Occurrence}
 -- the haystack from a place on, with each occurrence replaced by its pattern's replacement
 abbrev pub replaced_from : ℕ → List ℕ → List (List ℕ) → List Occurrence → List ℕ
 replaced_from at x replacements [] = drop at x
-replaced_from at x replacements (o ∷ os) = slice_range x at o.start ++ get_or replacements o.pattern [] ++ replaced_from o.end x replacements os
+replaced_from at x replacements (o ∷ os) =
+    slice_range x at o.start ++ get_or replacements o.pattern [] ++ replaced_from o.end x replacements os
 
 -- `number SP start SP end LF`
 abbrev pub line : Occurrence → List ℕ

@@ -9,12 +9,16 @@ use Rattle.ac_input.specs.Work.{shortest}
 
 -- the place comes just after an unused byte of the haystack
 abbrev pub IsAfterUnused : Search → ℕ → Type 0
-IsAfterUnused s place = (before : ℕ) × (before + 1 ≡ place) × ((n : ℕ) (p : List ℕ) (c : ℕ) → slice_get s.patterns n ≡ Some p → Contains p c → ¬ IsTrue (same s.pairing c (slice_index s.haystack before)))
+IsAfterUnused s place =
+    (before : ℕ) × (before + 1 ≡ place)
+    × ((n : ℕ) (p : List ℕ) (c : ℕ) → slice_get s.patterns n ≡ Some p → Contains p c
+    → ¬ IsTrue (same s.pairing c (slice_index s.haystack before)))
 
 -- Whatever the kind, a walk is the walk of the part through an unused byte, followed by the walk of the part after it.
 abbrev pub WalkSplitsAfterUnused : Type 0
 WalkSplitsAfterUnused =
-    (kind : MatchKind) (s : Search) (at place : ℕ) (last next : Option ℕ) → IsInside s → s.anchored ≡ false → 1 ≤ shortest s.patterns
+    (kind : MatchKind) (s : Search) (at place : ℕ) (last next : Option ℕ) → IsInside s → s.anchored ≡ false
+    → 1 ≤ shortest s.patterns
     → at ≤ place → place ≤ s.end → IsAfterUnused s place
     → walk_after kind s at last ≡ walk_after kind (record s { end = place }) at last ++ walk_after kind s place next
 

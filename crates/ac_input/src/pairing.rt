@@ -3,7 +3,7 @@
 //! A pairing gives each byte at most one other byte, and a search treats the two as equal: case folding is the pairing of the
 //! ASCII letters in their two cases. It is a table of 256 bytes, so looking up a byte's partner is one load.
 ghost use Rattle.std.specs.Prelude.{◌≡◌, ℕ, ◌↔◌, IsTrue, IfOk, MatchOption};
-ghost use Rattle.ac_input.specs.Same.{other, IsUnpaired};
+ghost use Rattle.ac_input.specs.Same.{named_for, other, IsUnpaired};
 ghost use Rattle.ac_input.specs.Pairing.{named, partner, other_case, IsDistinct, IsFirstTwice, IsPairing};
 
 use std::error::Error;
@@ -53,7 +53,7 @@ impl Error for PairingError {}
 
 /// The table in which each byte is its own partner.
 fn identity() -> [u8; 256]
-    ensures own { (b : ℕ) → other result b ≡ b }
+    ensures own { (b : ℕ) → named_for result b ≡ b }
 {
     let mut table = [0u8; 256];
     for i in 0..256usize {
@@ -148,7 +148,7 @@ fn first_twice(pairs: &[(u8, u8)]) -> Option<u8>
 /// The table of pairs that name no byte twice.
 fn table_of(pairs: &[(u8, u8)]) -> [u8; 256]
     requires { IsDistinct (named pairs.now) }
-    ensures partners { (b : ℕ) → other result b ≡ partner pairs.now b }
+    ensures partners { (b : ℕ) → named_for result b ≡ partner pairs.now b }
     ensures pairing { IsPairing result }
 {
     let mut table = identity();

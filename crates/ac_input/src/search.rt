@@ -2,9 +2,10 @@
 //!
 //! A haystack is searched within a [`Span`]. A pattern may lie at many places of it, and patterns may overlap: the [`MatchKind`]
 //! says which of them is the match. A [`Match`] holds the pattern's number and where it lies.
-ghost use Rattle.std.specs.Prelude.{◌≡◌, ◌+◌, ◌-◌, ◌^◌, ◌<◌, ◌≤◌, ◌↔◌, length, slice_range, IsCharBoundary, IsTrue, true, false};
+ghost use Rattle.std.specs.Prelude.{◌≡◌, ◌+◌, ◌-◌, ◌^◌, ◌<◌, ◌≤◌, ◌↔◌, length, slice_range, IsCharBoundary, IsTrue, true, false, Some};
 ghost use Rattle.ac_input.specs.Occurrence.{Occurrence};
 ghost use Rattle.ac_input.specs.Best.{asked_kind};
+ghost use Rattle.ac_input.specs.Computed.{is_after};
 ghost use Rattle.ac_input.specs.Number.{greatest_number};
 
 pub mod candidate;
@@ -237,6 +238,19 @@ impl Match {
         ensures { result ≡ record { start = self.now.start; end = self.now.end } }
     {
         self.span
+    }
+
+    /// Whether it comes after an occurrence, given by its numbers, in the order of a listing: by end, start and pattern.
+    pub fn is_after(&self, pattern: u32, start: usize, end: usize) -> bool
+        ensures { result ≡ is_after (Some (record { pattern = pattern; start = start; end = end })) self.now }
+    {
+        if end != self.end() {
+            return end < self.end();
+        }
+        if start != self.start() {
+            return start < self.start();
+        }
+        pattern < self.pattern().as_u32()
     }
 
     /// Whether it has no byte: a match of an empty pattern.

@@ -14,7 +14,8 @@ pub record MayOpen (o : Openings) (text : List ℕ) (at : ℕ) : Type 0 where
   pub left : marked_at o.teddy text at ≢ 0
   pub printed : IsPrinted o.prints (take o.len (drop at text))
 
--- The openings are those of a dictionary: each pattern has at least `len` bytes, and wherever some pattern opens, `MayOpen` holds.
+-- The openings are those of a dictionary: each pattern has at least `len` bytes, and wherever some pattern opens,
+-- `MayOpen` holds.
 pub record AreOpenings (m : Dictionary) (openings : Openings) : Type 0 where
   pub short : ((n : ℕ) (p : List ℕ) → IsPattern m n p → openings.len ≤ length p)
   pub marks : (text : List ℕ) (at : ℕ) → IsOpening m openings.len text at → MayOpen openings text at
@@ -25,4 +26,5 @@ OpenAll patterns pairing openings = (kind : MatchKind) → AreOpenings (dictiona
 
 -- no pattern opens at any of the first `passed` places
 abbrev pub PassesOpenings : Openings → List ℕ → ℕ → Type 0
-PassesOpenings openings bytes passed = (m : Dictionary) → AreOpenings m openings → (at : ℕ) → at < passed → ¬ IsOpening m openings.len bytes at
+PassesOpenings openings bytes passed =
+    (m : Dictionary) → AreOpenings m openings → (at : ℕ) → at < passed → ¬ IsOpening m openings.len bytes at

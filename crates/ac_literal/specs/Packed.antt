@@ -32,7 +32,8 @@ fresh kind = record { kind = kind; patterns = []; inert = false }
 abbrev pub most_packed : ℕ
 most_packed = 128
 
--- whether a builder with this many patterns can't take this one: it is empty, or there are as many as packed search serves
+-- whether a builder with this many patterns can't take this one: it is empty, or there are as many as packed search
+-- serves
 abbrev pub is_too_much : ℕ → List ℕ → Bool
 is_too_much count pattern = (length pattern == 0) || (count == most_packed)
 
@@ -40,7 +41,8 @@ is_too_much count pattern = (length pattern == 0) || (count == most_packed)
 abbrev pub added : Building → List ℕ → Building
 added b pattern =
     if b.inert then b
-    else (if is_too_much (length b.patterns) pattern then record { kind = b.kind; patterns = []; inert = true } else record { kind = b.kind; patterns = b.patterns ++ pattern ∷ []; inert = false })
+    else (if is_too_much (length b.patterns) pattern then record { kind = b.kind; patterns = []; inert = true }
+    else record { kind = b.kind; patterns = b.patterns ++ pattern ∷ []; inert = false })
 
 -- a builder with more patterns, in their order
 abbrev pub added_all : Building → List (List ℕ) → Building
@@ -78,7 +80,8 @@ built kind (pattern ∷ patterns) = Some (record { kind = kind; patterns = patte
 
 -- the search of a part of a haystack for patterns, byte for byte
 abbrev pub part_search : List (List ℕ) → List ℕ → ℕ → ℕ → Search
-part_search patterns haystack start end = record { patterns = patterns; pairing = []; haystack = haystack; start = start; end = end; anchored = false }
+part_search patterns haystack start end =
+    record { patterns = patterns; pairing = []; haystack = haystack; start = start; end = end; anchored = false }
 
 -- the search of a span of a haystack for patterns, byte for byte
 abbrev pub in_span : List (List ℕ) → List ℕ → Span → Search

@@ -45,17 +45,22 @@ IsNoneWithoutByte f haystack span c = HasNoByte (search_of f.dictionary No hayst
 
 -- the prefilter counts the places of the span that it scanned for its needles, and nothing else
 abbrev pub IsCountedIn : Filter → List ℕ → Span → Candidate → Steps → Steps → Type 0
-IsCountedIn f haystack span c before after = IsScanCounted f.needles (search_of f.dictionary No haystack span) c before after
+IsCountedIn f haystack span c before after =
+    IsScanCounted f.needles (search_of f.dictionary No haystack span) c before after
 
 -- at most three bytes, among them every byte that a pattern may begin with, all of those ASCII
 abbrev pub AreStartBytes : Dictionary → List ℕ → Type 0
-AreStartBytes m bytes = (length bytes ≤ most_needles) × ((byte : ℕ) → IsTrue (is_start m.pairing m.patterns byte) → Contains bytes byte × (byte < ascii_limit))
+AreStartBytes m bytes =
+    (length bytes ≤ most_needles)
+    × ((byte : ℕ) → IsTrue (is_start m.pairing m.patterns byte) → Contains bytes byte × (byte < ascii_limit))
 
 -- At most three bytes. No pattern is too long, and each holds one of these bytes, whose partner is one of them, too.
 abbrev pub AreRareBytes : Dictionary → List ℕ → Type 0
 AreRareBytes m bytes =
     (length bytes ≤ most_needles)
-    × ((p : List ℕ) → Contains m.patterns p → (length p < rare_len_limit) × ((rare : ℕ) × Contains p rare × ((byte : ℕ) → IsTrue (same m.pairing rare byte) → Contains bytes byte)))
+    × ((p : List ℕ) → Contains m.patterns p
+    → (length p < rare_len_limit)
+    × ((rare : ℕ) × Contains p rare × ((byte : ℕ) → IsTrue (same m.pairing rare byte) → Contains bytes byte)))
 
 -- Packed search serves the patterns of a leftmost kind, as many as it takes, where nothing is paired.
 abbrev pub PackedServes : Dictionary → Type 0
@@ -71,9 +76,13 @@ IsDemanded m = (AreFull m.patterns × PackedServes m) ⊎ (AreFull m.patterns ×
 
 -- some prefilter may be built
 abbrev pub IsAdmissible : Dictionary → Type 0
-IsAdmissible m = AreFull m.patterns × (MemmemServes m ⊎ (PackedServes m ⊎ (((bytes : List ℕ) × AreStartBytes m bytes) ⊎ ((bytes : List ℕ) × AreRareBytes m bytes))))
+IsAdmissible m =
+    AreFull m.patterns
+    × (MemmemServes m
+    ⊎ (PackedServes m ⊎ (((bytes : List ℕ) × AreStartBytes m bytes) ⊎ ((bytes : List ℕ) × AreRareBytes m bytes))))
 
--- Searching with these needles serves the dictionary. Needles are start bytes or rare bytes of it. Without needles, the search for
+-- Searching with these needles serves the dictionary. Needles are start bytes or rare bytes of it. Without needles, the
+-- search for
 -- one pattern or packed search serves it.
 abbrev pub IsWayOf : Dictionary → List ℕ → Type 0
 IsWayOf m [] = MemmemServes m ⊎ PackedServes m

@@ -18,7 +18,8 @@ use Rattle.ac_noncontiguous.specs.declared.nfa.NFA.{NFA}
 use Rattle.ac_noncontiguous.specs.declared.nfa.tables.Tables.{Tables}
 use Rattle.ac_noncontiguous.specs.declared.settings.Settings.{Settings}
 
--- below which depth a noncontiguous automaton's states have a row: by default the starts and the states of one or two bytes do
+-- below which depth a noncontiguous automaton's states have a row: by default the starts and the states of one or two
+-- bytes do
 abbrev pub noncontiguous_dense_depth : Settings → ℕ
 noncontiguous_dense_depth s = unwrap_or s.dense_depth 3
 
@@ -44,7 +45,8 @@ ByDefault holds = (s : Settings) × AreDefaultSettings s × holds s
 abbrev pub dictionary_by : Settings → List (Bor (List ℕ)) → Dictionary
 dictionary_by s patterns = dictionary_of (bytes_of patterns) s.pairing s.match_kind
 
--- The stored prefilter: none if none is wanted, otherwise one wherever the dictionary demands it, and only an admissible one.
+-- The stored prefilter: none if none is wanted, otherwise one wherever the dictionary demands it, and only an
+-- admissible one.
 pub record IsHeld (wanted : Bool) (m : Dictionary) (held : Option Filter) : Type 0 where
   pub off : wanted ≡ false → held ≡ None
   pub demanded : wanted ≡ true → IsDemanded m → held ≢ None
@@ -67,4 +69,5 @@ HasRowsBy s nfa = AreRowsBelow (noncontiguous_dense_depth s) nfa.tables
 
 -- The tables and their byte classes are those of the dictionary, whose pairing is a valid one.
 abbrev pub AreCompiled : Dictionary → Tables → Type 0
-AreCompiled m tables = ((text : ℕ → List ℕ) × AreTables m text tables) × AreByteClasses m tables.classes × IsPairing m.pairing
+AreCompiled m tables =
+    ((text : ℕ → List ℕ) × AreTables m text tables) × AreByteClasses m tables.classes × IsPairing m.pairing

@@ -6,7 +6,11 @@ use Rattle.ac_noncontiguous.specs.declared.error.BuildErrorKind.TheVariants.{Sta
 
 -- the text of a build error
 abbrev pub build_error_text : BuildErrorKind → List ℕ
-build_error_text (StateIDOverflow max requested_max) = codes "state number " ++ decimal requested_max ++ codes " is past " ++ decimal greatest_number
-build_error_text (PatternIDOverflow max requested_max) = codes "pattern number " ++ decimal requested_max ++ codes " is past " ++ decimal greatest_number
-build_error_text (PatternTooLong pattern len) = codes "pattern " ++ (decimal pattern ++ (codes " has " ++ (decimal len ++ (codes " bytes, more than " ++ decimal greatest_number))))
+build_error_text (StateIDOverflow max requested_max) =
+    codes "state number " ++ decimal requested_max ++ codes " is past " ++ decimal greatest_number
+build_error_text (PatternIDOverflow max requested_max) =
+    codes "pattern number " ++ decimal requested_max ++ codes " is past " ++ decimal greatest_number
+build_error_text (PatternTooLong pattern len) =
+    codes "pattern "
+    ++ (decimal pattern ++ (codes " has " ++ (decimal len ++ (codes " bytes, more than " ++ decimal greatest_number))))
 build_error_text Memory = codes "out of memory"

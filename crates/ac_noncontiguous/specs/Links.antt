@@ -25,13 +25,16 @@ in_range matches range = take range.len (drop range.from matches)
 pub record AreFails (m : Dictionary) (states : List State) (fails : List (Option ℕ)) : Type 0 where
   pub counted : length fails ≡ length states
   pub within : (i f : ℕ) → slice_get fails i ≡ Some (Some f) → f < length states
-  pub leads : (i : ℕ) (r : Option ℕ) → slice_get fails i ≡ Some r → FailsTo m (text states i) (option_map (text states) r)
+  pub leads : (i : ℕ) (r : Option ℕ) → slice_get fails i ≡ Some r
+      → FailsTo m (text states i) (option_map (text states) r)
 
 -- For each state of a trie the patterns that match there: a range of one list.
 pub record AreRanges (m : Dictionary) (states : List State) (ranges : List Range) (matches : List ℕ) : Type 0 where
   pub counted : length ranges ≡ length states
-  pub within : (i : ℕ) → i < length states → (slice_index_or ranges i no_range).from + (slice_index_or ranges i no_range).len ≤ length matches
-  pub lists : (i : ℕ) → i < length states → IsList m (text states i) (in_range matches (slice_index_or ranges i no_range))
+  pub within : (i : ℕ) → i < length states
+      → (slice_index_or ranges i no_range).from + (slice_index_or ranges i no_range).len ≤ length matches
+  pub lists : (i : ℕ) → i < length states
+      → IsList m (text states i) (in_range matches (slice_index_or ranges i no_range))
   pub known : (k : ℕ) → k < length matches → slice_index matches k < length m.patterns
 
 -- the failures and the patterns of all states of the trie of a dictionary

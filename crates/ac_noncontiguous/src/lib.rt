@@ -27,5 +27,4 @@ pub use ac_literal::packed;
 pub use ac_literal::prefilter::{Candidate, Prefilter, PrefilterBuilder};
 pub use builder::Builder;
 pub use error::{BuildError, BuildErrorKind};
-pub use nfa::NFA;
-pub use nfa::read::Special;
+pub use nfa::{NFA, Special};

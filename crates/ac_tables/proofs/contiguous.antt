@@ -5,6 +5,7 @@ pub mod DecodeLemmas
 pub mod EntryLemmas
 pub mod FollowLemmas
 pub mod FreeLemmas
+pub mod IdleLemmas
 pub mod LaidRowLemmas
 pub mod LayLemmas
 pub mod LenLemmas
@@ -12,12 +13,10 @@ pub mod MatchLemmas
 pub mod NameLemmas
 pub mod NoteRowLemmas
 pub mod PackedLemmas
+pub mod PassingLemmas
 pub mod PlacesLemmas
-pub mod SkipLemmas
 pub mod StandLemmas
 pub mod StateLemmas
 pub mod StatesLemmas
-pub mod TestLemmas
-pub mod WordPassingLemmas
 pub mod WordTableLemmas
 pub mod WordsLemmas

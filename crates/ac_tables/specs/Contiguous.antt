@@ -1,10 +1,10 @@
+pub mod Build
+pub mod Builder
 pub mod ByRows
-pub mod ContiguousBuild
-pub mod ContiguousBuilder
-pub mod ContiguousReads
-pub mod ContiguousRows
-pub mod ContiguousTable
 pub mod Cut
-pub mod RowMemory
+pub mod Filled
+pub mod Reads
+pub mod Rows
+pub mod Table
 pub mod WordReads
 pub mod Words

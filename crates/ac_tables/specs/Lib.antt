@@ -17,6 +17,6 @@ pub use Rattle.ac_input.specs.Alphabet.Classes
 pub use Rattle.ac_input.specs.Dfa as DfaStates
 pub use Rattle.ac_automaton.specs.Automaton
 pub use Rattle.ac_automaton.specs.Named
-pub mod TableClasses
+pub mod Source
 pub mod Contiguous
 pub mod Dfa

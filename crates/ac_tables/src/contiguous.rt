@@ -56,18 +56,17 @@ ghost use Rattle.ac_input.specs.Dictionary.{dictionary_of};
 ghost use Rattle.ac_input.specs.Limits.{IsWithinLimits};
 ghost use Rattle.ac_input.specs.Pairing.{IsPairing};
 ghost use Rattle.ac_noncontiguous.specs.Nfa.{IsHeldFor};
-ghost use Rattle.ac_automaton.specs.Held.{last_special_of};
+ghost use Rattle.ac_automaton.specs.Skip.{last_special_of};
 ghost use Rattle.ac_literal.specs.Openings.{AreOpenings};
 ghost use Rattle.ac_automaton.specs.Starters.{SkipsBelow};
-ghost use Rattle.ac_tables.specs.Contiguous.ContiguousTable.{AreSomeStates, AreContiguousParts};
+ghost use Rattle.ac_tables.specs.Contiguous.Table.{AreSomeStates, AreContiguousParts};
 ghost use Rattle.ac_tables.specs.Contiguous.WordReads.{IsIdleAt};
-ghost use Rattle.ac_tables.specs.TableClasses.{ShareClasses};
+ghost use Rattle.ac_tables.specs.Source.{ShareClasses};
 
 use crate::contiguous::rows::Rows;
 use crate::contiguous::table::Table;
 use crate::source::unused;
-use ac_automaton::held::last_special;
-use ac_automaton::skip::Skips;
+use ac_automaton::skip::{Skips, last_special};
 use ac_input::alphabet::ByteSet;
 use ac_input::pairing::Pairing;
 use ac_input::primitives::StateID;
@@ -104,7 +103,7 @@ pub struct NFA {
 }
 
 impl NFA {
-    ghost use Rattle.ac_tables.specs.Contiguous.ContiguousReads.{IsContiguousMadeOf};
+    ghost use Rattle.ac_tables.specs.Contiguous.Reads.{IsContiguousMadeOf};
 
     /// The automaton of these words, rows, patterns and settings.
     pub(crate) fn from_parts(

@@ -37,34 +37,33 @@ pub mod builder;
 pub(crate) mod fill;
 mod lists;
 pub(crate) mod numbers;
-mod read;
 mod table;
 
-ghost use Rattle.std.specs.Prelude.{◌≡◌, IfSome};
+ghost use Rattle.std.specs.Prelude.{◌≡◌, IfOk, IfSome};
 ghost use Rattle.std.proofs.Props.{props};
 ghost use Rattle.ac_input.specs.Dictionary.{dictionary_of};
 ghost use Rattle.ac_input.specs.Pairing.{IsPairing};
 ghost use Rattle.ac_noncontiguous.specs.Nfa.{IsHeldFor};
-ghost use Rattle.ac_automaton.specs.Held.{last_special_of};
+ghost use Rattle.ac_automaton.specs.Skip.{last_special_of};
 ghost use Rattle.ac_literal.specs.Openings.{AreOpenings};
 ghost use Rattle.ac_automaton.specs.Starters.{SkipsBelow};
-ghost use Rattle.ac_tables.specs.Dfa.DfaLookups.{IsIdleIn};
-ghost use Rattle.ac_tables.specs.Dfa.DfaTable.{AreDfaParts, AreDfaRows};
-ghost use Rattle.ac_tables.specs.TableClasses.{ShareClasses};
+ghost use Rattle.ac_tables.specs.Dfa.Lookups.{IsIdleIn};
+ghost use Rattle.ac_tables.specs.Dfa.Table.{AreDfaParts, AreDfaRows, stride_of};
+ghost use Rattle.ac_tables.specs.Source.{ShareClasses};
 ghost use Rattle.ac_automaton.specs.Named.{Naming};
 
 use crate::dfa::table::Table;
 use crate::source::unused;
-use ac_automaton::held::last_special;
-use ac_automaton::skip::Skips;
+use ac_automaton::skip::{Skips, clone_prefilter, last_special};
 use ac_input::alphabet::ByteSet;
 use ac_input::pairing::Pairing;
 use ac_input::primitives::StateID;
-use ac_input::search::MatchKind;
+use ac_input::search::{MatchKind, StartKind};
 use ac_literal::openings::Openings;
 use ac_literal::prefilter::Prefilter;
 use ac_noncontiguous::nfa::pattern_lens::PatternLens;
 pub use builder::Builder;
+use std::alloc::{AllocError, Global};
 
 /// A deterministic automaton.
 #[derive(Drop)]
@@ -90,7 +89,8 @@ pub struct DFA {
 }
 
 impl DFA {
-    ghost use Rattle.ac_tables.specs.Dfa.DfaReads.{IsDfaMadeOf};
+    ghost use Rattle.ac_tables.specs.Dfa.Builder.{IsDfaCopy, states_in};
+    ghost use Rattle.ac_tables.specs.Dfa.Reads.{IsDfaMadeOf};
 
     /// The automaton of this table, these patterns and settings.
     pub(crate) fn from_parts(
@@ -122,5 +122,50 @@ impl DFA {
             pairing,
             kind,
         }
+    }
+
+    /// The next states, a row for each state, and in it an entry for each class of bytes.
+    pub fn transitions(&self) -> &[StateID]
+        ensures { result.now ≡ self.now.table.trans.items }
+    {
+        &self.table.trans
+    }
+
+    /// How many entries a row has: the least power of two that is enough for the classes.
+    pub fn stride(&self) -> usize
+        ensures { result ≡ stride_of self.now.table }
+    {
+        1 << self.table.stride2
+    }
+
+    /// How many rows there are.
+    pub fn state_len(&self) -> usize
+        ensures { result ≡ states_in self.now }
+    {
+        self.table.trans.len() >> self.table.stride2
+    }
+
+    /// For which searches there is a start.
+    pub fn start_kind(&self) -> StartKind
+        ensures { result ≡ self.now.table.kind }
+    {
+        self.table.kind
+    }
+
+    /// A copy of the automaton, in memory from `alloc`.
+    pub fn clone(&self, alloc: Global) -> Result<DFA, AllocError>
+        ensures { IfOk result (IsDfaCopy self.now) }
+    {
+        let table = self.table.clone(alloc)?;
+        let lens = self.lens.clone(alloc)?;
+        let prefilter = clone_prefilter(alloc, self.prefilter.as_ref())?;
+        Ok(DFA::from_parts(
+            table,
+            lens,
+            prefilter,
+            self.skips.openings,
+            self.pairing,
+            self.kind,
+        ))
     }
 }

@@ -4,7 +4,7 @@
 //! the byte's class, an addition and a load.
 ghost use Rattle.std.specs.Prelude.{◌≡◌, ◌+◌, ◌<◌, IsTrue, length, slice_index};
 ghost use Rattle.ac_input.specs.Alphabet.{class};
-ghost use Rattle.ac_tables.specs.Dfa.DfaLookups.{ArePlain};
+ghost use Rattle.ac_tables.specs.Dfa.Lookups.{ArePlain};
 
 use ac_input::alphabet::ByteClasses;
 use ac_input::primitives::StateID;

@@ -3,7 +3,7 @@ ghost use Rattle.std.specs.Prelude.{IfErr, IfOk};
 ghost use Rattle.ac_noncontiguous.specs.Builder.{IsBuiltOf, dictionary_by};
 ghost use Rattle.ac_noncontiguous.specs.Nfa.Reads.{built_as, dictionary};
 ghost use Rattle.ac_noncontiguous.specs.Standing.{IsBuildRefused};
-ghost use Rattle.ac_tables.specs.TableClasses.{AreClassesFor, AreServing, ShareClasses};
+ghost use Rattle.ac_tables.specs.Source.{AreClassesFor, AreServing, ShareClasses};
 
 use ac_input::alphabet::{ByteClasses, ByteSet};
 use ac_noncontiguous::builder::Builder;

@@ -1,6 +1,5 @@
 pub mod CutLemmas
 pub mod LinesLemmas
 pub mod StreamListLemmas
-pub mod StreamOverlapLemmas
 pub mod StreamedLemmas
 pub mod WritingLemmas

@@ -16,15 +16,23 @@ use Rattle.acsub.specs.declared.error.RunError.{RunError}
 use Rattle.acsub.specs.declared.error.RunError.TheVariants as errors
 use Rattle.acsub.specs.declared.prepared.Finder.{Finder}
 use Rattle.acsub.specs.declared.prepared.Finder.TheVariants as finders
-use Rattle.acsub_words.specs.declared.settings.Engine.TheVariants as engines
-use Rattle.acsub_words.specs.declared.settings.Settings.{Settings}
+use Rattle.acsub.specs.declared.args.settings.Engine.TheVariants as engines
+use Rattle.acsub.specs.declared.args.settings.Settings.{Settings}
 use Rattle.acsub.specs.Plan.{Plan}
 use Rattle.acsub.specs.Served.{IsNotBuilt, builder_by}
-use Rattle.acsub_rules.specs.Sides.{rule_patterns}
+use Rattle.acsub.specs.Rules.Sides.{rule_patterns}
 
 -- the search of a whole input
 abbrev pub whole_search : Settings → List (List ℕ) → List ℕ → Search
-whole_search settings patterns input = record { patterns = patterns; pairing = settings.pairing; haystack = input; start = 0; end = length input; anchored = false }
+whole_search settings patterns input =
+    record {
+      patterns = patterns;
+      pairing = settings.pairing;
+      haystack = input;
+      start = 0;
+      end = length input;
+      anchored = false;
+    }
 
 -- the matches of a plan's walk over the whole input
 abbrev pub whole_walk : Plan → List ℕ → List Occurrence
@@ -38,17 +46,21 @@ whole_listing plan input = listing_of (whole_search plan.settings (rule_patterns
 abbrev pub IsPackedFor : kinds.MatchKind → List (List ℕ) → Packed → Type 0
 IsPackedFor kind patterns searcher = (search_kind searcher.kind ≡ kind) × (searcher.patterns ≡ patterns)
 
--- An automaton serves settings and rules: it is built of the rules' patterns by the settings, and has a start for searches that may
+-- An automaton serves settings and rules: it is built of the rules' patterns by the settings, and has a start for
+-- searches that may
 -- match anywhere.
 pub record IsServing (settings : Settings) (rules : List Rule) (ac : AhoCorasick) : Type 0 where
   pub built : IsFrontBuilt (builder_by settings) (rule_patterns rules) ac
   pub start : supported_by ac No
 
--- What finds the matches of settings and rules: an automaton that serves them; or a packed search for the patterns and the kind,
+-- What finds the matches of settings and rules: an automaton that serves them; or a packed search for the patterns and
+-- the kind,
 -- where the engine's word names it and no bytes are paired.
 abbrev pub IsFinderOf : Settings → List Rule → Finder → Type 0
 IsFinderOf settings rules (finders.Automaton automaton) = IsServing settings rules automaton
-IsFinderOf settings rules (finders.Packed searcher) = IsPackedFor settings.kind (rule_patterns rules) searcher × IsUnpaired settings.pairing × (settings.engine ≡ engines.Packed)
+IsFinderOf settings rules (finders.Packed searcher) =
+    IsPackedFor settings.kind (rule_patterns rules) searcher × IsUnpaired settings.pairing
+    × (settings.engine ≡ engines.Packed)
 
 -- the run's error for a failed build; out of memory is reported as itself, as it is no limit
 abbrev pub not_built : BuildErrorKind → RunError

@@ -1,3 +1,5 @@
+pub mod Rules
+pub mod Args
 pub mod Input
 pub mod Run
 pub mod Tool

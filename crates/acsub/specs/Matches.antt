@@ -13,7 +13,8 @@ use Rattle.acsub.specs.declared.matches.Matches.TheVariants as sources
 
 -- ---- what it may cost
 
--- What a run that holds its input may cost, for n bytes of input. Under the standard kind its look-ups are within those of one
+-- What a run that holds its input may cost, for n bytes of input. Under the standard kind its look-ups are within those
+-- of one
 -- walk.
 pub record IsHeldCost (plan : Plan) (n : ℕ) (before after : Steps) : Type 0 where
   pub looked : plan.settings.kind ≡ Standard → AreLooksFor plan n before after
@@ -22,7 +23,8 @@ pub record IsHeldCost (plan : Plan) (n : ℕ) (before after : Steps) : Type 0 wh
 
 -- ---- what was counted
 
--- All that was counted since `begun` is what a walk counted. The walk ends within n bytes, and its automaton is deterministic where
+-- All that was counted since `begun` is what a walk counted. The walk ends within n bytes, and its automaton is
+-- deterministic where
 -- a DFA serves.
 pub record IsWalkCounted (plan : Plan) (n : ℕ) (begun now : Steps) (walk : Walk) : Type 0 where
   pub counted : Done walk.looked walk.scanned walk.moved begun now
@@ -31,7 +33,8 @@ pub record IsWalkCounted (plan : Plan) (n : ℕ) (begun now : Steps) (walk : Wal
   pub within : walk.asked.span.end ≤ n
   pub paid : IsWithinBudget walk
 
--- All that was counted since `begun` is what a run through all occurrences counted. The run spans at most n bytes, and its
+-- All that was counted since `begun` is what a run through all occurrences counted. The run spans at most n bytes, and
+-- its
 -- automaton is deterministic where a DFA serves.
 pub record IsListingCounted (plan : Plan) (n : ℕ) (begun now : Steps) (run : Run) : Type 0 where
   pub counted : Done run.looked run.scanned run.moved begun now
@@ -45,7 +48,8 @@ left_in (sources.Walk walk) = left_of walk
 left_in (sources.Overlapping run) = rest_of run
 left_in (sources.Packed picks) = picks
 
--- everything that was counted since a point is what finding these matches of this many bytes took; packed search counts nothing
+-- everything that was counted since a point is what finding these matches of this many bytes took; packed search counts
+-- nothing
 abbrev pub IsCounted : Plan → ℕ → Steps → Steps → Matches → Type 0
 IsCounted plan n begun now (sources.Walk walk) = IsWalkCounted plan n begun now walk
 IsCounted plan n begun now (sources.Overlapping run) = IsListingCounted plan n begun now run
@@ -57,4 +61,5 @@ IsUncounted plan n matches = (now : Steps) → IsCounted plan n now now matches
 
 -- What finding took in between was counted: where all was counted before, all is counted after.
 abbrev pub KeepsCount : Matches → Matches → Steps → Steps → Type 0
-KeepsCount old new before after = (plan : Plan) (n : ℕ) (begun : Steps) → IsCounted plan n begun before old → IsCounted plan n begun after new
+KeepsCount old new before after =
+    (plan : Plan) (n : ℕ) (begun : Steps) → IsCounted plan n begun before old → IsCounted plan n begun after new

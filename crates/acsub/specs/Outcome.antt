@@ -14,19 +14,20 @@ use Rattle.acsub.specs.declared.error.RunError.{RunError}
 use Rattle.acsub.specs.declared.error.RunError.TheVariants as errors
 use Rattle.acsub.specs.declared.tool.Fault.{Fault}
 use Rattle.acsub.specs.declared.tool.Fault.TheVariants as faults
-use Rattle.acsub_words.specs.declared.Words.{Words}
-use Rattle.acsub_words.specs.declared.WordsFault.{WordsFault}
-use Rattle.acsub_words.specs.declared.WordsFault.TheVariants.{Help, Bad, Memory, Pairing}
+use Rattle.acsub.specs.declared.args.Words.{Words}
+use Rattle.acsub.specs.declared.args.WordsFault.{WordsFault}
+use Rattle.acsub.specs.declared.args.WordsFault.TheVariants.{Help, Bad, Memory, Pairing}
 use Rattle.acsub.specs.Plan.{plan_of}
-use Rattle.acsub_rules.specs.File.{grammar_of}
+use Rattle.acsub.specs.Rules.File.{grammar_of}
 use Rattle.acsub.specs.Run.{RanIn, RefusesIn}
 use Rattle.acsub.specs.Stream.{IsReturnedAs}
 use Rattle.acsub.specs.Tool.{IsFaultOf, exit_of, status_of}
-use Rattle.acsub_words.specs.Words.{Reads}
+use Rattle.acsub.specs.Args.Words.{Reads}
 
 -- ---- the rule file
 
--- Some file holds these bytes: which one isn't said. Where a file's contents are unknown, any bytes may be its contents.
+-- Some file holds these bytes: which one isn't said. Where a file's contents are unknown, any bytes may be its
+-- contents.
 abbrev pub IsFile : {F : Type 0} → (F → Option (List ℕ)) → List ℕ → Type 0
 IsFile {F} held bytes = (file : F) × IfSome (held file) (λ all. bytes ≡ all)
 
@@ -47,43 +48,57 @@ pub record Flushes {W : Type 0} (contents : W → Option (List ℕ)) (before aft
   pub device : Keeps (contents before.inner) (contents after.inner)
 
 module _ {W : Type 0} (contents : W → Option (List ℕ)) where
-  -- A text was written whole; or a write failed or took no byte, and a prefix of the text was written. A run returns that result.
+  -- A text was written whole; or a write failed or took no byte, and a prefix of the text was written. A run returns
+  -- that result.
   abbrev pub WritesText : List ℕ → Watched W → Watched W → Result (Unit {0}) RunError → Type 0
-  WritesText text before after result = (written : Result (Unit {0}) StreamError) × IsReturnedAs written result × WritesWhole contents before after text written × NoneRead before after
+  WritesText text before after result =
+      (written : Result (Unit {0}) StreamError) × IsReturnedAs written result
+      × WritesWhole contents before after text written × NoneRead before after
 
   -- the outcome of a run with this result, and of the flush after it
   abbrev pub Finishes : Result (Unit {0}) RunError → Watched W → Watched W → Result (Unit {0}) Fault → Type 0
   Finishes (Ok ran) before after (Ok done) = Flushes contents before after 0
   Finishes (Ok ran) before after (Err fault) = (fault ≡ faults.Flush) × Flushes contents before after 1
   Finishes (Err e) before after (Ok done) = ⊥
-  Finishes (Err e) before after (Err fault) = (fault ≡ faults.Run e) × (Flushes contents before after 0 ⊎ Flushes contents before after 1)
+  Finishes (Err e) before after (Err fault) =
+      (fault ≡ faults.Run e) × (Flushes contents before after 0 ⊎ Flushes contents before after 1)
 
   module _ (before after : Watched W) where
     -- Some text was written, with this result; then the writer was flushed, and this many flushes failed.
     abbrev pub WroteAndFlushed : Result (Unit {0}) RunError → ℕ → Type 0
-    WroteAndFlushed answer failed = (text : List ℕ) × (between : Watched W) × WritesText text before between answer × Flushes contents between after failed
+    WroteAndFlushed answer failed =
+        (text : List ℕ) × (between : Watched W) × WritesText text before between answer
+        × Flushes contents between after failed
 
     -- what each outcome means where help was asked for
     abbrev pub AnswersHelp : Result (Unit {0}) Fault → Type 0
     AnswersHelp (Ok done) = WroteAndFlushed (Ok tt) 0
-    AnswersHelp (Err (faults.Run e)) = WroteAndFlushed (Err e) 0 ⊎ WroteAndFlushed (Err e) 1 ⊎ ((e ≡ errors.Memory) × (after ≡ before))
+    AnswersHelp (Err (faults.Run e)) =
+        WroteAndFlushed (Err e) 0 ⊎ WroteAndFlushed (Err e) 1 ⊎ ((e ≡ errors.Memory) × (after ≡ before))
     AnswersHelp (Err faults.Flush) = WroteAndFlushed (Ok tt) 1
     AnswersHelp (Err other) = ⊥
 
 -- ---- the whole program
 
 -- The rule file holds these bytes, in the form that was asked for, and a run by them returned this result.
-pub record RanFile {F R W : Type 0} (held : F → Option (List ℕ)) (remaining : R → Option (List ℕ)) (contents : W → Option (List ℕ)) (asked : Words) (reader_before reader_after : Watched R) (writer_before writer_after : Watched W) (answer : Result (Unit {0}) RunError) : Type 0 where
+pub record RanFile {F R W : Type 0} (held : F → Option (List ℕ)) (remaining : R → Option (List ℕ))
+    (contents : W → Option (List ℕ)) (asked : Words) (reader_before reader_after : Watched R)
+    (writer_before writer_after : Watched W) (answer : Result (Unit {0}) RunError) : Type 0 where
   pub file : List ℕ
   pub is_file : IsFile held file
-  pub ran : RanIn (grammar_of asked.text) remaining contents reader_before reader_after writer_before writer_after (plan_of asked.stream asked.settings) file answer
-  pub fault : RefusesIn (grammar_of asked.text) (plan_of asked.stream asked.settings) file reader_before reader_after writer_before writer_after answer
+  pub ran : RanIn (grammar_of asked.text) remaining contents reader_before reader_after writer_before writer_after
+      (plan_of asked.stream asked.settings) file answer
+  pub fault : RefusesIn (grammar_of asked.text) (plan_of asked.stream asked.settings) file reader_before reader_after
+      writer_before writer_after answer
 
-module _ {F R W : Type 0} (held : F → Option (List ℕ)) (remaining : R → Option (List ℕ)) (contents : W → Option (List ℕ)) where
+module _ {F R W : Type 0} (held : F → Option (List ℕ)) (remaining : R → Option (List ℕ))
+    (contents : W → Option (List ℕ)) where
   module _ (asked : Words) (reader_before reader_after : Watched R) (writer_before writer_after : Watched W) where
     -- A run by the rule file returned this result; then the writer was flushed, and this many flushes failed.
     abbrev pub RanAndFlushed : Result (Unit {0}) RunError → ℕ → Type 0
-    RanAndFlushed answer failed = (between : Watched W) × RanFile held remaining contents asked reader_before reader_after writer_before between answer × Flushes contents between writer_after failed
+    RanAndFlushed answer failed =
+        (between : Watched W) × RanFile held remaining contents asked reader_before reader_after writer_before between
+        answer × Flushes contents between writer_after failed
 
     -- what each outcome means where a run was asked for
     abbrev pub AnswersFile : Result (Unit {0}) Fault → Type 0
@@ -91,17 +106,24 @@ module _ {F R W : Type 0} (held : F → Option (List ℕ)) (remaining : R → Op
     AnswersFile (Err faults.Words) = ⊥
     AnswersFile (Err (faults.Pairs e)) = ⊥
     AnswersFile (Err faults.RuleFile) = NoneTouched reader_before reader_after writer_before writer_after
-    AnswersFile (Err (faults.Run e)) = RanAndFlushed (Err e) 0 ⊎ RanAndFlushed (Err e) 1 ⊎ ((e ≡ errors.Memory) × NoneTouched reader_before reader_after writer_before writer_after)
+    AnswersFile (Err (faults.Run e)) =
+        RanAndFlushed (Err e) 0 ⊎ RanAndFlushed (Err e) 1
+        ⊎ ((e ≡ errors.Memory) × NoneTouched reader_before reader_after writer_before writer_after)
     AnswersFile (Err faults.Flush) = RanAndFlushed (Ok tt) 1
 
-  module _ (words : List Text) (reader_before reader_after : Watched R) (writer_before writer_after : Watched W) (outcome : Result (Unit {0}) Fault) where
+  module _ (words : List Text) (reader_before reader_after : Watched R) (writer_before writer_after : Watched W)
+      (outcome : Result (Unit {0}) Fault) where
     -- what the outcome means, given what the words were read as
     abbrev pub AnswersRead : Result Words WordsFault → Type 0
     AnswersRead (Ok asked) = AnswersFile asked reader_before reader_after writer_before writer_after outcome
-    AnswersRead (Err (Help help)) = (reader_after ≡ reader_before) × AnswersHelp contents writer_before writer_after outcome
-    AnswersRead (Err Bad) = (outcome ≡ Err faults.Words) × NoneTouched reader_before reader_after writer_before writer_after
-    AnswersRead (Err Memory) = (outcome ≡ Err (faults.Run errors.Memory)) × NoneTouched reader_before reader_after writer_before writer_after
-    AnswersRead (Err (Pairing e)) = (outcome ≡ Err (faults.Pairs e)) × NoneTouched reader_before reader_after writer_before writer_after
+    AnswersRead (Err (Help help)) =
+        (reader_after ≡ reader_before) × AnswersHelp contents writer_before writer_after outcome
+    AnswersRead (Err Bad) =
+        (outcome ≡ Err faults.Words) × NoneTouched reader_before reader_after writer_before writer_after
+    AnswersRead (Err Memory) =
+        (outcome ≡ Err (faults.Run errors.Memory)) × NoneTouched reader_before reader_after writer_before writer_after
+    AnswersRead (Err (Pairing e)) =
+        (outcome ≡ Err (faults.Pairs e)) × NoneTouched reader_before reader_after writer_before writer_after
 
     -- what the outcome means for the words, the rule file, what was read and written, and the flush
     abbrev pub AnswersTool : Type 0
@@ -110,13 +132,18 @@ module _ {F R W : Type 0} (held : F → Option (List ℕ)) (remaining : R → Op
   -- the status is that of an outcome, which means what `AnswersTool` says
   abbrev pub EndsTool : {Z : Type 0} → List (String Z) → Watched R → Watched R → Watched W → Watched W → ℕ → Type 0
   EndsTool words reader_before reader_after writer_before writer_after status =
-      (outcome : Result (Unit {0}) Fault) × (status ≡ exit_of outcome) × AnswersTool (map string_bytes words) reader_before reader_after writer_before writer_after outcome
+      (outcome : Result (Unit {0}) Fault) × (status ≡ exit_of outcome)
+      × AnswersTool (map string_bytes words) reader_before reader_after writer_before writer_after outcome
 
-  -- The status for the words that the system gives. If it fails to give them, that is reported, and neither device is touched.
-  abbrev pub EndsProgram : {Z A : Type 0} → Result (IntoIter (String Z) A) Error → Watched R → Watched R → Watched W → Watched W → ℕ → Type 0
-  EndsProgram (Ok words) reader_before reader_after writer_before writer_after status = EndsTool (into_iter_items words) reader_before reader_after writer_before writer_after status
+  -- The status for the words that the system gives. If it fails to give them, that is reported, and neither device is
+  -- touched.
+  abbrev pub EndsProgram : {Z A : Type 0} → Result (IntoIter (String Z) A) Error → Watched R → Watched R → Watched W
+      → Watched W → ℕ → Type 0
+  EndsProgram (Ok words) reader_before reader_after writer_before writer_after status =
+      EndsTool (into_iter_items words) reader_before reader_after writer_before writer_after status
   EndsProgram (Err error) reader_before reader_after writer_before writer_after status =
-      (fault : Fault) × (status ≡ status_of fault) × IsFaultOf (error_kind error) faults.Words fault × NoneTouched reader_before reader_after writer_before writer_after
+      (fault : Fault) × (status ≡ status_of fault) × IsFaultOf (error_kind error) faults.Words fault
+      × NoneTouched reader_before reader_after writer_before writer_after
 
 -- all words that the system gives, in their order; or why they were not collected
 abbrev pub Collects : {X Y A : Type 0} → Result (IntoIter X A) Error → Result (Vec X Y) Fault → Type 0

@@ -1,7 +1,7 @@
 -- What a run is to do.
 use Rattle.std.specs.Prelude.{Bool, List}
 use Rattle.ac_input.specs.Rules.{Rule}
-use Rattle.acsub_words.specs.declared.settings.Settings.{Settings}
+use Rattle.acsub.specs.declared.args.settings.Settings.{Settings}
 
 -- the settings, the rules, and whether the run is asked to write while it reads, whatever the kind
 pub record Plan : Type 0 where

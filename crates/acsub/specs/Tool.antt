@@ -8,8 +8,8 @@ use Rattle.ac_noncontiguous.specs.declared.error.BuildErrorKind.{BuildErrorKind}
 use Rattle.ac_noncontiguous.specs.declared.error.BuildErrorKind.TheVariants as limits
 use Rattle.acsub.specs.declared.error.RunError.{RunError}
 use Rattle.acsub.specs.declared.error.RunError.TheVariants as errors
-use Rattle.acsub_rules.specs.File.{rule_text}
-use Rattle.acsub_words.specs.Settings.{setting_text}
+use Rattle.acsub.specs.Rules.File.{rule_text}
+use Rattle.acsub.specs.Args.Settings.{setting_text}
 use Rattle.acsub.specs.declared.tool.Fault.{Fault}
 use Rattle.acsub.specs.declared.tool.Fault.TheVariants as faults
 

@@ -3,9 +3,9 @@ ghost use Rattle.std.specs.Prelude.{◌≡◌};
 ghost use Rattle.acsub.specs.Finder.{not_built};
 ghost use Rattle.acsub.specs.declared.error.RunError.TheVariants.{Memory};
 
+use crate::args::settings::SettingError;
+use crate::rules::RuleError;
 use ac_noncontiguous::error::{BuildError, BuildErrorKind};
-use acsub_rules::RuleError;
-use acsub_words::settings::SettingError;
 use std::alloc::AllocError;
 use std::error::Error;
 use std::{fmt, io};

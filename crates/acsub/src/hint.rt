@@ -3,8 +3,8 @@
 //! A program reads the line of a fault, so that line stands alone. Where standard error is a terminal, a person reads it, and
 //! `main` writes a second line: what is wrong with the words, with a line of the rule file, or with its path. The hint is made
 //! anew from the words and the file, after the run, so no run pays for it. Its texts are held by tests: no clause names them.
-use acsub_rules::{RuleError, read_rules};
-use acsub_words::{Words, WordsFault, read_words, words_refused};
+use crate::args::{Words, WordsFault, read_words, words_refused};
+use crate::rules::{RuleError, read_rules};
 use std::alloc::{AllocError, Global};
 use std::fs;
 use std::io::{self, Read, Write};

@@ -5,6 +5,7 @@
 //! bytes, and nothing else.
 #![tactic(auto)]
 
+mod args;
 mod error;
 mod hint;
 mod input;
@@ -12,13 +13,12 @@ mod line;
 mod matches;
 mod prepared;
 mod rewrite;
+mod rules;
 mod run;
 #[cfg(test)]
 mod scripted;
 mod stream;
 mod tool;
-#[cfg(test)]
-mod words;
 
 use ac_automaton::watched::Watched;
 use std::env;

@@ -11,17 +11,17 @@ ghost use Rattle.acsub.specs.Matches.{IsUncounted, left_in};
 ghost use Rattle.acsub.specs.Plan.{plan_of};
 ghost use Rattle.acsub.specs.Run.{Prepares};
 ghost use Rattle.acsub.specs.Served.{automaton_named, builder_by};
-ghost use Rattle.acsub_words.specs.Settings.{IsAccepted};
-ghost use Rattle.acsub_rules.specs.Sides.{rule_patterns};
-ghost use Rattle.acsub.specs.Run.Transformed.{FindsEarly, IsStreamed};
-ghost use Rattle.acsub_words.specs.declared.settings.Engine.TheVariants.{Packed};
+ghost use Rattle.acsub.specs.Args.Settings.{IsAccepted};
+ghost use Rattle.acsub.specs.Rules.Sides.{rule_patterns};
+ghost use Rattle.acsub.specs.Run.Transformed.{IsStreamed};
+ghost use Rattle.acsub.specs.declared.args.settings.Engine.TheVariants.{Packed};
 
+use crate::args::settings::{Engine, Mode, Settings, check, finds_early, has_empty_pattern};
 use crate::error::RunError;
 use crate::matches::Matches;
+use crate::rules::Rules;
 use ac_input::search::{Input, MatchKind};
 use ac_literal::packed::{self, Config, Searcher};
-use acsub_rules::Rules;
-use acsub_words::settings::{Engine, Mode, Settings, check, has_empty_pattern};
 use aho_corasick::{AhoCorasick, AhoCorasickBuilder, AhoCorasickKind};
 use std::alloc::{AllocError, Global};
 use std::marker::Model;
@@ -149,14 +149,6 @@ fn is_streamed(settings: &Settings, stream: bool, rules: &Rules) -> bool
     finds_early(settings, stream)
         && (stream || settings.mode != Mode::Overlap)
         && !has_empty_pattern(rules)
-}
-
-/// Whether matches are found while the input is still read: under the standard kind, where no later byte can change a match; under a
-/// leftmost kind if that was asked for, and an automaton searches.
-fn finds_early(settings: &Settings, stream: bool) -> bool
-    ensures { IsTrue result ↔ FindsEarly stream settings.now }
-{
-    settings.kind == MatchKind::Standard || (stream && settings.engine != Engine::Packed)
 }
 
 /// What finds the matches of the rules' patterns, by settings that go with them.

@@ -9,11 +9,11 @@ ghost use Rattle.acsub.specs.Run.Sending.{SendsList, SendsReplaced};
 
 use crate::line::Line;
 use crate::matches::Matches;
+use crate::rules::Rules;
 use ac_automaton::error::StreamError;
 use ac_automaton::output::Output;
 use ac_automaton::watched::Watched;
 use ac_input::steps::Steps;
-use acsub_rules::Rules;
 use std::io::Write;
 
 /// Writes the input with each pick replaced.

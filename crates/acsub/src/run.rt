@@ -19,23 +19,23 @@
 ghost use Rattle.std.specs.Prelude.{◌≡◌, List, [], false, length, OnOk};
 ghost use Rattle.acsub.specs.Matches.{IsHeldCost};
 ghost use Rattle.acsub.specs.Plan.{plan_of};
-ghost use Rattle.acsub_rules.specs.File.{grammar_of};
+ghost use Rattle.acsub.specs.Rules.File.{grammar_of};
 ghost use Rattle.acsub.specs.Run.{CostsFile, CostsIn, CostsRun, Ran, RanIn, RanRules, Refuses, RefusesIn, RefusesRules, WroteText, WroteTextBy, not_read};
 ghost use Rattle.acsub.specs.Run.RunLaws.{RunsWriteAlike};
 ghost use Rattle.acsub.specs.Run.Sending.{SendsText};
-ghost use Rattle.acsub_words.specs.Settings.{IsAccepted};
+ghost use Rattle.acsub.specs.Args.Settings.{IsAccepted};
 
+use crate::args::settings::{Mode, Settings};
 use crate::error::RunError;
 use crate::input::read_whole;
 use crate::prepared::{Prepared, prepare};
 use crate::rewrite::{send_list, send_replaced};
+use crate::rules::{RuleError, Rules, read_rules};
 use crate::stream::{stream_text, told};
 use ac_automaton::error::StreamError;
 use ac_automaton::output::Output;
 use ac_automaton::watched::Watched;
 use ac_input::steps::Steps;
-use acsub_rules::{RuleError, Rules, read_rules};
-use acsub_words::settings::{Mode, Settings};
 use std::alloc::Global;
 use std::io::{Read, Write};
 

@@ -2,12 +2,19 @@
 //!
 //! A device stops once and would then go on. So a body that tries a call again, or reads after an empty read, ends with another
 //! text and with other counts.
+use crate::args::settings::{Engine, Mode, Settings};
 use ac_input::pairing::{Pairing, PairingError};
 use ac_input::search::MatchKind;
-use acsub_words::settings::{Engine, Mode, Settings};
 use std::alloc::{AllocError, Global};
+use std::fmt::Debug;
 use std::io;
 use std::io::{ErrorKind, Read, Write};
+use std::process::Abort;
+
+/// Asserts that a value is this one. The function that asserts by a message pays for it in its proof, so one does for all.
+pub fn equal<X: PartialEq + Debug>(rt: &impl Abort, found: &X, want: &X, shows: &str) {
+    assert_eq!(rt; found, want, "{shows}");
+}
 
 /// Which bytes are the same.
 #[derive(Clone, Copy)]

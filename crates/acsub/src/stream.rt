@@ -8,24 +8,22 @@ ghost use Rattle.std.specs.Prelude.{◌≡◌, IfErr, false};
 ghost use Rattle.acsub.specs.Finder.{IsServing};
 ghost use Rattle.acsub.specs.Run.{CostsRun, RanPrepared, RunsOutFirst};
 ghost use Rattle.acsub.specs.Run.Transformed.{IsStreamed};
-ghost use Rattle.acsub_words.specs.Settings.{IsAccepted};
+ghost use Rattle.acsub.specs.Args.Settings.{IsAccepted};
 ghost use Rattle.acsub.specs.Stream.{IsNoRefusal, IsReturnedAs};
 
+use crate::args::settings::Mode;
 use crate::error::RunError;
 use crate::prepared::Prepared;
 use ac_automaton::error::StreamError;
 use ac_automaton::watched::Watched;
 use ac_input::steps::Steps;
-use acsub_words::settings::Mode;
 use aho_corasick::AhoCorasick;
 use std::alloc::Global;
 use std::io::{Read, Write};
 
 mod list;
-mod overlap;
 
-use list::list_stream;
-use overlap::list_every;
+use list::{list_every, list_stream};
 
 /// Reads the input, and writes what the settings' mode makes of it while it reads.
 pub fn stream_text<R: Read, W: Write>(

@@ -11,13 +11,13 @@ ghost use Rattle.std.specs.Process.{exit_status};
 ghost use Rattle.acsub.specs.Outcome.{AnswersHelp, AnswersTool, Collects, EndsProgram, EndsTool, Finishes, ReadsFile, WritesText};
 ghost use Rattle.acsub.specs.Tool.{IsFaultOf, WritesLine, status_of};
 
+use crate::args::{WordsFault, read_words};
 use crate::error::RunError;
 use crate::run::run_in;
 use crate::stream::told;
 use ac_automaton::watched::{Watched, write_whole};
 use ac_input::pairing::PairingError;
 use ac_input::steps::Steps;
-use acsub_words::{WordsFault, read_words};
 use std::alloc::Global;
 use std::env::Args;
 use std::io::{ErrorKind, Read, Write};

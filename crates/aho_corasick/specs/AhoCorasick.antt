@@ -11,7 +11,6 @@ use Rattle.ac_automaton.specs.Iter.{Walk, fresh_walk, left_of}
 use Rattle.ac_automaton.specs.Overlapping as overlapping
 use Rattle.ac_automaton.specs.declared.overlapping.OverlappingState.{OverlappingState}
 use Rattle.ac_automaton.specs.Overlapping.OverlappingIter.{Run, fresh_run, rest_of}
-use Rattle.ac_noncontiguous.specs.declared.settings.Settings.{Settings}
 use Rattle.aho_corasick.specs.declared.ahocorasick.AhoCorasick.{AhoCorasick}
 use Rattle.aho_corasick.specs.declared.ahocorasick.builder.AhoCorasickBuilder.{AhoCorasickBuilder}
 use Rattle.aho_corasick.specs.declared.engine.Engine.{Engine}
@@ -50,18 +49,14 @@ start_kind_of ac = ac.start_kind
 abbrev pub supported_by : AhoCorasick → Anchored → Type 0
 supported_by ac anchored = Serves (start_kind_of ac) anchored
 
--- an automaton searches for these patterns, with the match kind, the pairing and the start kind that were set
-pub record IsConfigured (s : Settings) (ps : List (List ℕ)) (ac : AhoCorasick) : Type 0 where
-  pub patterns : patterns_of ac ≡ ps
-  pub kind : kind_of ac ≡ s.match_kind
-  pub pairing : pairing_of ac ≡ s.pairing
-  pub starts : start_kind_of ac ≡ s.start_kind
-
 -- an overlapping state is fresh, or came from earlier calls with this automaton and input alone
 abbrev pub CameFromCalls : AhoCorasick → Asked → OverlappingState → Type 0
-CameFromCalls ac asked state = overlapping.CameFrom (as_built ac) (λ anchored text sid. IsEngineRead (serving_engine ac) anchored text sid) (λ sid. engine_matches_at (serving_engine ac) sid) asked state
+CameFromCalls ac asked state =
+    overlapping.CameFrom (as_built ac) (λ anchored text sid. IsEngineRead (serving_engine ac) anchored text sid)
+    (λ sid. engine_matches_at (serving_engine ac) sid) asked state
 
--- one means the same as another: they share the automaton that serves, with what it was built as and by, for the same searches
+-- one means the same as another: they share the automaton that serves, with what it was built as and by, for the same
+-- searches
 pub record MeansSame (ac other : AhoCorasick) : Type 0 where
   pub shared : other.shared.value ≡ ac.shared.value
   pub starts : start_kind_of other ≡ start_kind_of ac

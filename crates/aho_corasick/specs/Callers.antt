@@ -41,7 +41,8 @@ EndsWithPattern m text = (o : Occurrence) × Occurs (whole m text false) o × (o
 -- the place where an occurrence ends first; none if nothing occurs
 abbrev pub IsFirstEnd : Search → Option ℕ → Type 0
 IsFirstEnd s None = ¬ HasOccurrence s
-IsFirstEnd s (Some end) = ((o : Occurrence) × Occurs s o × (o.end ≡ end)) × ((o : Occurrence) → Occurs s o → end ≤ o.end)
+IsFirstEnd s (Some end) =
+    ((o : Occurrence) × Occurs s o × (o.end ≡ end)) × ((o : Occurrence) → Occurs s o → end ≤ o.end)
 
 -- no occurrence has more bytes than these, whatever the text is
 abbrev pub IsMostBytes : Dictionary → ℕ → Type 0

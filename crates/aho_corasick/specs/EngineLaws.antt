@@ -1,10 +1,8 @@
--- The laws of an automaton hold of whichever serves, since they hold of each; and so of what it was built as, wherever that stands.
-use Rattle.std.specs.Prelude.{◌≡◌, ◌↔◌, ℕ, IsTrue, List, Option}
+-- The laws of an automaton hold of whichever serves, since they hold of each; and so of what it was built as, wherever
+-- that stands.
+use Rattle.std.specs.Prelude.{◌≡◌, ◌↔◌, ℕ, IsTrue, List}
 use Rattle.std.proofs.Common.{subst, sym}
 use Rattle.ac_input.specs.declared.search.Anchored.{Anchored}
-use Rattle.ac_input.specs.Dictionary.{IsLive}
-use Rattle.ac_input.specs.Input.{is_anchored}
-use Rattle.ac_input.specs.Laws.LiveLaws.{IsOwnInverse}
 use Rattle.ac_input.specs.Tells.{Tells}
 use Rattle.ac_automaton.specs.Automaton.{Built, IsSpecial}
 use Rattle.aho_corasick.specs.declared.engine.Engine.{Engine}
@@ -18,39 +16,27 @@ engine-tells (Noncontiguous nfa) anchored text sid reads = reads.tells
 engine-tells (Contiguous nfa) anchored text sid reads = reads.tells
 engine-tells (Dfa dfa) anchored text sid reads = reads.tells
 
-pub read-tells : (engine : Engine) (b : Built) → b ≡ engine_built_as engine → (anchored : Anchored) (text : List ℕ) (sid : ℕ) → IsEngineRead engine anchored text sid
+pub read-tells : (engine : Engine) (b : Built) → b ≡ engine_built_as engine
+    → (anchored : Anchored) (text : List ℕ) (sid : ℕ) → IsEngineRead engine anchored text sid
     → Tells b.dictionary anchored text (engine_matches_at engine sid)
-read-tells engine b is anchored text sid reads = subst (λ (c : Built). Tells c.dictionary anchored text (engine_matches_at engine sid)) (sym is) (engine-tells engine anchored text sid reads)
-
--- a text that was read has a live prefix, or is dead
-engine-lives : (engine : Engine) (anchored : Anchored) (text : List ℕ) (sid : ℕ) → IsEngineRead engine anchored text sid
-    → (from : Option ℕ) × IsLive (engine_built_as engine).dictionary (is_anchored anchored) text from
-engine-lives (Noncontiguous nfa) anchored text sid reads = reads.lives
-engine-lives (Contiguous nfa) anchored text sid reads = reads.lives
-engine-lives (Dfa dfa) anchored text sid reads = reads.lives
-
-pub read-lives : (engine : Engine) (b : Built) → b ≡ engine_built_as engine → (anchored : Anchored) (text : List ℕ) (sid : ℕ) → IsEngineRead engine anchored text sid
-    → (from : Option ℕ) × IsLive b.dictionary (is_anchored anchored) text from
-read-lives engine b is anchored text sid reads = subst (λ (c : Built). (from : Option ℕ) × IsLive c.dictionary (is_anchored anchored) text from) (sym is) (engine-lives engine anchored text sid reads)
-
--- each byte is the partner of its partner
-engine-pairs : (engine : Engine) (anchored : Anchored) (text : List ℕ) (sid : ℕ) → IsEngineRead engine anchored text sid
-    → IsOwnInverse (engine_built_as engine).dictionary.pairing
-engine-pairs (Noncontiguous nfa) anchored text sid reads = reads.inverse
-engine-pairs (Contiguous nfa) anchored text sid reads = reads.inverse
-engine-pairs (Dfa dfa) anchored text sid reads = reads.inverse
-
-pub read-pairs : (engine : Engine) (b : Built) → b ≡ engine_built_as engine → (anchored : Anchored) (text : List ℕ) (sid : ℕ) → IsEngineRead engine anchored text sid
-    → IsOwnInverse b.dictionary.pairing
-read-pairs engine b is anchored text sid reads = subst (λ (c : Built). IsOwnInverse c.dictionary.pairing) (sym is) (engine-pairs engine anchored text sid reads)
+read-tells engine b is anchored text sid reads =
+    subst (λ (c : Built). Tells c.dictionary anchored text (engine_matches_at engine sid)) (sym is)
+    (engine-tells engine anchored text sid reads)
 
 -- a state is special exactly if a search has more to do there than to read on
 engine-stops : (engine : Engine) (anchored : Anchored) (text : List ℕ) (sid : ℕ) → IsEngineRead engine anchored text sid
-    → (IsTrue (is_engine_special_at engine sid) ↔ IsSpecial (engine_built_as engine) (engine_matches_at engine sid) (is_engine_start_at engine sid) anchored text)
+    → (IsTrue (is_engine_special_at engine sid)
+    ↔ IsSpecial (engine_built_as engine) (engine_matches_at engine sid) (is_engine_start_at engine sid) anchored text)
 engine-stops (Noncontiguous nfa) anchored text sid reads = reads.stops
 engine-stops (Contiguous nfa) anchored text sid reads = reads.stops
 engine-stops (Dfa dfa) anchored text sid reads = reads.stops
 
-pub read-stops : (engine : Engine) (b : Built) → b ≡ engine_built_as engine → (anchored : Anchored) (text : List ℕ) (sid : ℕ) → IsEngineRead engine anchored text sid
-    → (IsTrue (is_engine_special_at engine sid) ↔ IsSpecial b (engine_matches_at engine sid) (is_engine_start_at engine sid) anchored text)
-read-stops engine b is anchored text sid reads = subst (λ (c : Built). (IsTrue (is_engine_special_at engine sid) ↔ IsSpecial c (engine_matches_at engine sid) (is_engine_start_at engine sid) anchored text)) (sym is) (engine-stops engine anchored text sid reads)
+pub read-stops : (engine : Engine) (b : Built) → b ≡ engine_built_as engine
+    → (anchored : Anchored) (text : List ℕ) (sid : ℕ) → IsEngineRead engine anchored text sid
+    → (IsTrue (is_engine_special_at engine sid)
+    ↔ IsSpecial b (engine_matches_at engine sid) (is_engine_start_at engine sid) anchored text)
+read-stops engine b is anchored text sid reads =
+    subst (λ (c : Built).
+    (IsTrue (is_engine_special_at engine sid)
+    ↔ IsSpecial c (engine_matches_at engine sid) (is_engine_start_at engine sid) anchored text)) (sym is)
+    (engine-stops engine anchored text sid reads)

@@ -12,9 +12,10 @@ use Rattle.ac_noncontiguous.specs.declared.error.BuildErrorKind.{BuildErrorKind}
 use Rattle.ac_noncontiguous.specs.declared.error.BuildErrorKind.TheVariants.{StateIDOverflow, Memory}
 use Rattle.ac_noncontiguous.specs.declared.nfa.NFA.{NFA}
 use Rattle.ac_noncontiguous.specs.declared.settings.Settings.{Settings}
-use Rattle.ac_tables.specs.Contiguous.ContiguousBuilder.{IsMadeFrom, contiguous_dense_depth}
-use Rattle.ac_tables.specs.Contiguous.ContiguousTable.{IsContiguousTooLarge, IsContiguousWithin}
-use Rattle.ac_tables.specs.Dfa.DfaBuild.{IsDfaOf}
+use Rattle.ac_tables.specs.Contiguous.Builder.{IsMadeFrom, contiguous_dense_depth}
+use Rattle.ac_tables.specs.Contiguous.Table.{ArePlacesTooGreat}
+use Rattle.ac_tables.specs.Source.{AreClassesFor}
+use Rattle.ac_tables.specs.Dfa.Builder.{IsDfaOf}
 use Rattle.ac_tables.specs.declared.contiguous.NFA.{NFA as Contiguous}
 use Rattle.ac_tables.specs.declared.dfa.DFA.{DFA as Deterministic}
 use Rattle.aho_corasick.specs.declared.ahocorasick.AhoCorasick.{AhoCorasick}
@@ -32,13 +33,17 @@ use Rattle.aho_corasick.specs.Made.{IsMadeBy}
 -- an automaton of this kind, built of the dictionary, would be within its own limit
 abbrev pub IsWithinFor : Settings → Dictionary → AhoCorasickKind → Type 0
 IsWithinFor s m DFA = ¬ IsDfaTooLarge m s.start_kind s.byte_classes
-IsWithinFor s m ContiguousNFA = (from : NFA) × (dictionary from ≡ m) × IsContiguousWithin from (contiguous_dense_depth s) s.byte_classes
+IsWithinFor s m ContiguousNFA =
+    (from : NFA) × (classes : List ℕ) × (dictionary from ≡ m) × AreClassesFor from s.byte_classes classes
+    × ¬ ArePlacesTooGreat from (contiguous_dense_depth s) classes
 IsWithinFor s m NoncontiguousNFA = Unit {0}
 
 -- an automaton of this kind, built of the dictionary, would pass its own limit
 abbrev pub IsTooLargeFor : Settings → Dictionary → AhoCorasickKind → Type 0
 IsTooLargeFor s m DFA = ∥ IsDfaTooLarge m s.start_kind s.byte_classes ∥₁
-IsTooLargeFor s m ContiguousNFA = (from : NFA) × (dictionary from ≡ m) × IsContiguousTooLarge from (contiguous_dense_depth s) s.byte_classes
+IsTooLargeFor s m ContiguousNFA =
+    (from : NFA) × (classes : List ℕ) × (dictionary from ≡ m) × AreClassesFor from s.byte_classes classes
+    × ArePlacesTooGreat from (contiguous_dense_depth s) classes
 IsTooLargeFor s m NoncontiguousNFA = ⊥
 
 -- the greatest number of patterns for which a DFA is taken if no automaton is named
@@ -49,7 +54,8 @@ most_for_dfa = 100
 abbrev pub TakesDfa : Settings → Dictionary → Type 0
 TakesDfa s m = (s.start_kind ≢ Both) × (length m.patterns ≤ most_for_dfa) × IsWithinFor s m DFA
 
--- Which automaton serves a dictionary: the one that is named, within its limit. If none is named, it is the DFA if one is taken,
+-- Which automaton serves a dictionary: the one that is named, within its limit. If none is named, it is the DFA if one
+-- is taken,
 -- else the contiguous NFA if it isn't too large, else the noncontiguous NFA.
 abbrev pub IsServed : Option AhoCorasickKind → Settings → Dictionary → AhoCorasickKind → Type 0
 IsServed (Some named) s m kind = (kind ≡ named) × IsWithinFor s m kind
@@ -59,12 +65,14 @@ IsServed None s m NoncontiguousNFA = (¬ TakesDfa s m) × IsTooLargeFor s m Cont
 
 -- ---- what is built
 
--- The automaton is built of the patterns, which are within the limits of a build, by the settings. It holds a prefilter as one is
--- wanted, and is of the kind that serves.
+-- The automaton is built of the patterns, which are within the limits of a build, by the settings, and serves their
+-- searches. It
+-- holds a prefilter as one is wanted, and is of the kind that serves.
 pub record IsFrontBuilt (b : AhoCorasickBuilder) (patterns : List (List ℕ)) (ac : AhoCorasick) : Type 0 where
   pub dictionary : (as_built ac).dictionary ≡ front_dictionary b.settings patterns
   pub within : IsWithinLimits (front_dictionary b.settings patterns)
   pub prefilter : IsHeld b.settings.prefilter (front_dictionary b.settings patterns) (as_built ac).prefilter
+  pub starts : start_kind_of ac ≡ b.settings.start_kind
   pub served : IsServed b.kind b.settings (front_dictionary b.settings patterns) (kind_served (serving_engine ac))
   pub settings : settings_of ac ≡ b
 
@@ -77,14 +85,13 @@ pub record IsNamedTooLarge (b : AhoCorasickBuilder) (m : Dictionary) (error : Bu
   pub past : greatest_number < requested
   pub overflow : error ≡ StateIDOverflow greatest_number requested
 
--- why none is built for a dictionary: it passes a limit of every build, or the automaton that was named would be too large, or
--- memory ran out
-abbrev pub IsDictionaryRefused : AhoCorasickBuilder → Dictionary → BuildErrorKind → Type 0
-IsDictionaryRefused b m error = IsBuildRefused m error ⊎ IsNamedTooLarge b m error
-
--- why none is built of these patterns
+-- Why none is built of these patterns: they pass a limit of every build, or the automaton that was named would be too
+-- large, or
+-- memory ran out.
 abbrev pub IsFrontBuildRefused : AhoCorasickBuilder → List (List ℕ) → BuildErrorKind → Type 0
-IsFrontBuildRefused b patterns error = IsDictionaryRefused b (front_dictionary b.settings patterns) error
+IsFrontBuildRefused b patterns error =
+    IsBuildRefused (front_dictionary b.settings patterns) error
+    ⊎ IsNamedTooLarge b (front_dictionary b.settings patterns) error
 
 -- an automaton that is built under the default settings, which are for searches that aren't anchored; and why none is
 pub record IsFrontBuiltByDefault (patterns : List (List ℕ)) (ac : AhoCorasick) : Type 0 where
@@ -94,13 +101,15 @@ pub record IsFrontBuiltByDefault (patterns : List (List ℕ)) (ac : AhoCorasick)
   pub starts : start_kind_of ac ≡ Unanchored
 
 abbrev pub IsFrontRefusedByDefault : List (List ℕ) → BuildErrorKind → Type 0
-IsFrontRefusedByDefault patterns error = (b : AhoCorasickBuilder) × AreFrontDefaults b × IsFrontBuildRefused b patterns error
+IsFrontRefusedByDefault patterns error =
+    (b : AhoCorasickBuilder) × AreFrontDefaults b × IsFrontBuildRefused b patterns error
 
 -- ---- how an automaton is made
 
 -- the result of trying a DFA: one that is made from the noncontiguous NFA, or none if none is taken
 abbrev pub IsTriedDfa : Settings → NFA → Option Deterministic → Type 0
-IsTriedDfa s from (Some dfa) = (s.start_kind ≢ Both) × (length (dictionary from).patterns ≤ most_for_dfa) × IsDfaOf s from dfa
+IsTriedDfa s from (Some dfa) =
+    (s.start_kind ≢ Both) × (length (dictionary from).patterns ≤ most_for_dfa) × IsDfaOf s from dfa
 IsTriedDfa s from None = ¬ TakesDfa s (dictionary from)
 
 -- the result of trying a contiguous NFA: one that is made from the noncontiguous NFA, or none if it would be too large

@@ -114,7 +114,7 @@ impl AhoCorasick {
     /// The automaton that serves.
     #[inline]
     fn serving(&self) -> &Engine
-        ensures engine { result.now ≡ serving_engine self.now }
+        ensures engine { serving_engine self.now ≡ result.now }
         ensures built { as_built self.now ≡ engine_built_as result.now }
     {
         &self.shared.engine
@@ -124,7 +124,17 @@ impl AhoCorasick {
     /// result. For a byte a DFA looks at one state, and an NFA at two at most. A DFA takes 4 bytes for each class of bytes in each
     /// state; a contiguous NFA takes the least memory.
     ///
-    /// An example: `uses::examples::build::summary_of`.
+    /// ```text
+    /// Summary {
+    ///     kind: ac.kind(),
+    ///     match_kind: ac.match_kind(),
+    ///     start_kind: ac.start_kind(),
+    ///     patterns: ac.patterns_len(),
+    ///     shortest: ac.min_pattern_len(),
+    ///     longest: ac.max_pattern_len(),
+    ///     memory: ac.memory_usage(),
+    /// }
+    /// ```
     pub fn kind(&self) -> AhoCorasickKind
         ensures kind { result ≡ kind_served (serving_engine self.now) }
         ensures looks { IsTrue (as_built self.now).deterministic ↔ (result ≡ AhoCorasickKind.DFA) }
@@ -137,8 +147,6 @@ impl AhoCorasick {
     }
 
     /// Which searches it serves.
-    ///
-    /// An example: `uses::examples::build::summary_of`.
     pub fn start_kind(&self) -> StartKind
         ensures { result ≡ start_kind_of self.now }
     {
@@ -146,8 +154,6 @@ impl AhoCorasick {
     }
 
     /// Which of several overlapping occurrences is the match.
-    ///
-    /// An example: `uses::examples::build::summary_of`.
     pub fn match_kind(&self) -> MatchKind
         ensures { result ≡ kind_of self.now }
     {
@@ -155,8 +161,6 @@ impl AhoCorasick {
     }
 
     /// How many bytes the shortest pattern has; `usize::MAX` where there is none.
-    ///
-    /// An example: `uses::examples::build::summary_of`.
     pub fn min_pattern_len(&self) -> usize
         ensures { result ≡ shortest (patterns_of self.now) }
     {
@@ -164,8 +168,6 @@ impl AhoCorasick {
     }
 
     /// How many bytes the longest pattern has; 0 where there is none.
-    ///
-    /// An example: `uses::examples::build::summary_of`.
     pub fn max_pattern_len(&self) -> usize
         ensures { result ≡ longest (patterns_of self.now) }
     {
@@ -173,8 +175,6 @@ impl AhoCorasick {
     }
 
     /// How many patterns it was made from. Those that can't match count too.
-    ///
-    /// An example: `uses::examples::build::summary_of`.
     pub fn patterns_len(&self) -> usize
         ensures { result ≡ pattern_count self.now }
     {
@@ -182,8 +182,6 @@ impl AhoCorasick {
     }
 
     /// About how many bytes of memory it holds.
-    ///
-    /// An example: `uses::examples::build::summary_of`.
     pub fn memory_usage(&self) -> usize {
         Automaton::memory_usage(self)
     }

@@ -25,7 +25,8 @@ some-matching (n ∷ ns) is = λ e. let d : n ∷ ns ≡ [] = e in cc
 -- ---- where reading on stops
 
 -- Reading on from a state stopped at the first state that matches, or after the last byte.
-pub record StopsAtMatch (b : Built) (Reaches : Anchored → List ℕ → StateID → Type 0) (matches : StateID → List ℕ) (sid : StateID) (bytes : List ℕ) (stop : Advance) (matched : Bool) (before after : Steps) : Type 0 where
+pub record StopsAtMatch (b : Built) (Reaches : Anchored → List ℕ → StateID → Type 0) (matches : StateID → List ℕ)
+    (sid : StateID) (bytes : List ℕ) (stop : Advance) (matched : Bool) (before after : Steps) : Type 0 where
   pub within : stop.taken ≤ length bytes
   pub reads : Leads (Reaches No) sid (take stop.taken bytes) stop.sid
   pub plain : PassesPlain (Reaches No) (is_matching matches) sid bytes stop.taken
@@ -34,14 +35,15 @@ pub record StopsAtMatch (b : Built) (Reaches : Anchored → List ℕ → StateID
   pub cost : IsReadCost b Reaches No sid (take stop.taken bytes) before after
 
 -- reading on stopped at a state that matches
-pub stops-there : (b : Built) (Reaches : Anchored → List ℕ → StateID → Type 0) (matches : StateID → List ℕ) (sid : StateID) (bytes : List ℕ) (stop : Advance) (before after : Steps)
+pub stops-there : {b : Built} {Reaches : Anchored → List ℕ → StateID → Type 0} {matches : StateID → List ℕ}
+    {sid : StateID} {bytes : List ℕ} {stop : Advance} {before after : Steps}
     → ((stop.taken ≤ length bytes) × (0 < length bytes → 0 < stop.taken))
     → Leads (Reaches No) sid (take stop.taken bytes) stop.sid
     → PassesPlain (Reaches No) (is_matching matches) sid bytes stop.taken
     → IsReadCost b Reaches No sid (take stop.taken bytes) before after
     → matches stop.sid ≢ []
     → StopsAtMatch b Reaches matches sid bytes stop true before after
-stops-there b Reaches matches sid bytes stop before after takes reads plain cost matched = record {
+stops-there takes reads plain cost matched = record {
   within = takes.0;
   reads = reads;
   plain = plain;
@@ -51,7 +53,8 @@ stops-there b Reaches matches sid bytes stop before after takes reads plain cost
 }
 
 -- reading on read all the bytes, and found no state that matches
-pub stops-none : (b : Built) (Reaches : Anchored → List ℕ → StateID → Type 0) (matches : StateID → List ℕ) (sid : StateID) (bytes : List ℕ) (stop : Advance) (before after : Steps)
+pub stops-none : {b : Built} {Reaches : Anchored → List ℕ → StateID → Type 0} {matches : StateID → List ℕ}
+    {sid : StateID} {bytes : List ℕ} {stop : Advance} {before after : Steps}
     → ((stop.taken ≤ length bytes) × (0 < length bytes → 0 < stop.taken))
     → Leads (Reaches No) sid (take stop.taken bytes) stop.sid
     → PassesPlain (Reaches No) (is_matching matches) sid bytes stop.taken
@@ -59,7 +62,7 @@ pub stops-none : (b : Built) (Reaches : Anchored → List ℕ → StateID → Ty
     → IsReadCost b Reaches No sid (take stop.taken bytes) before after
     → matches stop.sid ≡ []
     → StopsAtMatch b Reaches matches sid bytes stop false before after
-stops-none b Reaches matches sid bytes stop before after takes reads plain stops cost none =
+stops-none {matches} {sid} {bytes} {stop} takes reads plain stops cost none =
     let within = takes.0 in
     record {
       within = within;
@@ -79,11 +82,15 @@ stops-none b Reaches matches sid bytes stop before after takes reads plain stops
 -- ---- what was read over
 
 -- Reading on from one state to another took the first bytes, at this cost.
-pub record ReadsOver (b : Built) (Reaches : Anchored → List ℕ → StateID → Type 0) (sid : StateID) (bytes : List ℕ) (stop : Advance) (before after : Steps) : Type 0 where
+pub record ReadsOver (b : Built) (Reaches : Anchored → List ℕ → StateID → Type 0) (sid : StateID) (bytes : List ℕ)
+    (stop : Advance) (before after : Steps) : Type 0 where
   pub within : stop.taken ≤ length bytes
   pub reads : Leads (Reaches No) sid (take stop.taken bytes) stop.sid
   pub cost : IsReadCost b Reaches No sid (take stop.taken bytes) before after
 
 -- reading on that stopped at the first state that matches took the first bytes, at its cost
-pub stops-over : (b : Built) (Reaches : Anchored → List ℕ → StateID → Type 0) (matches : StateID → List ℕ) (sid : StateID) (bytes : List ℕ) (stop : Advance) (matched : Bool) (before after : Steps) → StopsAtMatch b Reaches matches sid bytes stop matched before after → ReadsOver b Reaches sid bytes stop before after
-stops-over b Reaches matches sid bytes stop matched before after stops = record { within = stops.within; reads = stops.reads; cost = stops.cost }
+pub stops-over : {b : Built} {Reaches : Anchored → List ℕ → StateID → Type 0} {matches : StateID → List ℕ}
+    {sid : StateID} {bytes : List ℕ} {stop : Advance} {matched : Bool} {before after : Steps}
+    → StopsAtMatch b Reaches matches sid bytes stop matched before after
+    → ReadsOver b Reaches sid bytes stop before after
+stops-over stops = record { within = stops.within; reads = stops.reads; cost = stops.cost }

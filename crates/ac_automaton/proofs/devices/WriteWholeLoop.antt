@@ -7,7 +7,8 @@ use Rattle.ac_automaton.specs.declared.watched.Watched.{Watched}
 use Rattle.ac_automaton.specs.Devices.Watched.{NoneFailed, NoneRead, WriteTook}
 
 -- the first `written` bytes were taken, and no call failed
-pub record HasWritten {T : Type 0} (contents : T → Option (List ℕ)) (old new : Watched T) (bytes : List ℕ) (written : ℕ) : Type 0 where
+pub record HasWritten {T : Type 0} (contents : T → Option (List ℕ)) (old new : Watched T) (bytes : List ℕ)
+    (written : ℕ) : Type 0 where
   pub within : written ≤ length bytes
   pub taken : new.taken.bytes ≡ old.taken.bytes ++ take written bytes
   pub flushed : new.flushed.bytes ≡ old.flushed.bytes
@@ -20,30 +21,36 @@ abbrev left : ℕ → List ℕ → List ℕ
 left written bytes = take (length bytes - written) (drop written bytes)
 
 -- the bytes written so far and the next bytes of the rest are the longer front
-take_further : (written n : ℕ) (bytes : List ℕ) → take (written + n) bytes ≡ take written bytes ++ take n (left written bytes)
+take_further : (written n : ℕ) (bytes : List ℕ)
+    → take (written + n) bytes ≡ take written bytes ++ take n (left written bytes)
 take_further written n bytes =
     let whole = take-append-drop written (take (written + n) bytes) in
     let front = take-take written (written + n) bytes (omega arith) in
     let back = drop-take written n bytes in
     let rest = take_rest bytes written in
-    sym whole ∙ ap (λ (l : List ℕ). l ++ drop written (take (written + n) bytes)) front ∙ ap (λ (l : List ℕ). take written bytes ++ l) (back ∙ ap (take n) (sym rest))
+    sym whole ∙ ap (λ l. l ++ drop written (take (written + n) bytes)) front
+    ∙ ap (λ l. take written bytes ++ l) (back ∙ ap (take n) (sym rest))
 
 -- this many more bytes of the rest were taken
-pub written_more : {T : Type 0} (contents : T → Option (List ℕ)) (old mid new : Watched T) (bytes : List ℕ) (written n : ℕ)
+pub written_more : {T : Type 0} {contents : T → Option (List ℕ)} {old mid new : Watched T} {bytes : List ℕ}
+    {written n : ℕ}
     → HasWritten contents old mid bytes written
     → WriteTook mid new (left written bytes) n
     → 0 < n
     → NoneRead mid new
     → Appends (contents mid.inner) (contents new.inner) (take n (left written bytes))
     → HasWritten contents old new bytes (written + n)
-written_more contents old mid new bytes written n before took some reads appended =
+written_more {contents} {old} {new} {bytes} {written} {n} before took some reads appended =
     let further = take_further written n bytes in
     record {
-      within = omega (arith, before.within, took.within, ap length (take_rest bytes written), length-drop written bytes);
-      taken = took.taken ∙ ap (λ (l : List ℕ). l ++ take n (left written bytes)) before.taken
-          ∙ append_assoc old.taken.bytes (take written bytes) (take n (left written bytes)) ∙ ap (λ (l : List ℕ). old.taken.bytes ++ l) (sym further);
+      within =
+          omega (arith, before.within, took.within, ap length (take_rest bytes written), length-drop written bytes);
+      taken = took.taken ∙ ap (λ l. l ++ take n (left written bytes)) before.taken
+          ∙ append_assoc old.taken.bytes (take written bytes) (take n (left written bytes))
+          ∙ ap (λ l. old.taken.bytes ++ l) (sym further);
       flushed = took.flushed ∙ before.flushed;
-      fine = let none = took.some_taken some in record { failures = none.failures ∙ before.fine.failures; stalls = none.stalls ∙ before.fine.stalls };
+      fine = let none = took.some_taken some in
+          record { failures = none.failures ∙ before.fine.failures; stalls = none.stalls ∙ before.fine.stalls };
       reads = record { pieces = reads.pieces ∙ before.reads.pieces; ended = reads.ended ∙ before.reads.ended };
       device = subst (Appends (contents old.inner) (contents new.inner)) (sym further)
           (Appends-trans _ _ _ (take written bytes) (take n (left written bytes)) before.device appended);

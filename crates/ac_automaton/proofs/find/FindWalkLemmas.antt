@@ -8,9 +8,9 @@ use Rattle.ac_input.specs.declared.search.Span.{Span}
 use Rattle.ac_input.specs.declared.steps.Steps.{Steps}
 use Rattle.ac_input.specs.Dictionary.{IsLive}
 use Rattle.ac_input.specs.Input.{Asked, is_anchored}
-use Rattle.ac_input.specs.Laws.LiveLaws.{IsOwnInverse}
 use Rattle.ac_input.specs.Occurrence.{Occurrence}
 use Rattle.ac_input.specs.Tells.{Tells}
+use Rattle.ac_input.proofs.lemmas.SomeLemmas.{live-some}
 use Rattle.ac_automaton.specs.declared.automaton.Automaton.{Ghosts}
 use Rattle.ac_automaton.specs.declared.cursor.Cursor.{Cursor}
 use Rattle.ac_automaton.specs.declared.cursor.End.TheVariants.{Found, Idle}
@@ -34,19 +34,20 @@ module _ {S : Type 0} (A : Ghosts S) (a : S) (asked : Asked) where
   pub record Walks (at : ℕ) (cursor : Cursor) (best : Option Occurrence) (x y : Steps) : Type 0 where
     pub stands : StandsIn (A.built a) (A.Reaches a) asked cursor
     pub begun : cursor.from ≡ at
-    pub walked : HasReadText (A.built a).dictionary asked.anchored asked.earliest (A.built a).deterministic asked.haystack (rest asked cursor) cursor.at best x y
+    pub walked : HasReadText (A.built a).dictionary asked.anchored asked.earliest (A.built a).deterministic
+        asked.haystack (rest asked cursor) cursor.at best x y
 
   -- After the state's match is taken: the best match of the bytes read, and what of them is live.
   pub record HasAsked (at : ℕ) (cursor : Cursor) (best : Option Occurrence) (x y : Steps) : Type 0 where
     pub stands : StandsIn (A.built a) (A.Reaches a) asked cursor
     pub begun : cursor.from ≡ at
-    pub inverse : IsOwnInverse (A.built a).dictionary.pairing
-    pub lives : (live : Option ℕ) × IsLive (A.built a).dictionary (is_anchored asked.anchored) (text_read asked cursor) live
-    pub told : HasTold (A.built a).dictionary asked.anchored asked.earliest (A.built a).deterministic asked.haystack (rest asked cursor) cursor.at best x y
+    pub told : HasTold (A.built a).dictionary asked.anchored asked.earliest (A.built a).deterministic asked.haystack
+        (rest asked cursor) cursor.at best x y
 
 -- at first the walk has read nothing
 pub walks-first : {S : Type 0} (A : Ghosts S) (a : S) (asked : Asked) (at : ℕ) (start : StateID) (x : Steps)
-    → A.Reaches a asked.anchored [] start → asked.span.start ≤ at → at ≤ asked.span.end → asked.span.end ≤ length asked.haystack
+    → A.Reaches a asked.anchored [] start → asked.span.start ≤ at → at ≤ asked.span.end
+    → asked.span.end ≤ length asked.haystack
     → Walks A a asked at (record { sid = start; from = at; at = at }) None x x
 walks-first A a asked at start x starts from to inside = record {
   stands = record {
@@ -54,82 +55,104 @@ walks-first A a asked at start x starts from to inside = record {
     ordered = omega arith;
     within = to;
     inside = inside;
-    reads = subst (λ (text : List ℕ). A.Reaches a asked.anchored text start) (sym (part-empty asked.haystack at)) starts;
+    reads = subst (λ text. A.Reaches a asked.anchored text start) (sym (part-empty asked.haystack at)) starts;
   };
   begun = refl;
-  walked = walked-none (A.built a).dictionary asked.anchored asked.earliest (A.built a).deterministic asked.haystack (record { start = at; end = asked.span.end }) x to;
+  walked = walked-none to;
 }
 
 -- the walk takes the match of its state
-pub asks : {S : Type 0} (A : Ghosts S) (a : S) (asked : Asked) (at : ℕ) (cursor : Cursor) (best new all : Option Occurrence) (x y : Steps)
-    → ((text : List ℕ) (state : StateID) → A.Reaches a asked.anchored text state → IsOwnInverse (A.built a).dictionary.pairing)
-    → ((text : List ℕ) (state : StateID) → A.Reaches a asked.anchored text state → Tells (A.built a).dictionary asked.anchored text (A.matches a state))
-    → ((text : List ℕ) (state : StateID) → A.Reaches a asked.anchored text state → (live : Option ℕ) × IsLive (A.built a).dictionary (is_anchored asked.anchored) text live)
-    → Walks A a asked at cursor best x y → IsTaken (A.built a) (A.matches a) asked cursor new → all ≡ option_or new best → HasAsked A a asked at cursor all x y
-asks A a asked at cursor best new all x y pairs tells lives walks taken or =
+pub asks : {S : Type 0} (A : Ghosts S) (a : S) (asked : Asked) (at : ℕ) (cursor : Cursor)
+    (best new all : Option Occurrence) (x y : Steps)
+    → ((text : List ℕ) (state : StateID) → A.Reaches a asked.anchored text state
+    → Tells (A.built a).dictionary asked.anchored text (A.matches a state))
+    → Walks A a asked at cursor best x y → IsTaken (A.built a) (A.matches a) asked cursor new → all ≡ option_or new best
+    → HasAsked A a asked at cursor all x y
+asks A a asked at cursor best new all x y tells walks taken or =
     let text = text_read asked cursor in
     let reads = walks.stands.reads in
-    let inverse = pairs text cursor.sid reads in
     record {
       stands = walks.stands;
       begun = walks.begun;
-      inverse = inverse;
-      lives = lives text cursor.sid reads;
-      told = told-best (A.built a).dictionary asked.anchored asked.earliest (A.built a).deterministic asked.haystack (rest asked cursor) cursor.at best new all (A.matches a cursor.sid) x y
-          walks.stands.inside inverse walks.walked (tells text cursor.sid reads) taken or;
+      told = told-best (A.matches a cursor.sid)
+          walks.stands.inside walks.walked (tells text cursor.sid reads) taken or;
     }
 
 -- where the walk is over, its best match is the result
-pub asked-says : {S : Type 0} (A : Ghosts S) (a : S) (asked : Asked) (at : ℕ) (cursor : Cursor) (best : Option Occurrence) (x y : Steps) → HasAsked A a asked at cursor best x y
-    → IsDone (A.built a).dictionary asked.anchored (kind_asked (A.built a) asked) asked.haystack (rest asked cursor) cursor.at best → WalkSays (A.built a) asked at (Found best)
+pub asked-says : {S : Type 0} (A : Ghosts S) (a : S) (asked : Asked) (at : ℕ) (cursor : Cursor)
+    (best : Option Occurrence) (x y : Steps) → HasAsked A a asked at cursor best x y
+    → IsDone (A.built a).dictionary asked.anchored (kind_asked (A.built a) asked) asked.haystack (rest asked cursor)
+    cursor.at best → WalkSays (A.built a) asked at (Found best)
 asked-says A a asked at cursor best x y has done =
     let b = A.built a in
-    subst (λ (n : ℕ). WalkSays b asked n (Found best)) has.begun
-    (answer-says b.dictionary asked.anchored asked.earliest b.deterministic asked.haystack (rest asked cursor) cursor.at best x y has.stands.inside has.inverse has.told done)
+    subst (λ n. WalkSays b asked n (Found best)) has.begun
+    (answer-says b.dictionary asked.anchored asked.earliest b.deterministic asked.haystack (rest asked cursor) cursor.at
+    best x y has.stands.inside has.told done)
 
 -- the cost of a walk that is over
-pub asked-work : {S : Type 0} (A : Ghosts S) (a : S) (asked : Asked) (at : ℕ) (cursor : Cursor) (best : Option Occurrence) (x y : Steps) → HasAsked A a asked at cursor best x y → IsWalkCost (A.built a) asked at (Found best) x y
+pub asked-work : {S : Type 0} (A : Ghosts S) (a : S) (asked : Asked) (at : ℕ) (cursor : Cursor)
+    (best : Option Occurrence) (x y : Steps) → HasAsked A a asked at cursor best x y
+    → IsWalkCost (A.built a) asked at (Found best) x y
 asked-work A a asked at cursor best x y has =
     let b = A.built a in
-    subst (λ (n : ℕ). IsWalkCost b asked n (Found best) x y) has.begun
-    (answer-work b.dictionary asked.anchored asked.earliest b.deterministic asked.haystack (rest asked cursor) cursor.at best x y has.stands.inside has.inverse has.told has.lives)
+    subst (λ n. IsWalkCost b asked n (Found best) x y) has.begun
+    (answer-work b.dictionary asked.anchored asked.earliest b.deterministic asked.haystack (rest asked cursor) cursor.at
+    best x y has.stands.inside has.told)
 
 -- a walk that is over has looked at a state for each byte that it passed
-pub asked-looks : {S : Type 0} (A : Ghosts S) (a : S) (asked : Asked) (at : ℕ) (cursor : Cursor) (best : Option Occurrence) (x y : Steps) → HasAsked A a asked at cursor best x y
-    → IsDone (A.built a).dictionary asked.anchored (kind_asked (A.built a) asked) asked.haystack (rest asked cursor) cursor.at best → WalkLooks (A.built a) asked at (Found best) x y
+pub asked-looks : {S : Type 0} (A : Ghosts S) (a : S) (asked : Asked) (at : ℕ) (cursor : Cursor)
+    (best : Option Occurrence) (x y : Steps) → HasAsked A a asked at cursor best x y
+    → IsDone (A.built a).dictionary asked.anchored (kind_asked (A.built a) asked) asked.haystack (rest asked cursor)
+    cursor.at best → WalkLooks (A.built a) asked at (Found best) x y
 asked-looks A a asked at cursor best x y has done =
     let b = A.built a in
-    subst (λ (n : ℕ). WalkLooks b asked n (Found best) x y) has.begun
-    (answer-looks b.dictionary asked.anchored asked.earliest b.deterministic asked.haystack (rest asked cursor) cursor.at best x y has.stands.inside has.told has.lives done)
+    subst (λ n. WalkLooks b asked n (Found best) x y) has.begun
+    (answer-looks b.dictionary asked.anchored asked.earliest b.deterministic asked.haystack (rest asked cursor)
+    cursor.at best x y has.stands.inside has.told done)
 
 -- a walk that is back at the start has looked at a state for each byte that it passed
-pub back-looks : {S : Type 0} (A : Ghosts S) (a : S) (asked : Asked) (at : ℕ) (cursor : Cursor) (best : Option Occurrence) (x y : Steps) → HasAsked A a asked at cursor best x y → WalkLooks (A.built a) asked at (Idle cursor.at) x y
+pub back-looks : {S : Type 0} (A : Ghosts S) (a : S) (asked : Asked) (at : ℕ) (cursor : Cursor)
+    (best : Option Occurrence) (x y : Steps) → HasAsked A a asked at cursor best x y
+    → WalkLooks (A.built a) asked at (Idle cursor.at) x y
 back-looks A a asked at cursor best x y has =
-    let some = (has.told.work has.lives.0 has.lives.1).some in
-    subst (λ (n : ℕ). WalkLooks (A.built a) asked n (Idle cursor.at) x y) has.begun some
+    let live = live-some in
+    let some = (has.told.work live.0 live.1).some in
+    subst (λ n. WalkLooks (A.built a) asked n (Idle cursor.at) x y) has.begun some
 
 -- What a walk reports when it is back at the start, and what it costs.
-pub asked-back : {S : Type 0} (A : Ghosts S) (a : S) (asked : Asked) (at : ℕ) (cursor : Cursor) (best : Option Occurrence) (x y : Steps) → HasAsked A a asked at cursor best x y
-    → asked.anchored ≡ No → best ≡ None → at < cursor.at → IsLive (A.built a).dictionary (is_anchored asked.anchored) (text_read asked cursor) (Some (length (text_read asked cursor)))
+pub asked-back : {S : Type 0} (A : Ghosts S) (a : S) (asked : Asked) (at : ℕ) (cursor : Cursor)
+    (best : Option Occurrence) (x y : Steps) → HasAsked A a asked at cursor best x y
+    → asked.anchored ≡ No → best ≡ None → at < cursor.at
+    → IsLive (A.built a).dictionary (is_anchored asked.anchored) (text_read asked cursor)
+    (Some (length (text_read asked cursor)))
     → WalkSays (A.built a) asked at (Idle cursor.at) × IsWalkCost (A.built a) asked at (Idle cursor.at) x y
 asked-back A a asked at cursor best x y has free none further live =
     let b = A.built a in
     let begun = has.begun in (
-      subst (λ (n : ℕ). WalkSays b asked n (Idle cursor.at)) begun
-          (back-says b.dictionary asked.anchored asked.earliest b.deterministic asked.haystack (rest asked cursor) cursor.at best x y has.stands.inside has.inverse has.told free none (omega arith) live),
-      subst (λ (n : ℕ). IsWalkCost b asked n (Idle cursor.at) x y) begun
-          (back-work b.dictionary asked.anchored asked.earliest b.deterministic asked.haystack (rest asked cursor) cursor.at best x y has.told has.lives),
+      subst (λ n. WalkSays b asked n (Idle cursor.at)) begun
+          (back-says b.dictionary asked.anchored asked.earliest b.deterministic asked.haystack (rest asked cursor)
+          cursor.at best x y has.stands.inside has.told free none (omega arith) live),
+      subst (λ n. IsWalkCost b asked n (Idle cursor.at) x y) begun
+          (back-work b.dictionary asked.anchored asked.earliest b.deterministic asked.haystack (rest asked cursor)
+          cursor.at best x y has.told),
     )
 
 -- the walk reads on to the next special state
-pub asked-on : {S : Type 0} (A : Ghosts S) (a : S) (asked : Asked) (at : ℕ) (cursor next : Cursor) (best : Option Occurrence) (x y z : Steps) → HasAsked A a asked at cursor best x y
-    → (kind_asked (A.built a) asked ≡ Standard → best ≡ None) → ((from : ℕ) × IsLive (A.built a).dictionary (is_anchored asked.anchored) (text_read asked cursor) (Some from))
-    → StandsIn (A.built a) (A.Reaches a) asked next → next.from ≡ cursor.from → ReadsFurther (A.built a) asked cursor next y z → Walks A a asked at next best x z
+pub asked-on : {S : Type 0} (A : Ghosts S) (a : S) (asked : Asked) (at : ℕ) (cursor next : Cursor)
+    (best : Option Occurrence) (x y z : Steps) → HasAsked A a asked at cursor best x y
+    → (kind_asked (A.built a) asked ≡ Standard → best ≡ None)
+    → ((from : ℕ) × IsLive (A.built a).dictionary (is_anchored asked.anchored) (text_read asked cursor) (Some from))
+    → StandsIn (A.built a) (A.Reaches a) asked next → next.from ≡ cursor.from
+    → ReadsFurther (A.built a) asked cursor next y z → Walks A a asked at next best x z
 asked-on A a asked at cursor next best x y z has open_ alive stands same on =
     let b = A.built a in
     record {
       stands = stands;
       begun = same ∙ has.begun;
-      walked = subst (λ (n : ℕ). HasReadText b.dictionary asked.anchored asked.earliest b.deterministic asked.haystack (record { start = n; end = asked.span.end }) next.at best x z) (sym same)
-          (walked-on b.dictionary asked.anchored asked.earliest b.deterministic asked.haystack (rest asked cursor) cursor.at next.at best x y z has.stands.inside has.inverse has.told open_ alive on.further stands.within on.quiet on.lookups);
+      walked =
+          subst (λ n. HasReadText b.dictionary asked.anchored asked.earliest b.deterministic asked.haystack
+          (record { start = n; end = asked.span.end }) next.at best x z) (sym same)
+          (walked-on b.dictionary asked.anchored asked.earliest b.deterministic asked.haystack (rest asked cursor)
+          cursor.at next.at best x y z has.stands.inside has.told open_ alive on.further stands.within on.quiet
+          on.lookups);
     }

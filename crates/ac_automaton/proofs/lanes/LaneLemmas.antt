@@ -13,7 +13,9 @@ use Rattle.ac_automaton.proofs.lemmas.CursorLemmas.{leads-none, reached-on, take
 -- ---- how far a lane has read
 
 -- a lane that has read nothing since its last note
-pub walked-none : (Reaches : List ℕ → StateID → Type 0) (stops : StateID → Bool) (bytes : List ℕ) (lane : Lane) → lane.from ≡ lane.at → lane.first ≡ lane.sid → lane.at ≤ lane.end → lane.end ≤ length bytes → IsReached Reaches lane.sid → HasWalked Reaches stops bytes lane
+pub walked-none : (Reaches : List ℕ → StateID → Type 0) (stops : StateID → Bool) (bytes : List ℕ) (lane : Lane)
+    → lane.from ≡ lane.at → lane.first ≡ lane.sid → lane.at ≤ lane.end → lane.end ≤ length bytes
+    → IsReached Reaches lane.sid → HasWalked Reaches stops bytes lane
 walked-none Reaches stops bytes lane here same ordered inside reached =
     let none : lane.at - lane.from ≡ 0 = omega (arith, here) in
     record {
@@ -21,8 +23,8 @@ walked-none Reaches stops bytes lane here same ordered inside reached =
         ordered = omega (arith, here);
         within = omega (arith, ordered, inside);
         begins = subst (IsReached Reaches) (sym same) reached;
-        reads = subst (λ (n : ℕ). Leads Reaches lane.first (take n (drop lane.from bytes)) lane.sid) (sym none)
-            (subst (λ (i : StateID). Leads Reaches lane.first [] i) same (leads-none Reaches lane.first));
+        reads = subst (λ n. Leads Reaches lane.first (take n (drop lane.from bytes)) lane.sid) (sym none)
+            (subst (λ i. Leads Reaches lane.first [] i) same (leads-none Reaches lane.first));
         plain = λ at some less. absurd (omega (arith, none, some, less));
         reached = reached;
       };
@@ -31,7 +33,9 @@ walked-none Reaches stops bytes lane here same ordered inside reached =
     }
 
 -- a lane that begins has read nothing
-pub walked-begun : (Reaches : List ℕ → StateID → Type 0) (stops : StateID → Bool) (bytes : List ℕ) (at : ℕ) (sid : StateID) (slots : ℕ) (lane : Lane) → LaneBegins at sid slots lane → lane.end ≤ length bytes → IsReached Reaches sid → HasWalked Reaches stops bytes lane
+pub walked-begun : (Reaches : List ℕ → StateID → Type 0) (stops : StateID → Bool) (bytes : List ℕ) (at : ℕ)
+    (sid : StateID) (slots : ℕ) (lane : Lane) → LaneBegins at sid slots lane → lane.end ≤ length bytes
+    → IsReached Reaches sid → HasWalked Reaches stops bytes lane
 walked-begun Reaches stops bytes at sid slots lane begun inside reached =
     let some : at ≤ lane.end = begun.some in
     subst (HasWalked Reaches stops bytes) (sym begun.is)
@@ -39,7 +43,8 @@ walked-begun Reaches stops bytes at sid slots lane begun inside reached =
 
 -- a lane reads one byte more
 pub walked-byte : (Reaches : List ℕ → StateID → Type 0) (stops : StateID → Bool) (bytes : List ℕ) (before after : Lane)
-    → HasWalked Reaches stops bytes before → before.at < length bytes → Leads Reaches before.sid (get_or bytes before.at 0 ∷ []) after.sid
+    → HasWalked Reaches stops bytes before → before.at < length bytes
+    → Leads Reaches before.sid (get_or bytes before.at 0 ∷ []) after.sid
     → after.from ≡ before.from → after.first ≡ before.first → after.at ≡ before.at + 1
     → WalkedTo Reaches stops bytes after
 walked-byte Reaches stops bytes before after walked within leads from first at =
@@ -51,29 +56,29 @@ walked-byte Reaches stops bytes before after walked within leads from first at =
     let left = length-drop before.from bytes in
     let there : before.from + n ≡ before.at = omega (arith, ordered) in
     let size : n < length xs = omega (arith, left, ordered, within) in
-    let same : get_or xs n 0 ≡ byte = get_or-drop before.from bytes n 0 ∙ ap (λ (k : ℕ). get_or bytes k 0) there in
-    let is : slice_get xs n ≡ Some byte = slice_get-get_or xs n 0 size ∙ ap (λ (x : ℕ). Some x) same in
+    let same : get_or xs n 0 ≡ byte = get_or-drop before.from bytes n 0 ∙ ap (λ k. get_or bytes k 0) there in
+    let is : slice_get xs n ≡ Some byte = slice_get-get_or xs n 0 size ∙ ap (λ x. Some x) same in
     let more : take (suc n) xs ≡ take n xs ++ byte ∷ [] = take-more xs n byte is in
     let longer : after.at - after.from ≡ suc n = omega (arith, ordered, from, at) in
     let reads : Leads Reaches before.first (take (suc n) xs) after.sid = λ text r.
-    subst (λ (l : List ℕ). Reaches l after.sid) (append_assoc text (take n xs) (byte ∷ []) ∙ ap (λ (l : List ℕ). text ++ l) (sym more))
+    subst (λ l. Reaches l after.sid) (append_assoc text (take n xs) (byte ∷ []) ∙ ap (λ l. text ++ l) (sym more))
     (leads (text ++ take n xs) (to.reads text r)) in
     let plain : PassesPlain Reaches stops before.first xs (suc n) = λ k some less. ⊎_elim
     (λ (sooner : k < n). to.plain k some sooner)
     (λ (here : n ≤ k). let e : n ≡ k = omega (arith, here, less) in
-    subst (λ (i : ℕ). (mid : StateID) × Leads Reaches before.first (take i xs) mid × ¬ IsTrue (stops mid)) e
+    subst (λ i. (mid : StateID) × Leads Reaches before.first (take i xs) mid × ¬ IsTrue (stops mid)) e
     (before.sid, to.reads, walked.quiet (omega (arith, ordered, e, some))))
     (cases_lt k n) in
     record {
       ordered = omega (arith, ordered, from, at);
       within = omega (arith, within, at);
       begins = subst (IsReached Reaches) (sym first) to.begins;
-      reads = subst (λ (m : ℕ). Leads Reaches after.first (take m (drop after.from bytes)) after.sid) (sym longer)
-          (subst (λ (i : StateID). Leads Reaches i (take (suc n) (drop after.from bytes)) after.sid) (sym first)
-          (subst (λ (k : ℕ). Leads Reaches before.first (take (suc n) (drop k bytes)) after.sid) (sym from) reads));
-      plain = subst (λ (m : ℕ). PassesPlain Reaches stops after.first (drop after.from bytes) m) (sym longer)
-          (subst (λ (i : StateID). PassesPlain Reaches stops i (drop after.from bytes) (suc n)) (sym first)
-          (subst (λ (k : ℕ). PassesPlain Reaches stops before.first (drop k bytes) (suc n)) (sym from) plain));
+      reads = subst (λ m. Leads Reaches after.first (take m (drop after.from bytes)) after.sid) (sym longer)
+          (subst (λ i. Leads Reaches i (take (suc n) (drop after.from bytes)) after.sid) (sym first)
+          (subst (λ k. Leads Reaches before.first (take (suc n) (drop k bytes)) after.sid) (sym from) reads));
+      plain = subst (λ m. PassesPlain Reaches stops after.first (drop after.from bytes) m) (sym longer)
+          (subst (λ i. PassesPlain Reaches stops i (drop after.from bytes) (suc n)) (sym first)
+          (subst (λ k. PassesPlain Reaches stops before.first (drop k bytes) (suc n)) (sym from) plain));
       reached = reached-on Reaches before.sid (byte ∷ []) after.sid to.reached leads;
     }
 
@@ -82,8 +87,11 @@ pub not-up_to : (last sid : StateID) → last < sid → ¬ IsTrue (is_up_to last
 not-up_to last sid past e = let le = leb-true sid last e in omega (arith, le, past)
 
 -- a lane that stands past the last state goes on
-pub walked-on : (Reaches : List ℕ → StateID → Type 0) (bytes : List ℕ) (lane : Lane) (last : StateID) → WalkedTo Reaches (is_up_to last) bytes lane → lane.at ≤ lane.end → lane.end ≤ length bytes → last < lane.sid → HasWalked Reaches (is_up_to last) bytes lane
-walked-on Reaches bytes lane last to ordered inside past = record { to = to; quiet = λ _. not-up_to last lane.sid past; inside = (ordered, inside) }
+pub walked-on : (Reaches : List ℕ → StateID → Type 0) (bytes : List ℕ) (lane : Lane) (last : StateID)
+    → WalkedTo Reaches (is_up_to last) bytes lane → lane.at ≤ lane.end → lane.end ≤ length bytes → last < lane.sid
+    → HasWalked Reaches (is_up_to last) bytes lane
+walked-on Reaches bytes lane last to ordered inside past =
+    record { to = to; quiet = λ _. not-up_to last lane.sid past; inside = (ordered, inside) }
 
 -- ---- a turn of one lane
 
@@ -93,48 +101,70 @@ module _ (Reaches : List ℕ → StateID → Type 0) (bytes : List ℕ) (last : 
   after read sid = record lane { at = lane.at + read; sid = sid }
 
   -- before the first byte
-  pub turn-none : HasWalked Reaches (is_up_to last) bytes lane → HasWalked Reaches (is_up_to last) bytes (after 0 lane.sid)
+  pub turn-none : HasWalked Reaches (is_up_to last) bytes lane
+      → HasWalked Reaches (is_up_to last) bytes (after 0 lane.sid)
   turn-none walked =
       let e : lane.at + 0 ≡ lane.at = omega arith in
-      subst (λ (n : ℕ). HasWalked Reaches (is_up_to last) bytes (record lane { at = n; sid = lane.sid })) (sym e) walked
+      subst (λ n. HasWalked Reaches (is_up_to last) bytes (record lane { at = n; sid = lane.sid })) (sym e) walked
 
   -- the lane reads one byte more
-  turn-byte : (read : ℕ) (current next : StateID) → HasWalked Reaches (is_up_to last) bytes (after read current) → lane.at + read < length bytes → Leads Reaches current (get_or bytes (lane.at + read) 0 ∷ []) next → WalkedTo Reaches (is_up_to last) bytes (after (read + 1) next)
-  turn-byte read current next walked within leads = walked-byte Reaches (is_up_to last) bytes (after read current) (after (read + 1) next) walked within leads refl refl (omega arith)
+  turn-byte : (read : ℕ) (current next : StateID) → HasWalked Reaches (is_up_to last) bytes (after read current)
+      → lane.at + read < length bytes → Leads Reaches current (get_or bytes (lane.at + read) 0 ∷ []) next
+      → WalkedTo Reaches (is_up_to last) bytes (after (read + 1) next)
+  turn-byte read current next walked within leads =
+      walked-byte Reaches (is_up_to last) bytes (after read current) (after (read + 1) next) walked within leads refl
+      refl (omega arith)
 
   -- after the byte the lane goes on, if its state is past the last one,
-  pub turn-on : (read : ℕ) (current next : StateID) → HasWalked Reaches (is_up_to last) bytes (after read current) → lane.at + read < lane.end → Leads Reaches current (get_or bytes (lane.at + read) 0 ∷ []) next → last < next → HasWalked Reaches (is_up_to last) bytes (after (read + 1) next)
+  pub turn-on : (read : ℕ) (current next : StateID) → HasWalked Reaches (is_up_to last) bytes (after read current)
+      → lane.at + read < lane.end → Leads Reaches current (get_or bytes (lane.at + read) 0 ∷ []) next → last < next
+      → HasWalked Reaches (is_up_to last) bytes (after (read + 1) next)
   turn-on read current next walked within leads past =
       let inside : lane.end ≤ length bytes = walked.inside.1 in
       let on : lane.at + (read + 1) ≤ lane.end = omega (arith, within) in
-      walked-on Reaches bytes (after (read + 1) next) last (turn-byte read current next walked (omega (arith, within, inside)) leads) on inside past
+      walked-on Reaches bytes (after (read + 1) next) last
+      (turn-byte read current next walked (omega (arith, within, inside)) leads) on inside past
 
   -- or the turn ends, wherever it stands
-  pub turn-ends : (read : ℕ) (current next : StateID) (result : Lane) → HasWalked Reaches (is_up_to last) bytes (after read current) → lane.at + read < lane.end → Leads Reaches current (get_or bytes (lane.at + read) 0 ∷ []) next → result ≡ after (read + 1) next → HasGone Reaches (is_up_to last) bytes lane result
+  pub turn-ends : (read : ℕ) (current next : StateID) (result : Lane)
+      → HasWalked Reaches (is_up_to last) bytes (after read current) → lane.at + read < lane.end
+      → Leads Reaches current (get_or bytes (lane.at + read) 0 ∷ []) next → result ≡ after (read + 1) next
+      → HasGone Reaches (is_up_to last) bytes lane result
   turn-ends read current next result walked within leads is =
       let inside : lane.end ≤ length bytes = walked.inside.1 in
       let to = turn-byte read current next walked (omega (arith, within, inside)) leads in
-      subst (HasGone Reaches (is_up_to last) bytes lane) (sym is) (record { to = to; on = omega arith; within = omega (arith, within); same = refl })
+      subst (HasGone Reaches (is_up_to last) bytes lane) (sym is)
+      (record { to = to; on = omega arith; within = omega (arith, within); same = refl })
 
   -- without a stop before it, the turn ends after the last byte
-  pub turn-all : (read len : ℕ) (current : StateID) (result : Lane) → HasWalked Reaches (is_up_to last) bytes (after read current) → read ≡ len → 0 < len → result ≡ after len current → HasGone Reaches (is_up_to last) bytes lane result
+  pub turn-all : (read len : ℕ) (current : StateID) (result : Lane)
+      → HasWalked Reaches (is_up_to last) bytes (after read current) → read ≡ len → 0 < len → result ≡ after len current
+      → HasGone Reaches (is_up_to last) bytes lane result
   turn-all read len current result walked all some is =
       let ordered : lane.at + read ≤ lane.end = walked.inside.0 in
       subst (HasGone Reaches (is_up_to last) bytes lane) (sym is)
-      (record { to = subst (λ (n : ℕ). WalkedTo Reaches (is_up_to last) bytes (after n current)) all walked.to; on = omega (arith, some); within = omega (arith, ordered, all); same = refl })
+      (record {
+        to = subst (λ n. WalkedTo Reaches (is_up_to last) bytes (after n current)) all walked.to;
+        on = omega (arith, some);
+        within = omega (arith, ordered, all);
+        same = refl;
+      })
 
 -- ---- what is noted
 
 -- a state that isn't up to the last one is past it
 pub up_to-past : (last sid : StateID) → ¬ IsTrue (is_up_to last sid) → last < sid
-up_to-past last sid past = ⊎_elim (λ (lt : last < sid). lt) (λ (le : sid ≤ last). absurd (past (le-leb sid last le))) (cases_lt last sid)
+up_to-past last sid past =
+    ⊎_elim (λ (lt : last < sid). lt) (λ (le : sid ≤ last). absurd (past (le-leb sid last le))) (cases_lt last sid)
 
 -- a state past the last one matches nothing
-past-quiet : (matches : StateID → List ℕ) (last sid : StateID) → ((i : StateID) → last < i → matches i ≡ []) → ¬ IsTrue (is_up_to last sid) → ¬ IsTrue (is_matching matches sid)
+past-quiet : (matches : StateID → List ℕ) (last sid : StateID) → ((i : StateID) → last < i → matches i ≡ [])
+    → ¬ IsTrue (is_up_to last sid) → ¬ IsTrue (is_matching matches sid)
 past-quiet matches last sid quiet past e = false≢true (ap has_some (sym (quiet sid (up_to-past last sid past))) ∙ e)
 
 -- the bytes that a lane has read since its last note make a note
-pub walked-note : (Reaches : List ℕ → StateID → Type 0) (matches : StateID → List ℕ) (bytes : List ℕ) (lane : Lane) (last : StateID)
+pub walked-note : (Reaches : List ℕ → StateID → Type 0) (matches : StateID → List ℕ) (bytes : List ℕ) (lane : Lane)
+    (last : StateID)
     → ((i : StateID) → last < i → matches i ≡ []) → WalkedTo Reaches (is_up_to last) bytes lane → lane.from < lane.at
     → IsNote Reaches matches bytes (note_of lane)
 walked-note Reaches matches bytes lane last quiet to more =
@@ -145,5 +175,6 @@ walked-note Reaches matches bytes lane last quiet to more =
       within = omega (arith, ordered, within);
       begins = to.begins;
       reads = to.reads;
-      plain = λ k some less. let mid = to.plain k some less in (mid.0, mid.1, past-quiet matches last mid.0 quiet mid.2);
+      plain = λ k some less. let mid = to.plain k some less in
+          (mid.0, mid.1, past-quiet matches last mid.0 quiet mid.2);
     }

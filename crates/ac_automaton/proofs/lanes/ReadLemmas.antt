@@ -10,15 +10,18 @@ use Rattle.std.specs.Prelude.{Option}
 use Rattle.ac_automaton.proofs.lanes.ChainLemmas.{takes-weaker}
 
 -- what an automaton has read ahead, between bytes that free a search by more
-pub reads-weaker : (Free More : ℕ → StateID → Type 0) (b : Built) (Reaches : List ℕ → StateID → Type 0) (matches : StateID → List ℕ) (anew : Option StateID) (sid : StateID) (bytes : List ℕ) (at len read : ℕ) (notes : List Note) (s t : Steps)
+pub reads-weaker : {Free More : ℕ → StateID → Type 0} {b : Built} {Reaches : List ℕ → StateID → Type 0}
+    {matches : StateID → List ℕ} {anew : Option StateID} {sid : StateID} {bytes : List ℕ} {at len read : ℕ}
+    {notes : List Note} {s t : Steps}
     → (b.dictionary.kind ≡ Standard → (byte : ℕ) (state : StateID) → Free byte state → More byte state)
-    → ReadsAheadBy Free b Reaches matches anew sid bytes at len read notes s t → ReadsAheadBy More b Reaches matches anew sid bytes at len read notes s t
-reads-weaker Free More b Reaches matches anew sid bytes at len read notes s t more h = record {
+    → ReadsAheadBy Free b Reaches matches anew sid bytes at len read notes s t
+    → ReadsAheadBy More b Reaches matches anew sid bytes at len read notes s t
+reads-weaker {Free} {matches} {anew} {sid} {bytes} {at} {notes} more h = record {
   are = h.are;
   within = h.within;
   covered = h.covered;
   most = h.most;
   counted = h.counted;
   taken = λ kind. let all : TakesEachBy Free matches anew bytes at sid notes = h.taken kind in
-      (all.0, all.1, takes-weaker Free More matches anew bytes (more kind) at sid notes all.0 all.1 all.2);
+      (all.0, all.1, takes-weaker matches anew bytes (more kind) at sid notes all.0 all.1 all.2);
 }

@@ -18,14 +18,16 @@ use Rattle.ac_automaton.proofs.lanes.StoreLemmas.{MayStore, all-noted}
 
 -- ---- a lane that stores a note stands where it did
 
-pub stays : (P : Type 0) (next : StateID) (old new : List Note) (before after : Lane) → StoresIf P next old new before after → (after.at ≡ before.at) × (after.end ≡ before.end)
+pub stays : (P : Type 0) (next : StateID) (old new : List Note) (before after : Lane)
+    → StoresIf P next old new before after → (after.at ≡ before.at) × (after.end ≡ before.end)
 stays P next old new before after s = ⊎_elim
-    (λ (p : P). let e = (s.stores p).lane in (ap (λ (l : Lane). l.at) e, ap (λ (l : Lane). l.end) e))
-    (λ (none : ¬ P). let e = (s.keeps none).1 in (ap (λ (l : Lane). l.at) e, ap (λ (l : Lane). l.end) e))
+    (λ (p : P). let e = (s.stores p).lane in (ap (λ l. l.at) e, ap (λ l. l.end) e))
+    (λ (none : ¬ P). let e = (s.keeps none).1 in (ap (λ l. l.at) e, ap (λ l. l.end) e))
     s.either
 
 -- so what the lanes have read is the same after it
-pub stays-last : (begun before after : Lanes) (s t : Steps) → HaveRead begun before s t → EachPair (λ one other. (other.at ≡ one.at) × (other.end ≡ one.end)) before after → HaveRead begun after s t
+pub stays-last : (begun before after : Lanes) (s t : Steps) → HaveRead begun before s t
+    → EachPair (λ one other. (other.at ≡ one.at) × (other.end ≡ one.end)) before after → HaveRead begun after s t
 stays-last begun before after s t one same =
     let each = one.each in
     record {
@@ -35,43 +37,54 @@ stays-last begun before after s t one same =
     }
 
 -- and after they have read on before it
-pub stays-read : (begun before gone after : Lanes) (s t u : Steps) → HaveRead begun before s t → HaveRead before gone t u → EachPair (λ one other. (other.at ≡ one.at) × (other.end ≡ one.end)) gone after → HaveRead begun after s u
-stays-read begun before gone after s t u one two same = stays-last begun gone after s u (read-join begun before gone s t u one two) same
+pub stays-read : (begun before gone after : Lanes) (s t u : Steps) → HaveRead begun before s t
+    → HaveRead before gone t u → EachPair (λ one other. (other.at ≡ one.at) × (other.end ≡ one.end)) gone after
+    → HaveRead begun after s u
+stays-read begun before gone after s t u one two same =
+    stays-last begun gone after s u (read-join begun before gone s t u one two) same
 
 -- the state from which a lane goes on after a match is reached
-next-reached : (Reaches : List ℕ → StateID → Type 0) (anew : Option StateID) (sid : StateID) → IfSome anew (Reaches []) → IsReached Reaches sid → IsReached Reaches (unwrap_or anew sid)
+next-reached : (Reaches : List ℕ → StateID → Type 0) (anew : Option StateID) (sid : StateID) → IfSome anew (Reaches [])
+    → IsReached Reaches sid → IsReached Reaches (unwrap_or anew sid)
 next-reached Reaches None sid begins reached = reached
 next-reached Reaches (Some start) sid begins reached = ∣ ([], begins) ∣₁
 
 -- a lane that begins has noted nothing
-pub noted-none : (Reaches : List ℕ → StateID → Type 0) (matches : StateID → List ℕ) (anew : Option StateID) (sure : Type 0) (bytes : List ℕ) (notes : List Note) (size : ℕ) (lane : Lane) → LaneBegins lane.at lane.sid size lane → HasNoted Reaches matches anew sure bytes notes lane lane
+pub noted-none : (Reaches : List ℕ → StateID → Type 0) (matches : StateID → List ℕ) (anew : Option StateID)
+    (sure : Type 0) (bytes : List ℕ) (notes : List Note) (size : ℕ) (lane : Lane)
+    → LaneBegins lane.at lane.sid size lane → HasNoted Reaches matches anew sure bytes notes lane lane
 noted-none Reaches matches anew sure bytes notes size lane begun =
     let none : lane.slot - lane.slot ≡ 0 = omega arith in
-    let list : lane_notes notes lane lane ≡ [] = ap (λ (k : ℕ). take k (drop lane.slot notes)) none in
+    let list : lane_notes notes lane lane ≡ [] = ap (λ k. take k (drop lane.slot notes)) none in
     let zero : lane.from + 0 ≡ lane.from = omega arith in
     let InLane = λ (n : Note). (lane.from ≤ n.from) × (n.from + n.len ≤ lane.from) in
     record {
       slots = (omega arith, begun.own.0, refl);
       end = refl;
-      covered = ap (λ (l : List Note). lane.from + noted_len l) list ∙ zero;
+      covered = ap (λ l. lane.from + noted_len l) list ∙ zero;
       are = subst (All (IsNote Reaches matches bytes)) (sym list) (All-nil (IsNote Reaches matches bytes));
       within = subst (All InLane) (sym list) (All-nil InLane);
-      taken = λ s. subst (λ (l : List Note). TakesBy NoByte matches anew bytes lane.from lane.first l lane.from lane.first) (sym list) (refl, refl);
-      full = λ f. ap (λ (l : Lane). l.from) begun.is;
+      taken = λ s. subst (λ l. TakesBy NoByte matches anew bytes lane.from lane.first l lane.from lane.first) (sym list)
+          (refl, refl);
+      full = λ f. ap (λ l. l.from) begun.is;
     }
 
-module _ (Reaches : List ℕ → StateID → Type 0) (matches : StateID → List ℕ) (anew : Option StateID) (sure : Type 0) (bytes : List ℕ) (last : StateID)
-    (quiet : (sid : StateID) → last < sid → matches sid ≡ []) (some : sure → (sid : StateID) → IsReached Reaches sid → sid ≤ last → IsTrue (is_matching matches sid)) where
+module _ (Reaches : List ℕ → StateID → Type 0) (matches : StateID → List ℕ) (anew : Option StateID) (sure : Type 0)
+    (bytes : List ℕ) (last : StateID)
+    (quiet : (sid : StateID) → last < sid → matches sid ≡ [])
+    (some : sure → (sid : StateID) → IsReached Reaches sid → sid ≤ last → IsTrue (is_matching matches sid)) where
   -- ---- a turn of one lane
 
   -- a lane that has gone on to a match may store a note
-  gone-may : (before gone : Lane) (size : ℕ) → HasWalked Reaches (is_up_to last) bytes before → HasGone Reaches (is_up_to last) bytes before gone → before.slot < before.slots → before.slots ≤ size → gone.sid ≤ last → MayStore Reaches matches anew sure bytes (unwrap_or anew gone.sid) size gone
+  gone-may : (before gone : Lane) (size : ℕ) → HasWalked Reaches (is_up_to last) bytes before
+      → HasGone Reaches (is_up_to last) bytes before gone → before.slot < before.slots → before.slots ≤ size
+      → gone.sid ≤ last → MayStore Reaches matches anew sure bytes (unwrap_or anew gone.sid) size gone
   gone-may before gone size walked went room own stops =
       let ordered : before.from ≤ before.at = walked.to.ordered in
       let on : before.at < gone.at = went.on in
-      let from : gone.from ≡ before.from = ap (λ (l : Lane). l.from) went.same in
-      let slot : gone.slot ≡ before.slot = ap (λ (l : Lane). l.slot) went.same in
-      let slots : gone.slots ≡ before.slots = ap (λ (l : Lane). l.slots) went.same in
+      let from : gone.from ≡ before.from = ap (λ l. l.from) went.same in
+      let slot : gone.slot ≡ before.slot = ap (λ l. l.slot) went.same in
+      let slots : gone.slots ≡ before.slots = ap (λ l. l.slots) went.same in
       record {
         room = omega (arith, room, slot, slots);
         own = omega (arith, own, slots);
@@ -81,7 +94,9 @@ module _ (Reaches : List ℕ → StateID → Type 0) (matches : StateID → List
       }
 
   -- a lane that has gone on has noted what it had
-  gone-noted : (notes : List Note) (begun before gone : Lane) → HasGone Reaches (is_up_to last) bytes before gone → before.slot < before.slots → HasNoted Reaches matches anew sure bytes notes begun before → HasNoted Reaches matches anew sure bytes notes begun gone
+  gone-noted : (notes : List Note) (begun before gone : Lane) → HasGone Reaches (is_up_to last) bytes before gone
+      → before.slot < before.slots → HasNoted Reaches matches anew sure bytes notes begun before
+      → HasNoted Reaches matches anew sure bytes notes begun gone
   gone-noted notes begun before gone went room noted =
       subst (HasNoted Reaches matches anew sure bytes notes begun) (sym went.same)
       (record {
@@ -95,14 +110,19 @@ module _ (Reaches : List ℕ → StateID → Type 0) (matches : StateID → List
       })
 
   -- after it has settled, it walks on
-  settled-walked : (old new : List Note) (before gone after : Lane) → IfSome anew (Reaches []) → HasWalked Reaches (is_up_to last) bytes before → HasGone Reaches (is_up_to last) bytes before gone → StoresIf (gone.sid ≤ last) (unwrap_or anew gone.sid) old new gone after → HasWalked Reaches (is_up_to last) bytes after
+  settled-walked : (old new : List Note) (before gone after : Lane) → IfSome anew (Reaches [])
+      → HasWalked Reaches (is_up_to last) bytes before → HasGone Reaches (is_up_to last) bytes before gone
+      → StoresIf (gone.sid ≤ last) (unwrap_or anew gone.sid) old new gone after
+      → HasWalked Reaches (is_up_to last) bytes after
   settled-walked old new before gone after begins walked went s =
-      let end : gone.end ≡ before.end = ap (λ (l : Lane). l.end) went.same in
+      let end : gone.end ≡ before.end = ap (λ l. l.end) went.same in
       let inside : before.end ≤ length bytes = walked.inside.1 in
       let within : gone.end ≤ length bytes = omega (arith, end, inside) in
       ⊎_elim
       (λ (p : gone.sid ≤ last). subst (HasWalked Reaches (is_up_to last) bytes) (sym (s.stores p).lane)
-      (walked-none Reaches (is_up_to last) bytes (record gone { from = gone.at; first = unwrap_or anew gone.sid; sid = unwrap_or anew gone.sid; slot = gone.slot + 1 })
+      (walked-none Reaches (is_up_to last) bytes
+      (record gone
+      { from = gone.at; first = unwrap_or anew gone.sid; sid = unwrap_or anew gone.sid; slot = gone.slot + 1 })
       refl refl went.within within (next-reached Reaches anew gone.sid begins went.to.reached)))
       (λ (none : ¬ (gone.sid ≤ last)). subst (HasWalked Reaches (is_up_to last) bytes) (sym (s.keeps none).1)
       (walked-on Reaches bytes gone last went.to went.within within
@@ -112,25 +132,29 @@ module _ (Reaches : List ℕ → StateID → Type 0) (matches : StateID → List
   -- ---- the last note of one lane
 
   -- a lane that has read something since its last note, and has a note left, may store one
-  last-may : (lane : Lane) (size : ℕ) → HasWalked Reaches (is_up_to last) bytes lane → lane.slots ≤ size → HasMore lane → MayStore Reaches matches anew sure bytes lane.sid size lane
+  last-may : (lane : Lane) (size : ℕ) → HasWalked Reaches (is_up_to last) bytes lane → lane.slots ≤ size → HasMore lane
+      → MayStore Reaches matches anew sure bytes lane.sid size lane
   last-may lane size walked own p = record {
     room = p.1;
     own = own;
     some = p.0;
     is = walked-note Reaches matches bytes lane last quiet walked.to p.0;
-    on = λ s. sym (onward-quiet matches anew lane.sid (quiet lane.sid (up_to-past last lane.sid (walked.quiet p.0))));
+    on = λ s. sym (onward-quiet matches anew (quiet lane.sid (up_to-past last lane.sid (walked.quiet p.0))));
   }
 
   -- after it nothing is left to be noted
-  pub last-all : (old new : List Note) (lane after : Lane) → HasWalked Reaches (is_up_to last) bytes lane → (lane.slots ≤ lane.slot → lane.from ≡ lane.at) → StoresIf (HasMore lane) lane.sid old new lane after → (after.from ≡ after.at) × (after.at ≤ after.end)
+  pub last-all : (old new : List Note) (lane after : Lane) → HasWalked Reaches (is_up_to last) bytes lane
+      → (lane.slots ≤ lane.slot → lane.from ≡ lane.at) → StoresIf (HasMore lane) lane.sid old new lane after
+      → (after.from ≡ after.at) × (after.at ≤ after.end)
   last-all old new lane after walked full s =
       let ordered : lane.from ≤ lane.at = walked.to.ordered in
       let within : lane.at ≤ lane.end = walked.inside.0 in
       ⊎_elim
-      (λ (p : HasMore lane). subst (λ (l : Lane). (l.from ≡ l.at) × (l.at ≤ l.end)) (sym (s.stores p).lane) (refl, within))
-      (λ (none : ¬ HasMore lane). subst (λ (l : Lane). (l.from ≡ l.at) × (l.at ≤ l.end)) (sym (s.keeps none).1) (
+      (λ (p : HasMore lane). subst (λ l. (l.from ≡ l.at) × (l.at ≤ l.end)) (sym (s.stores p).lane) (refl, within))
+      (λ (none : ¬ HasMore lane). subst (λ l. (l.from ≡ l.at) × (l.at ≤ l.end)) (sym (s.keeps none).1) (
         ⊎_elim
-            (λ (some : lane.from < lane.at). ⊎_elim (λ (room : lane.slot < lane.slots). absurd (none (some, room))) full (cases_lt lane.slot lane.slots))
+            (λ (some : lane.from < lane.at).
+            ⊎_elim (λ (room : lane.slot < lane.slots). absurd (none (some, room))) full (cases_lt lane.slot lane.slots))
             (λ (le : lane.at ≤ lane.from). omega (arith, le, ordered))
             (cases_lt lane.from lane.at),
         within,
@@ -140,7 +164,10 @@ module _ (Reaches : List ℕ → StateID → Type 0) (matches : StateID → List
   -- ---- all four
 
   -- each lane's part of the notes stays where it was
-  pub own-places : (begun lanes : Lanes) (old new : List Note) → EachLane (λ lane. LaneBegins lane.at lane.sid (length old) lane) begun → EachPair (HasNoted Reaches matches anew sure bytes new) begun lanes → length new ≡ length old → EachLane (λ lane. lane.slots ≤ length new) lanes
+  pub own-places : (begun lanes : Lanes) (old new : List Note)
+      → EachLane (λ lane. LaneBegins lane.at lane.sid (length old) lane) begun
+      → EachPair (HasNoted Reaches matches anew sure bytes new) begun lanes → length new ≡ length old
+      → EachLane (λ lane. lane.slots ≤ length new) lanes
   own-places begun lanes old new begins noted same = record {
     a = omega (arith, begins.a.own.1, noted.a.slots.2, same);
     b = omega (arith, begins.b.own.1, noted.b.slots.2, same);
@@ -148,14 +175,20 @@ module _ (Reaches : List ℕ → StateID → Type 0) (matches : StateID → List
     d = omega (arith, begins.d.own.1, noted.d.slots.2, same);
   }
 
-  module _ (begun lanes after : Lanes) (n0 n1 n2 n3 n4 : List Note) (apart : HaveOwnNotes begun) (own : EachLane (λ lane. lane.slots ≤ length n0) lanes) (walked : HaveWalked Reaches (is_up_to last) bytes lanes) (noted : EachPair (HasNoted Reaches matches anew sure bytes n0) begun lanes) where
+  module _ (begun lanes after : Lanes) (n0 n1 n2 n3 n4 : List Note) (apart : HaveOwnNotes begun)
+      (own : EachLane (λ lane. lane.slots ≤ length n0) lanes) (walked : HaveWalked Reaches (is_up_to last) bytes lanes)
+      (noted : EachPair (HasNoted Reaches matches anew sure bytes n0) begun lanes) where
     -- the lanes have gone on, and settle
-    pub turn-noted : (gone : Lanes) (len : ℕ) → 0 < len → HaveRoomFor len lanes → HaveGone Reaches (is_up_to last) bytes lanes gone
-        → StoresIf (gone.a.sid ≤ last) (unwrap_or anew gone.a.sid) n0 n1 gone.a after.a → StoresIf (gone.b.sid ≤ last) (unwrap_or anew gone.b.sid) n1 n2 gone.b after.b
-        → StoresIf (gone.c.sid ≤ last) (unwrap_or anew gone.c.sid) n2 n3 gone.c after.c → StoresIf (gone.d.sid ≤ last) (unwrap_or anew gone.d.sid) n3 n4 gone.d after.d
+    pub turn-noted : (gone : Lanes) (len : ℕ) → 0 < len → HaveRoomFor len lanes
+        → HaveGone Reaches (is_up_to last) bytes lanes gone
+        → StoresIf (gone.a.sid ≤ last) (unwrap_or anew gone.a.sid) n0 n1 gone.a after.a
+        → StoresIf (gone.b.sid ≤ last) (unwrap_or anew gone.b.sid) n1 n2 gone.b after.b
+        → StoresIf (gone.c.sid ≤ last) (unwrap_or anew gone.c.sid) n2 n3 gone.c after.c
+        → StoresIf (gone.d.sid ≤ last) (unwrap_or anew gone.d.sid) n3 n4 gone.d after.d
         → EachPair (HasNoted Reaches matches anew sure bytes n4) begun after
     turn-noted gone len left_some left went sa sb sc sd =
-        all-noted Reaches matches anew sure bytes (λ lane. lane.sid ≤ last) (λ lane. unwrap_or anew lane.sid) n0 n1 n2 n3 n4 begun gone after apart
+        all-noted Reaches matches anew sure bytes (λ lane. lane.sid ≤ last) (λ lane. unwrap_or anew lane.sid) n0 n1 n2
+        n3 n4 begun gone after apart
         (record {
           a = gone-may lanes.a gone.a (length n0) walked.a went.a (left.a left_some).0 own.a;
           b = gone-may lanes.b gone.b (length n0) walked.b went.b (left.b left_some).0 own.b;
@@ -172,8 +205,10 @@ module _ (Reaches : List ℕ → StateID → Type 0) (matches : StateID → List
 
     -- they walk on
     pub turn-walked : (gone : Lanes) → IfSome anew (Reaches []) → HaveGone Reaches (is_up_to last) bytes lanes gone
-        → StoresIf (gone.a.sid ≤ last) (unwrap_or anew gone.a.sid) n0 n1 gone.a after.a → StoresIf (gone.b.sid ≤ last) (unwrap_or anew gone.b.sid) n1 n2 gone.b after.b
-        → StoresIf (gone.c.sid ≤ last) (unwrap_or anew gone.c.sid) n2 n3 gone.c after.c → StoresIf (gone.d.sid ≤ last) (unwrap_or anew gone.d.sid) n3 n4 gone.d after.d
+        → StoresIf (gone.a.sid ≤ last) (unwrap_or anew gone.a.sid) n0 n1 gone.a after.a
+        → StoresIf (gone.b.sid ≤ last) (unwrap_or anew gone.b.sid) n1 n2 gone.b after.b
+        → StoresIf (gone.c.sid ≤ last) (unwrap_or anew gone.c.sid) n2 n3 gone.c after.c
+        → StoresIf (gone.d.sid ≤ last) (unwrap_or anew gone.d.sid) n3 n4 gone.d after.d
         → HaveWalked Reaches (is_up_to last) bytes after
     turn-walked gone begins went sa sb sc sd = record {
       a = settled-walked n0 n1 lanes.a gone.a after.a begins walked.a went.a sa;

@@ -16,64 +16,80 @@ use Rattle.ac_automaton.specs.Automaton.{Built, walk_in}
 use Rattle.ac_automaton.specs.Replace.{LieInOrder, cuts_none, is_boundary, matches_in}
 
 -- the picks of a walk lie in order
-pub walk-lies : (kind : MatchKind) (s : Search) (at : ℕ) (last : Option ℕ) (os : List Occurrence) → IsWalk kind s at last os → LieInOrder (length s.patterns) s.end at os
+pub walk-lies : (kind : MatchKind) (s : Search) (at : ℕ) (last : Option ℕ) (os : List Occurrence)
+    → IsWalk kind s at last os → LieInOrder (length s.patterns) s.end at os
 walk-lies kind s at last [] walk = tt
 walk-lies kind s at last (o ∷ os) walk =
-    let from = pick-occurs kind s at last o walk.0 in
+    let from = pick-occurs walk.0 in
     let number = slice_get_within s.patterns o.pattern from.2.same.0 from.2.same.1 in
-    let within = pick-within kind s at last o walk.0 in
+    let within = pick-within walk.0 in
     (number, within.0, within.1, within.2, walk-lies kind s o.end (Some o.end) os walk.1)
 
 -- the matches of a whole haystack lie in order
-pub matches-lie : (b : Built) (haystack : List ℕ) → LieInOrder (length b.dictionary.patterns) (length haystack) 0 (matches_in b haystack)
+pub matches-lie : (b : Built) (haystack : List ℕ)
+    → LieInOrder (length b.dictionary.patterns) (length haystack) 0 (matches_in b haystack)
 matches-lie b haystack =
-    let s : Search = record { patterns = b.dictionary.patterns; pairing = b.dictionary.pairing; haystack = haystack; start = 0; end = length haystack; anchored = false } in
+    let s : Search =
+    record {
+      patterns = b.dictionary.patterns;
+      pairing = b.dictionary.pairing;
+      haystack = haystack;
+      start = 0;
+      end = length haystack;
+      anchored = false;
+    } in
     walk-lies b.dictionary.kind s 0 None _ (walk_of-walk b.dictionary.kind s (omega arith))
 
 -- the first of occurrences that lie in order
-pub lies-first : (patterns len at : ℕ) (os rest : List Occurrence) (o : Occurrence) → os ≡ o ∷ rest → LieInOrder patterns len at os → LieInOrder patterns len at (o ∷ rest)
-lies-first patterns len at os rest o is lies = subst (LieInOrder patterns len at) is lies
+pub lies-first : {patterns len at : ℕ} {os rest : List Occurrence} {o : Occurrence} → os ≡ o ∷ rest
+    → LieInOrder patterns len at os → LieInOrder patterns len at (o ∷ rest)
+lies-first {patterns} {len} {at} is lies = subst (LieInOrder patterns len at) is lies
 
 -- one more match is replaced
-pub replaced-step : (at : ℕ) (o : Occurrence) (os rest : List Occurrence) (x : List ℕ) (replacements : List (List ℕ)) (front replacement text : List ℕ) → os ≡ o ∷ rest
+pub replaced-step : (at : ℕ) {o : Occurrence} {os rest : List Occurrence} (x : List ℕ) (replacements : List (List ℕ))
+    (front : List ℕ) {replacement text : List ℕ} → os ≡ o ∷ rest
     → replacement ≡ get_or replacements o.pattern []
     → front ++ replaced_from at x replacements os ≡ text
     → ((front ++ slice_range x at o.start) ++ replacement) ++ replaced_from o.end x replacements rest ≡ text
-replaced-step at o os rest x replacements front replacement text is is_replacement e =
-    ap (λ (t : List ℕ). ((front ++ slice_range x at o.start) ++ t) ++ replaced_from o.end x replacements rest) is_replacement
+replaced-step at {o} {rest} x replacements front is is_replacement e =
+    ap (λ t. ((front ++ slice_range x at o.start) ++ t) ++ replaced_from o.end x replacements rest) is_replacement
     ∙ replaced-more front at x replacements o rest
-    ∙ ap (λ (qs : List Occurrence). front ++ replaced_from at x replacements qs) (sym is)
+    ∙ ap (λ qs. front ++ replaced_from at x replacements qs) (sym is)
     ∙ e
 
 -- no match is left
-pub replaced-end : (at : ℕ) (os : List Occurrence) (x : List ℕ) (replacements : List (List ℕ)) (front text : List ℕ) → os ≡ []
+pub replaced-end : (at : ℕ) {os : List Occurrence} (x : List ℕ) (replacements : List (List ℕ)) (front : List ℕ)
+    {text : List ℕ} → os ≡ []
     → front ++ replaced_from at x replacements os ≡ text
     → front ++ drop at x ≡ text
-replaced-end at os x replacements front text is e = ap (λ (qs : List Occurrence). front ++ replaced_from at x replacements qs) (sym is) ∙ e
+replaced-end at x replacements front is e = ap (λ qs. front ++ replaced_from at x replacements qs) (sym is) ∙ e
 
 -- occurrences that lie in order from a place on lie in order from an earlier one
-pub lies-earlier : (patterns len at from : ℕ) (os : List Occurrence) → at ≤ from → LieInOrder patterns len from os → LieInOrder patterns len at os
-lies-earlier patterns len at from [] le lies = tt
-lies-earlier patterns len at from (o ∷ os) le lies = (lies.0, omega arith, lies.2, lies.3, lies.4)
+pub lies-earlier : (patterns len : ℕ) {at from : ℕ} (os : List Occurrence) → at ≤ from → LieInOrder patterns len from os
+    → LieInOrder patterns len at os
+lies-earlier patterns len [] le lies = tt
+lies-earlier patterns len (o ∷ os) le lies = (lies.0, omega arith, lies.2, lies.3, lies.4)
 
 -- the occurrences that a test keeps lie in order too
-pub lies-filter : (p : Occurrence → Bool) (patterns len at : ℕ) (os : List Occurrence) → LieInOrder patterns len at os → LieInOrder patterns len at (filter p os)
+pub lies-filter : (p : Occurrence → Bool) (patterns len at : ℕ) (os : List Occurrence) → LieInOrder patterns len at os
+    → LieInOrder patterns len at (filter p os)
 lies-filter p patterns len at [] lies = tt
 lies-filter p patterns len at (o ∷ os) lies =
     let rest = lies-filter p patterns len o.end os lies.4 in
     elim (p o) as (λ b. LieInOrder patterns len at (cond b (o ∷ filter p os) (filter p os))) [
       | true ↦ (lies.0, lies.1, lies.2, lies.3, rest)
-      | false ↦ lies-earlier patterns len at o.end (filter p os) (omega arith) rest
+      | false ↦ lies-earlier patterns len (filter p os) (omega arith) rest
     ]
 
 -- the matches of an input that is a whole haystack
-pub same-input : (b : Built) (x y : List ℕ) (asked : Asked) (os : List Occurrence) → os ≡ walk_in b asked → asked ≡ whole_of y → y ≡ x → os ≡ matches_in b x
-same-input b x y asked os is all same = is ∙ ap (walk_in b) all ∙ ap (matches_in b) same
+pub same-input : (b : Built) {x y : List ℕ} {asked : Asked} {os : List Occurrence} → os ≡ walk_in b asked
+    → asked ≡ whole_of y → y ≡ x → os ≡ matches_in b x
+same-input b is all same = is ∙ ap (walk_in b) all ∙ ap (matches_in b) same
 
 -- the test of a boundary is right: a character begins there, or the text ends
-boundary-from_test : (text : List ℕ) (at : ℕ) → IsTrue (is_boundary text at) → IsCharBoundary text at
-boundary-from_test text at h = search rules
+boundary-from_test : (text : List ℕ) {at : ℕ} → IsTrue (is_boundary text at) → IsCharBoundary text at
+boundary-from_test text h = search rules
 
 -- a match that cuts no character ends between characters
 pub boundary-end : (text : List ℕ) (o : Occurrence) → IsTrue (cuts_none text o) → IsCharBoundary text o.end
-boundary-end text o h = boundary-from_test text o.end (and_parts (is_boundary text o.start) (is_boundary text o.end) h).1
+boundary-end text o h = boundary-from_test text (and_parts (is_boundary text o.start) (is_boundary text o.end) h).1

@@ -5,10 +5,10 @@ use Rattle.ac_input.specs.declared.search.Anchored.{Anchored}
 use Rattle.ac_input.specs.Number.{StateID}
 use Rattle.ac_input.specs.declared.history.Count.{Count}
 use Rattle.ac_input.specs.declared.steps.Steps.{Steps}
-use Rattle.ac_input.specs.Occurrence.{Search, Occurrence, starting_at}
+use Rattle.ac_input.specs.Occurrence.{Search, Occurrence}
 use Rattle.ac_input.specs.Computed.{listing_of}
-use Rattle.ac_input.specs.Input.{Asked, is_anchored}
-use Rattle.ac_input.specs.Dictionary.{Dictionary, IsLive}
+use Rattle.ac_input.specs.Input.{Asked}
+use Rattle.ac_input.specs.Dictionary.{Dictionary}
 use Rattle.ac_input.specs.Steps.{AreNone, Added}
 use Rattle.ac_input.specs.Work.{come_at_least, lookups_per_byte}
 use Rattle.ac_automaton.specs.declared.overlapping.OverlappingState.{OverlappingState}
@@ -26,7 +26,7 @@ use Rattle.ac_automaton.proofs.overlapping.OverlappingReadLemmas.{paid-to}
 
 -- at the start nothing was read
 pub read_to-start : (s : Search) → read_to s s.start ≡ []
-read_to-start s = let none : s.start - s.start ≡ 0 = omega arith in ap (λ (k : ℕ). take k (drop s.start s.haystack)) none
+read_to-start s = let none : s.start - s.start ≡ 0 = omega arith in ap (λ k. take k (drop s.start s.haystack)) none
 
 -- the element at index n is the first after n elements
 slice_get-drop : {X : Type 0} (xs : List X) (n : ℕ) → slice_get (drop n xs) 0 ≡ slice_get xs n
@@ -55,57 +55,85 @@ slice_get-first [] x e = cc
 slice_get-first (y ∷ ys) x e = cc
 
 -- what is left after a call that showed the first of it
-left-after : (L : List Occurrence) (n : ℕ) (found : Option Occurrence) → found ≡ slice_get (drop n L) 0 → drop 1 (drop n L) ≡ drop (if is_some found then n + 1 else n) L
+left-after : (L : List Occurrence) (n : ℕ) (found : Option Occurrence) → found ≡ slice_get (drop n L) 0
+    → drop 1 (drop n L) ≡ drop (if is_some found then n + 1 else n) L
 left-after L n None e = slice_get-none (drop n L) e
 left-after L n (Some o) e = drop-one_more L n
 
 -- where a search begins, or where earlier calls left it
-pub came-stands : (b : Built) (Reaches : Anchored → List ℕ → StateID → Type 0) (matches : StateID → List ℕ) (asked : Asked) (state : OverlappingState) (first : Position)
-    → IsLeft (Reaches asked.anchored) matches b.dictionary (searched b asked) first (listing_of (searched b asked)) → IsPlacePaid b.dictionary b.deterministic (searched b asked) first 0
-    → CameFrom b Reaches matches asked state → StandsAt (Reaches asked.anchored) matches b.dictionary b.deterministic (searched b asked) (unwrap_or state.place first) state.shown.value state.sums
+pub came-stands : (b : Built) (Reaches : Anchored → List ℕ → StateID → Type 0) (matches : StateID → List ℕ)
+    (asked : Asked) (state : OverlappingState) (first : Position)
+    → IsLeft (Reaches asked.anchored) matches b.dictionary (searched b asked) first (listing_of (searched b asked))
+    → IsPlacePaid b.dictionary b.deterministic (searched b asked) first 0
+    → CameFrom b Reaches matches asked state
+    → StandsAt (Reaches asked.anchored) matches b.dictionary b.deterministic (searched b asked)
+    (unwrap_or state.place first) state.shown.value state.sums
 came-stands b Reaches matches asked state first left paid came =
     let m = b.dictionary in
     let deterministic = b.deterministic in
     let s = searched b asked in
     ⊎_elim
     (λ (fresh : IsFreshState state).
-    let there : StandsAt (Reaches asked.anchored) matches m deterministic s first state.shown.value state.sums = record {
-      left = subst (λ (n : ℕ). IsLeft (Reaches asked.anchored) matches m s first (drop n (listing_of s))) (sym fresh.shown) left;
-      paid = subst (λ (n : ℕ). IsPlacePaid m deterministic s first n) (sym fresh.sums.looked) paid;
+    let there : StandsAt (Reaches asked.anchored) matches m deterministic s first state.shown.value state.sums =
+    record {
+      left = subst (λ n. IsLeft (Reaches asked.anchored) matches m s first (drop n (listing_of s))) (sym fresh.shown)
+          left;
+      paid = subst (λ n. IsPlacePaid m deterministic s first n) (sym fresh.sums.looked) paid;
       scanned = let none = fresh.sums.scanned in omega arith;
       moved = fresh.sums.moved;
     } in
-    subst (λ (p : Option Position). StandsAt (Reaches asked.anchored) matches m deterministic s (unwrap_or p first) state.shown.value state.sums) (sym fresh.place) there)
-    (λ (stands : (place : Position) × (state.place ≡ Some place) × StandsAt (Reaches asked.anchored) matches m deterministic s place state.shown.value state.sums × IsCountedTo b asked (stands_at_least (searched b asked) place) state.sums).
-    subst (λ (p : Option Position). StandsAt (Reaches asked.anchored) matches m deterministic s (unwrap_or p first) state.shown.value state.sums) (sym stands.1) stands.2)
+    subst (λ p. StandsAt (Reaches asked.anchored) matches m deterministic s (unwrap_or p first) state.shown.value
+    state.sums) (sym fresh.place) there)
+    (λ (stands : (place : Position) × (state.place ≡ Some place)
+    × StandsAt (Reaches asked.anchored) matches m deterministic s place state.shown.value state.sums
+    × IsCountedTo b asked (stands_at_least (searched b asked) place) state.sums).
+    subst (λ p. StandsAt (Reaches asked.anchored) matches m deterministic s (unwrap_or p first) state.shown.value
+    state.sums) (sym stands.1) stands.2)
     came
 
 -- up to the place where a search begins, nothing has to be counted
-pub first-counted : (b : Built) (asked : Asked) (first : Position) (sums : Steps) → stands_at_least (searched b asked) first ≤ asked.span.start → IsCountedTo b asked (stands_at_least (searched b asked) first) sums
+pub first-counted : (b : Built) (asked : Asked) (first : Position) (sums : Steps)
+    → stands_at_least (searched b asked) first ≤ asked.span.start
+    → IsCountedTo b asked (stands_at_least (searched b asked) first) sums
 first-counted b asked first sums le = λ counts. omega arith
 
 -- each byte is counted up to where a search begins, or where earlier calls left it
-pub came-counted : (b : Built) (Reaches : Anchored → List ℕ → StateID → Type 0) (matches : StateID → List ℕ) (asked : Asked) (state : OverlappingState) (first : Position)
-    → stands_at_least (searched b asked) first ≤ asked.span.start → CameFrom b Reaches matches asked state → IsCountedTo b asked (stands_at_least (searched b asked) (unwrap_or state.place first)) state.sums
+pub came-counted : (b : Built) (Reaches : Anchored → List ℕ → StateID → Type 0) (matches : StateID → List ℕ)
+    (asked : Asked) (state : OverlappingState) (first : Position)
+    → stands_at_least (searched b asked) first ≤ asked.span.start → CameFrom b Reaches matches asked state
+    → IsCountedTo b asked (stands_at_least (searched b asked) (unwrap_or state.place first)) state.sums
 came-counted b Reaches matches asked state first le came =
     ⊎_elim
-    (λ (fresh : IsFreshState state). subst (λ (p : Option Position). IsCountedTo b asked (stands_at_least (searched b asked) (unwrap_or p first)) state.sums) (sym fresh.place) (first-counted b asked first state.sums le))
-    (λ (stands : (place : Position) × (state.place ≡ Some place) × StandsAt (Reaches asked.anchored) matches b.dictionary b.deterministic (searched b asked) place state.shown.value state.sums × IsCountedTo b asked (stands_at_least (searched b asked) place) state.sums).
-    subst (λ (p : Option Position). IsCountedTo b asked (stands_at_least (searched b asked) (unwrap_or p first)) state.sums) (sym stands.1) stands.3)
+    (λ (fresh : IsFreshState state).
+    subst (λ p. IsCountedTo b asked (stands_at_least (searched b asked) (unwrap_or p first)) state.sums)
+    (sym fresh.place) (first-counted b asked first state.sums le))
+    (λ (stands : (place : Position) × (state.place ≡ Some place)
+    × StandsAt (Reaches asked.anchored) matches b.dictionary b.deterministic (searched b asked) place state.shown.value
+    state.sums × IsCountedTo b asked (stands_at_least (searched b asked) place) state.sums).
+    subst (λ p. IsCountedTo b asked (stands_at_least (searched b asked) (unwrap_or p first)) state.sums) (sym stands.1)
+    stands.3)
     came
 
 -- each byte is counted up to where a search stands after a call
-pub counted-after : (b : Built) (asked : Asked) (place : Position) (r : Shown) (sums start done after : Steps) → IsCountedTo b asked (stands_at_least (searched b asked) place) sums → CountsOn b asked place r start done → AreNone start → Added done sums after → IsCountedTo b asked (stands_at_least (searched b asked) r.place) after
+pub counted-after : (b : Built) (asked : Asked) (place : Position) (r : Shown) (sums start done after : Steps)
+    → IsCountedTo b asked (stands_at_least (searched b asked) place) sums → CountsOn b asked place r start done
+    → AreNone start → Added done sums after → IsCountedTo b asked (stands_at_least (searched b asked) r.place) after
 counted-after b asked place r sums start done after had counts none added =
-    counted-added (prefilter_for b asked.anchored) (stands_at_least (searched b asked) place - asked.span.start) _ _ start done sums after (omega arith) none added had counts
+    counted-added (prefilter_for b asked.anchored) (stands_at_least (searched b asked) place - asked.span.start) _ _
+    start done sums after (omega arith) none added had counts
 
 -- each byte is counted up to the end of what a call showed
-pub shown-counted : (b : Built) (asked : Asked) (r : Shown) (sums : Steps) → IsCountedTo b asked (stands_at_least (searched b asked) r.place) sums → come_at_least (searched b asked) r.found ≡ stands_at_least (searched b asked) r.place → IsCountedTo b asked (come_at_least (searched b asked) r.found) sums
-shown-counted b asked r sums had come = subst (λ (at : ℕ). IsCountedTo b asked at sums) (sym come) had
+pub shown-counted : (b : Built) (asked : Asked) (r : Shown) (sums : Steps)
+    → IsCountedTo b asked (stands_at_least (searched b asked) r.place) sums
+    → come_at_least (searched b asked) r.found ≡ stands_at_least (searched b asked) r.place
+    → IsCountedTo b asked (come_at_least (searched b asked) r.found) sums
+shown-counted b asked r sums had come = subst (λ at. IsCountedTo b asked at sums) (sym come) had
 
 -- where a search stands after a call
-pub stands-after : (Reaches : List ℕ → StateID → Type 0) (matches : StateID → List ℕ) (m : Dictionary) (deterministic : Bool) (s : Search) (place : Position) (n : ℕ) (r : Shown) (sums start done after : Steps)
-    → StandsAt Reaches matches m deterministic s place n sums → ShowsFirst Reaches matches m s (drop n (listing_of s)) r → KeepsBudget m deterministic s place r.place start done → AreNone start → Added done sums after
+pub stands-after : (Reaches : List ℕ → StateID → Type 0) (matches : StateID → List ℕ) (m : Dictionary)
+    (deterministic : Bool) (s : Search) (place : Position) (n : ℕ) (r : Shown) (sums start done after : Steps)
+    → StandsAt Reaches matches m deterministic s place n sums → ShowsFirst Reaches matches m s (drop n (listing_of s)) r
+    → KeepsBudget m deterministic s place r.place start done → AreNone start → Added done sums after
     → StandsAt Reaches matches m deterministic s r.place (if is_some r.found then n + 1 else n) after
 stands-after Reaches matches m deterministic s place n r sums start done after stands shows pays none added =
     let looked = added.looked in
@@ -120,58 +148,81 @@ stands-after Reaches matches m deterministic s place n r sums start done after s
     }
 
 -- what a call showed is the next of the listing
-pub found-after : (Reaches : List ℕ → StateID → Type 0) (matches : StateID → List ℕ) (m : Dictionary) (s : Search) (n : ℕ) (r : Shown) → ShowsFirst Reaches matches m s (drop n (listing_of s)) r → r.found ≡ slice_get (listing_of s) n
+pub found-after : (Reaches : List ℕ → StateID → Type 0) (matches : StateID → List ℕ) (m : Dictionary) (s : Search)
+    (n : ℕ) (r : Shown) → ShowsFirst Reaches matches m s (drop n (listing_of s)) r
+    → r.found ≡ slice_get (listing_of s) n
 found-after Reaches matches m s n r shows = shows.0 ∙ slice_get-drop (listing_of s) n
 
 -- the looks are within what one walk over the span may cost
-pub paid-within : (Reaches : List ℕ → StateID → Type 0) (matches : StateID → List ℕ) (m : Dictionary) (deterministic : Bool) (s : Search) (place : Position) (left : List Occurrence) (looks : ℕ)
-    → ((text : List ℕ) (state : StateID) → Reaches text state → (live : Option ℕ) × IsLive m s.anchored text live)
-    → IsLeft Reaches matches m s place left → IsPlacePaid m deterministic s place looks → looks ≤ lookups_per_byte deterministic * (s.end - s.start)
-paid-within Reaches matches m deterministic s (At sid from at index) left looks lives is paid =
-    paid-to m deterministic s from at s.end looks (omega (arith, is.0.behind, is.0.ordered)) is.0.within (lives (read_to (starting_at s from) at) sid is.0.reads) paid
-paid-within Reaches matches m deterministic s Over left looks lives is paid = paid
+pub paid-within : (Reaches : List ℕ → StateID → Type 0) (matches : StateID → List ℕ) (m : Dictionary)
+    (deterministic : Bool) (s : Search) (place : Position) (left : List Occurrence) (looks : ℕ)
+    → IsLeft Reaches matches m s place left → IsPlacePaid m deterministic s place looks
+    → looks ≤ lookups_per_byte deterministic * (s.end - s.start)
+paid-within Reaches matches m deterministic s (At sid from at index) left looks is paid =
+    paid-to m deterministic s from at s.end looks (omega (arith, is.0.behind, is.0.ordered)) is.0.within paid
+paid-within Reaches matches m deterministic s Over left looks is paid = paid
 
 -- the scans are within what one walk over the span may cost
-scanned-within : (Reaches : List ℕ → StateID → Type 0) (matches : StateID → List ℕ) (m : Dictionary) (s : Search) (place : Position) (left : List Occurrence) (scans : ℕ) → IsLeft Reaches matches m s place left → (scans ≤ 256 * ((come_to s place) - s.start)) → (scans ≤ 256 * (s.end - s.start))
+scanned-within : (Reaches : List ℕ → StateID → Type 0) (matches : StateID → List ℕ) (m : Dictionary) (s : Search)
+    (place : Position) (left : List Occurrence) (scans : ℕ) → IsLeft Reaches matches m s place left
+    → (scans ≤ 256 * ((come_to s place) - s.start)) → (scans ≤ 256 * (s.end - s.start))
 scanned-within Reaches matches m s (At sid from at index) left scans is scanned = omega (arith, is.0.within, scanned)
 scanned-within Reaches matches m s Over left scans is scanned = scanned
 
 -- all that was done is within what one walk may cost
-pub stands-work : (Reaches : List ℕ → StateID → Type 0) (matches : StateID → List ℕ) (m : Dictionary) (deterministic : Bool) (s : Search) (place : Position) (n : ℕ) (sums : Steps)
-    → ((text : List ℕ) (state : StateID) → Reaches text state → (live : Option ℕ) × IsLive m s.anchored text live)
+pub stands-work : (Reaches : List ℕ → StateID → Type 0) (matches : StateID → List ℕ) (m : Dictionary)
+    (deterministic : Bool) (s : Search) (place : Position) (n : ℕ) (sums : Steps)
     → StandsAt Reaches matches m deterministic s place n sums → IsOverlappingWork deterministic s sums
-stands-work Reaches matches m deterministic s place n sums lives stands =
+stands-work Reaches matches m deterministic s place n sums stands =
     record {
-      looked = paid-within Reaches matches m deterministic s place (drop n (listing_of s)) sums.looked.value lives stands.left stands.paid;
-      scanned = scanned-within Reaches matches m s place (drop n (listing_of s)) sums.scanned.value stands.left stands.scanned;
+      looked = paid-within Reaches matches m deterministic s place (drop n (listing_of s)) sums.looked.value stands.left
+          stands.paid;
+      scanned =
+          scanned-within Reaches matches m s place (drop n (listing_of s)) sums.scanned.value stands.left
+          stands.scanned;
       moved = stands.moved;
     }
 
 -- all calls with one state cost at most what one walk may cost
-pub came-work : (b : Built) (Reaches : Anchored → List ℕ → StateID → Type 0) (matches : StateID → List ℕ) (asked : Asked) (state : OverlappingState)
-    → ((text : List ℕ) (sid : StateID) → Reaches asked.anchored text sid → (live : Option ℕ) × IsLive b.dictionary (is_anchored asked.anchored) text live)
+pub came-work : (b : Built) (Reaches : Anchored → List ℕ → StateID → Type 0) (matches : StateID → List ℕ)
+    (asked : Asked) (state : OverlappingState)
     → CameFrom b Reaches matches asked state → IsOverlappingCost b asked state.sums
-came-work b Reaches matches asked state lives came =
+came-work b Reaches matches asked state came =
     ⊎_elim
-    (λ (fresh : IsFreshState state). record { looked = let none = fresh.sums.looked in omega arith; scanned = let none = fresh.sums.scanned in omega arith; moved = fresh.sums.moved })
-    (λ (stands : (place : Position) × (state.place ≡ Some place) × StandsAt (Reaches asked.anchored) matches b.dictionary b.deterministic (searched b asked) place state.shown.value state.sums × IsCountedTo b asked (stands_at_least (searched b asked) place) state.sums).
-    stands-work (Reaches asked.anchored) matches b.dictionary b.deterministic (searched b asked) stands.0 state.shown.value state.sums lives stands.2)
+    (λ (fresh : IsFreshState state).
+    record {
+      looked = let none = fresh.sums.looked in omega arith;
+      scanned = let none = fresh.sums.scanned in
+          omega arith;
+      moved = fresh.sums.moved;
+    })
+    (λ (stands : (place : Position) × (state.place ≡ Some place)
+    × StandsAt (Reaches asked.anchored) matches b.dictionary b.deterministic (searched b asked) place state.shown.value
+    state.sums × IsCountedTo b asked (stands_at_least (searched b asked) place) state.sums).
+    stands-work (Reaches asked.anchored) matches b.dictionary b.deterministic (searched b asked) stands.0
+    state.shown.value state.sums stands.2)
     came
 
 -- what is left yields its first, if it has one
-pub yields-next : (L : List Occurrence) (n : ℕ) (r : Option Occurrence) → r ≡ slice_get (drop n L) 0 → MatchOption r ((drop n L ≡ []) × (drop (if is_some r then n + 1 else n) L ≡ [])) (λ o. drop n L ≡ o ∷ drop (if is_some r then n + 1 else n) L)
+pub yields-next : (L : List Occurrence) (n : ℕ) (r : Option Occurrence) → r ≡ slice_get (drop n L) 0
+    → MatchOption r ((drop n L ≡ []) × (drop (if is_some r then n + 1 else n) L ≡ []))
+    (λ o. drop n L ≡ o ∷ drop (if is_some r then n + 1 else n) L)
 yields-next L n None e = (slice_get-empty (drop n L) e, slice_get-empty (drop n L) e)
-yields-next L n (Some o) e = slice_get-first (drop n L) o e ∙ ap (λ (xs : List Occurrence). o ∷ xs) (drop-one_more L n)
+yields-next L n (Some o) e = slice_get-first (drop n L) o e ∙ ap (λ xs. o ∷ xs) (drop-one_more L n)
 
 -- ---- a state and its clone
 
 -- counts of equal value are equal
 pub count-same : (a b : Count) → a.value ≡ b.value → a ≡ b
-count-same a b e = ap (λ (n : ℕ). let r : Count = record { times = a.times; value = n } in r) e
+count-same a b e = ap (λ n. let r : Count = record { times = a.times; value = n } in r) e
 
 -- steps with equal counts are equal
-pub steps-same : (a b : Steps) → a.looked.value ≡ b.looked.value → a.scanned.value ≡ b.scanned.value → a.moved.value ≡ b.moved.value → a ≡ b
+pub steps-same : (a b : Steps) → a.looked.value ≡ b.looked.value → a.scanned.value ≡ b.scanned.value
+    → a.moved.value ≡ b.moved.value → a ≡ b
 steps-same a b looked scanned moved =
-    ap (λ (n : Count). let r : Steps = record { looked = n; scanned = a.scanned; moved = a.moved } in r) (count-same a.looked b.looked looked)
-    ∙ ap (λ (n : Count). let r : Steps = record { looked = b.looked; scanned = n; moved = a.moved } in r) (count-same a.scanned b.scanned scanned)
-    ∙ ap (λ (n : Count). let r : Steps = record { looked = b.looked; scanned = b.scanned; moved = n } in r) (count-same a.moved b.moved moved)
+    ap (λ n. let r : Steps = record { looked = n; scanned = a.scanned; moved = a.moved } in r)
+    (count-same a.looked b.looked looked)
+    ∙ ap (λ n. let r : Steps = record { looked = b.looked; scanned = n; moved = a.moved } in r)
+    (count-same a.scanned b.scanned scanned)
+    ∙ ap (λ n. let r : Steps = record { looked = b.looked; scanned = b.scanned; moved = n } in r)
+    (count-same a.moved b.moved moved)

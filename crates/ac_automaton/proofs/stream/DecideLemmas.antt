@@ -11,7 +11,7 @@ use Rattle.ac_input.specs.declared.search.MatchKind.TheVariants.{Standard, Leftm
 use Rattle.ac_input.specs.declared.steps.Steps.{Steps}
 use Rattle.ac_input.specs.Best.{IsBest}
 use Rattle.ac_input.specs.Dictionary.{Dictionary, IsLive, live_len, whole}
-use Rattle.ac_input.specs.Laws.LiveLaws.{IsOwnInverse, shifted}
+use Rattle.ac_input.specs.Laws.LiveLaws.{shifted}
 use Rattle.ac_input.specs.Occurrence.{Occurrence, Occurs}
 use Rattle.ac_input.specs.Steps.{Done}
 use Rattle.ac_input.specs.Tells.{Tells, TellsUnanchored, ending, ending_at}
@@ -19,12 +19,11 @@ use Rattle.ac_input.specs.Walk.{IsPick}
 use Rattle.ac_input.specs.Work.{longest}
 use Rattle.ac_input.proofs.lemmas.LiveLemmas.{best-entered, dead-final, entered-begins, leftmost-no_later}
 use Rattle.ac_input.proofs.lemmas.OrderLemmas.{slice_range-length}
-use Rattle.ac_automaton.specs.Stream.{AreAllGiven, CanBeCounted, FindsHeld, ReadsNothing, StreamProgress, read_again, read_by}
+use Rattle.ac_automaton.specs.Stream.{AreAllGiven, CanBeCounted, FindsHeld, ReadsNothing, StreamProgress, read_again, read_by, Picks}
 use Rattle.ac_automaton.specs.Stream.StreamSearch.{SearchesOn, StandsInState, after_search, since_last, some_of, waits}
 use Rattle.ac_automaton.specs.Automaton.{Advances, IsSpecial, Built}
 use Rattle.ac_automaton.specs.declared.automaton.Advance.{Advance}
 use Rattle.ac_automaton.specs.declared.automaton.Automaton.{Ghosts}
-use Rattle.ac_automaton.proofs.iter.IterLemmas.{occurs-not_empty}
 use Rattle.ac_input.proofs.lemmas.StateLemmas.{live-one}
 use Rattle.ac_automaton.specs.declared.stream.search.Searched.{Searched}
 use Rattle.ac_automaton.proofs.stream.BestOnLemmas.{best-met, best-told}
@@ -34,11 +33,15 @@ use Rattle.ac_automaton.proofs.stream.SearchLemmas.{again-leftmost, cost-on, fou
 use Rattle.ac_automaton.proofs.stream.StreamLemmas.{given-anew, given-open, not-all, pick-rest, pick-since}
 use Rattle.ac_automaton.proofs.lemmas.WalkEndLemmas.{unshifted}
 use Rattle.ac_automaton.proofs.lemmas.WalkLemmas.{begins-bound, live-bound}
+use Rattle.ac_automaton.proofs.stream.SequenceLemmas.{picks≢occurrences}
+use Rattle.ac_input.proofs.lemmas.SomeLemmas.{live-some}
+use Rattle.ac_input.proofs.lemmas.UnusedLemmas.{occurs-some}
 
 -- ---- what is dead
 
 -- under a leftmost kind the first entry of a state's list is the best match
-pub leftmost-first : (kind : MatchKind) (m : Dictionary) (text : List ℕ) (n : ℕ) (ns : List ℕ) → kind ≢ Standard → TellsUnanchored kind m text (n ∷ ns) → IsBest kind (whole m text false) (Some (ending m text n))
+pub leftmost-first : (kind : MatchKind) (m : Dictionary) (text : List ℕ) (n : ℕ) (ns : List ℕ) → kind ≢ Standard
+    → TellsUnanchored kind m text (n ∷ ns) → IsBest kind (whole m text false) (Some (ending m text n))
 leftmost-first Standard m text n ns leftmost tells = absurd (leftmost refl)
 leftmost-first LeftmostFirst m [] n ns leftmost tells = tells
 leftmost-first LeftmostFirst m (b ∷ bs) n ns leftmost tells = tells
@@ -46,17 +49,18 @@ leftmost-first LeftmostLongest m [] n ns leftmost tells = tells
 leftmost-first LeftmostLongest m (b ∷ bs) n ns leftmost tells = tells
 
 -- the list of a state is empty where the text is dead
-pub dead-silent : (m : Dictionary) (text ns : List ℕ) → IsOwnInverse m.pairing → m.kind ≢ Standard → Tells m No text ns → IsLive m false text None → ns ≡ []
-dead-silent m text [] inverse leftmost tells dead = refl
-dead-silent m text (n ∷ ns) inverse leftmost tells dead = absurd (by (leftmost-first m.kind m text n ns leftmost tells))
+pub dead-silent : (m : Dictionary) (text ns : List ℕ) → m.kind ≢ Standard → Tells m No text ns
+    → IsLive m false text None → ns ≡ []
+dead-silent m text [] leftmost tells dead = refl
+dead-silent m text (n ∷ ns) leftmost tells dead = absurd (by (leftmost-first m.kind m text n ns leftmost tells))
   where
     by : IsBest m.kind (whole m text false) (Some (ending m text n)) → ⊥
     by best =
         let o = ending m text n in
         let w = best.0.within in
-        let p = best.0.same.0 in
-        let entered = best-entered m false false text o p inverse best best.0.same.1 in
-        let begins = entered-begins m false text [] o p inverse (subst (λ (l : List ℕ). Occurs (whole m l false) o) (sym (append-nil text)) best.0) entered (omega arith) (omega arith) in
+        let entered = best-entered false best best.0.same.1 in
+        let begins = entered-begins text [] (subst (λ l. Occurs (whole m l false) o) (sym (append-nil text)) best.0)
+        entered (omega arith) (omega arith) in
         dead o.start (record {
           within = omega arith;
           begins = begins;
@@ -67,19 +71,27 @@ dead-silent m text (n ∷ ns) inverse leftmost tells dead = absurd (by (leftmost
 -- ---- where a match waits
 
 -- in a text that isn't dead something is live
-pub not-dead : (m : Dictionary) (text : List ℕ) (live : Option ℕ) → IsLive m false text live → ¬ IsLive m false text None → (from : ℕ) × IsLive m false text (Some from)
+pub not-dead : (m : Dictionary) (text : List ℕ) (live : Option ℕ) → IsLive m false text live
+    → ¬ IsLive m false text None → (from : ℕ) × IsLive m false text (Some from)
 not-dead m text None is open_ = absurd (open_ is)
 not-dead m text (Some from) is open_ = (from, is)
 
 -- what is live begins at the start of the waiting match or before
-pub live-first : (t : StreamProgress) (Reaches : List ℕ → StateID → Type 0) (start sid : StateID) (best b : Occurrence) → (stands : StandsInState Reaches t start sid (Some best)) → stands.found ≡ Some b → t.built.dictionary.kind ≢ Standard → stands.live ≤ b.start
+pub live-first : (t : StreamProgress Picks) (Reaches : List ℕ → StateID → Type 0) (start sid : StateID)
+    (best b : Occurrence) → (stands : StandsInState Reaches t start sid (Some best)) → stands.found ≡ Some b
+    → t.built.dictionary.kind ≢ Standard → stands.live ≤ b.start
 live-first t Reaches start sid best b stands is leftmost = ⊎_elim
     (λ anchored. absurd (false≢true anchored))
-    (λ free. ⊎_elim (λ standard. absurd (leftmost standard)) (λ before. before b (subst (λ (r : Option Occurrence). IsBest t.built.dictionary.kind (whole t.built.dictionary (since_last t) false) r) is stands.told)) free)
+    (λ free. ⊎_elim (λ standard. absurd (leftmost standard))
+    (λ before.
+    before b
+    (subst (λ r. IsBest t.built.dictionary.kind (whole t.built.dictionary (since_last t) false) r) is stands.told))
+    free)
     stands.alive.0.no_later
 
 -- the start of the waiting match is still held
-pub from-behind : (t : StreamProgress) (Reaches : List ℕ → StateID → Type 0) (start sid : StateID) (best : Occurrence) → StandsInState Reaches t start sid (Some best) → t.from ≤ best.start
+pub from-behind : (t : StreamProgress Picks) (Reaches : List ℕ → StateID → Type 0) (start sid : StateID)
+    (best : Occurrence) → StandsInState Reaches t start sid (Some best) → t.from ≤ best.start
 from-behind t Reaches start sid best stands =
     let m = t.built.dictionary in
     let b = unshifted t.last stands.found best (sym stands.kept) in
@@ -87,10 +99,10 @@ from-behind t Reaches start sid best stands =
     let first = live-first t Reaches start sid best b.0 stands b.1 leftmost in
     let ordered = stands.course.ordered in
     let kept = stands.course.kept.0 in
-    let long = slice_range-length (read_by t) t.last t.at ordered.0 ordered.1 in
+    let long = slice_range-length (read_by t) t.last ordered.0 ordered.1 in
     let begins = begins-bound m (drop stands.live (since_last t)) stands.alive.0.begins in
     let rest = length-drop stands.live (since_last t) in
-    let start_at : t.last + b.0.start ≡ best.start = ap (λ (q : Occurrence). q.start) b.2 in
+    let start_at : t.last + b.0.start ≡ best.start = ap (λ q. q.start) b.2 in
     omega arith
 
 -- ---- reading on
@@ -100,9 +112,10 @@ pub record IsQuietOn (m : Dictionary) (x : List ℕ) (last at to : ℕ) : Type 0
   pub silent : (k : ℕ) → at < k → k < to → Tells m No (slice_range x last k) []
   pub alive : (k : ℕ) → at < k → k < to → (from : ℕ) × IsLive m false (slice_range x last k) (Some from)
 
-module _ (t : StreamProgress) (Reaches : Anchored → List ℕ → StateID → Type 0) (matches : StateID → List ℕ) (start sid : StateID) (best : Occurrence) (stop : Advance) (y z : Steps)
-    (tells : (text : List ℕ) (state : StateID) → Reaches No text state → Tells t.built.dictionary No text (matches state))
-    (lives : (text : List ℕ) (state : StateID) → Reaches No text state → (live : Option ℕ) × IsLive t.built.dictionary false text live)
+module _ (t : StreamProgress Picks) (Reaches : Anchored → List ℕ → StateID → Type 0) (matches : StateID → List ℕ)
+    (start sid : StateID) (best : Occurrence) (stop : Advance) (y z : Steps)
+    (tells : (text : List ℕ) (state : StateID) → Reaches No text state
+    → Tells t.built.dictionary No text (matches state))
     (stands : StandsInState (Reaches No) t start sid (Some best))
     (over : ReadsOver t.built Reaches sid (drop t.at (read_by t)) stop y z)
     (some : 0 < stop.taken)
@@ -131,51 +144,69 @@ module _ (t : StreamProgress) (Reaches : Anchored → List ℕ → StateID → T
   leftmost standard = let e : None ≡ Some so_far.0 = sym (stands.quiet standard) ∙ so_far.1 in cc
 
   inside : to ≤ length (read_by t)
-  inside = let rest = length-drop t.at (read_by t) in let within = over.within in let le = stands.course.ordered.1 in omega arith
+  inside = let rest = length-drop t.at (read_by t) in let within = over.within in let le = stands.course.ordered.1 in
+      omega arith
 
   pub reads : Reaches No since stop.sid
   reads = reads-on t Reaches sid stop y z stands.course.ordered.0 stands.reads over
 
   -- the best match of these bytes
-  told : IsBest m.kind (whole m since false) (option_or (option_map (ending m since) (slice_get (matches stop.sid) 0)) (Some so_far.0))
+  told : IsBest m.kind (whole m since false)
+      (option_or (option_map (ending m since) (slice_get (matches stop.sid) 0)) (Some so_far.0))
   told =
       let ordered = stands.course.ordered.0 in
       let within = inside in
-      let before : IsBest m.kind (whole m (since_last t) false) (Some so_far.0) = subst (λ (r : Option Occurrence). IsBest m.kind (whole m (since_last t) false) r) so_far.1 stands.told in
-      best-told m (read_by t) (matches stop.sid) t.last t.at to (Some so_far.0) stands.inverse ordered (omega (arith, some)) within (λ standard. absurd (leftmost standard)) quiet.silent (tells since stop.sid reads) before
+      let before : IsBest m.kind (whole m (since_last t) false) (Some so_far.0) =
+      subst (λ r. IsBest m.kind (whole m (since_last t) false) r) so_far.1 stands.told in
+      best-told m (read_by t) (matches stop.sid) t.last t.at to (Some so_far.0) ordered (omega (arith, some)) within
+      (λ standard. absurd (leftmost standard)) quiet.silent (tells since stop.sid reads) before
 
-  paid : (live : Option ℕ) → IsLive m false since live → (t.looked + looks + live_len since live ≤ 2 * (to + read_again m 0 (length t.given))) × (to ≤ t.looked + looks) × (IsTrue t.built.deterministic → t.looked + looks ≤ to + read_again m 0 (length t.given))
+  paid : (live : Option ℕ) → IsLive m false since live
+      → (t.looked + looks + live_len since live ≤ 2 * (to + read_again m 0 (length t.given))) × (to ≤ t.looked + looks)
+      × (IsTrue t.built.deterministic → t.looked + looks ≤ to + read_again m 0 (length t.given))
   paid live alive =
-      let before = lives (since_last t) sid stands.reads in
+      let before = live-some in
       let sums = stands.lookups before.0 before.1 in
-      paid-on t.built.deterministic t.looked (live_len (since_last t) before.0) t.at (read_again m 0 (length t.given)) stop.taken (live_len since live) y z sums.0 sums.1 sums.2
+      paid-on t.built.deterministic t.looked (live_len (since_last t) before.0) t.at (read_again m 0 (length t.given))
+      stop.taken (live_len since live) y z sums.0 sums.1 sums.2
       (cost-on t Reaches sid stop y z before.0 live stands.course.ordered.0 stands.reads over before.1 alive)
 
   pub done : Done looks 0 0 y z
   done =
-      let before = lives (since_last t) sid stands.reads in
-      let after = lives since stop.sid reads in
-      looks-done t.built.deterministic stop.taken _ _ y z (cost-on t Reaches sid stop y z before.0 after.0 stands.course.ordered.0 stands.reads over before.1 after.1)
+      let before = live-some in
+      let after = live-some in
+      looks-done t.built.deterministic stop.taken _ _ y z
+      (cost-on t Reaches sid stop y z before.0 after.0 stands.course.ordered.0 stands.reads over before.1 after.1)
 
   -- the search still waits, with the best match so far
-  waits-with : (b : Occurrence) (o : Occurrence) (live : ℕ) → IsBest m.kind (whole m since false) (Some b) → shifted t.last b ≡ o → IsLive m false since (Some live) → StandsInState (Reaches No) (waits t to looks) start stop.sid (Some o)
+  waits-with : (b : Occurrence) (o : Occurrence) (live : ℕ) → IsBest m.kind (whole m since false) (Some b)
+      → shifted t.last b ≡ o → IsLive m false since (Some live)
+      → StandsInState (Reaches No) (waits t to looks) start stop.sid (Some o)
   waits-with b o live is same alive =
       let course = stands.course in
       let ordered = course.ordered.0 in
       let within = inside in
       let kept = course.kept in
-      stands-from (Reaches No) (waits t to looks) start stop.sid (Some o) (Some b) live course.unclosed course.filled (omega arith) within course.ended (omega arith) (omega arith) kept.2 course.short course.paid.scanned course.paid.moved stands.begins reads
-      (ap Some (sym same)) is (λ standard. absurd (leftmost standard)) stands.inverse alive stands.goes (λ one is_one. paid one is_one)
+      stands-from (Reaches No) (waits t to looks) start stop.sid (Some o) (Some b) live course.unclosed course.filled
+      (omega arith) within course.ended (omega arith) (omega arith) kept.2 course.short course.paid.scanned
+      course.paid.moved stands.begins reads
+      (ap Some (sym same)) is (λ standard. absurd (leftmost standard)) alive stands.goes (λ one is_one. paid one is_one)
 
   -- where no pattern matches here, the search waits with its match unchanged
-  pub waits-same : matches stop.sid ≡ [] → (live : ℕ) → IsLive m false since (Some live) → StandsInState (Reaches No) (waits t to looks) start stop.sid (Some best)
-  waits-same none live alive = waits-with so_far.0 best live (subst (λ (ns : List ℕ). IsBest m.kind (whole m since false) (option_or (option_map (ending m since) (slice_get ns 0)) (Some so_far.0))) none told) so_far.2 alive
+  pub waits-same : matches stop.sid ≡ [] → (live : ℕ) → IsLive m false since (Some live)
+      → StandsInState (Reaches No) (waits t to looks) start stop.sid (Some best)
+  waits-same none live alive =
+      waits-with so_far.0 best live
+      (subst (λ ns. IsBest m.kind (whole m since false)
+      (option_or (option_map (ending m since) (slice_get ns 0)) (Some so_far.0))) none told) so_far.2 alive
 
   -- where a pattern matches here, the search waits with the better match
-  pub waits-better : (o : Occurrence) → matches stop.sid ≢ [] → Some o ≡ option_map (ending_at m to) (slice_get (matches stop.sid) 0) → (live : ℕ) → IsLive m false since (Some live) → StandsInState (Reaches No) (waits t to looks) start stop.sid (Some o)
+  pub waits-better : (o : Occurrence) → matches stop.sid ≢ []
+      → Some o ≡ option_map (ending_at m to) (slice_get (matches stop.sid) 0) → (live : ℕ)
+      → IsLive m false since (Some live) → StandsInState (Reaches No) (waits t to looks) start stop.sid (Some o)
   waits-better o matched is live alive =
       let ordered = stands.course.ordered.0 in
-      let long = slice_range-length (read_by t) t.last to (omega arith) inside in
+      let long = slice_range-length (read_by t) t.last {b = to} (omega arith) inside in
       let met = best-met m since (matches stop.sid) t.last to (Some so_far.0) o (omega arith) matched told is in
       waits-with met.0 o live met.1 met.2 alive
 
@@ -183,42 +214,57 @@ module _ (t : StreamProgress) (Reaches : Anchored → List ℕ → StateID → T
   near : (from : ℕ) × IsLive m false (slice_range (read_by t) t.last (to - 1)) (Some from)
   near = ⊎_elim
       (λ (passed : t.at < to - 1). quiet.alive (to - 1) passed (omega (arith, some)))
-      (λ (here : to - 1 ≤ t.at). let same : t.at ≡ to - 1 = omega (arith, some) in subst (λ (n : ℕ). (from : ℕ) × IsLive m false (slice_range (read_by t) t.last n) (Some from)) same (stands.live, stands.alive))
+      (λ (here : to - 1 ≤ t.at). let same : t.at ≡ to - 1 = omega (arith, some) in
+      subst (λ n. (from : ℕ) × IsLive m false (slice_range (read_by t) t.last n) (Some from)) same
+      (stands.live, stands.alive))
       (cases_lt t.at (to - 1))
 
   -- The text is dead: the match is decided.
-  pub decides-dead : IsLive m false since None → CanBeCounted (read_by t) → SearchesOn (Reaches No) t start (record { progress = record { sid = start; from = t.from; at = best.end; last = best.end; best = None; closed = t.closed }; found = Some best }) y z
+  pub decides-dead : IsLive m false since None → CanBeCounted (read_by t)
+      → SearchesOn (Reaches No) t start
+      (record {
+        progress =
+            record { sid = start; from = t.from; at = best.end; last = best.end; best = None; closed = t.closed };
+        found = Some best;
+      }) y z
   decides-dead dead countable =
       let x = read_by t in
       let course = stands.course in
       let ordered = course.ordered.0 in
       let within = inside in
       let b = so_far.0 in
-      let silent = dead-silent m since (matches stop.sid) stands.inverse leftmost (tells since stop.sid reads) dead in
-      let is : IsBest m.kind (whole m since false) (Some b) = subst (λ (ns : List ℕ). IsBest m.kind (whole m since false) (option_or (option_map (ending m since) (slice_get ns 0)) (Some b))) silent told in
-      let before : IsBest m.kind (whole m (since_last t) false) (Some b) = subst (λ (r : Option Occurrence). IsBest m.kind (whole m (since_last t) false) r) so_far.1 stands.told in
+      let silent = dead-silent m since (matches stop.sid) leftmost (tells since stop.sid reads) dead in
+      let is : IsBest m.kind (whole m since false) (Some b) = subst
+      (λ ns. IsBest m.kind (whole m since false) (option_or (option_map (ending m since) (slice_get ns 0)) (Some b)))
+      silent told in
+      let before : IsBest m.kind (whole m (since_last t) false) (Some b) =
+      subst (λ r. IsBest m.kind (whole m (since_last t) false) r) so_far.1 stands.told in
       let here = near in
-      let long = slice_range-length x t.last to (omega arith) within in
-      let short = slice_range-length x t.last (to - 1) (omega (arith, some)) (omega arith) in
+      let long = slice_range-length x t.last {b = to} (omega arith) within in
+      let short = slice_range-length x t.last {b = to - 1} (omega (arith, some)) (omega arith) in
       let split = slice_range-split x t.last (to - 1) to (omega (arith, some)) (omega arith) in
-      let bound = live-bound m false (slice_range x t.last (to - 1)) (slice_range x (to - 1) to) here.0 b stands.inverse leftmost here.1 (subst (λ (l : List ℕ). Occurs (whole m l false) b) split is.0) in
-      let start_at : t.last + b.start ≡ best.start = ap (λ (q : Occurrence). q.start) so_far.2 in
-      let end_at : t.last + b.end ≡ best.end = ap (λ (q : Occurrence). q.end) so_far.2 in
+      let bound = live-bound m false (slice_range x t.last (to - 1)) (slice_range x (to - 1) to) here.0 b leftmost
+      here.1 (subst (λ l. Occurs (whole m l false) b) split is.0) in
+      let start_at : t.last + b.start ≡ best.start = ap (λ q. q.start) so_far.2 in
+      let end_at : t.last + b.end ≡ best.end = ap (λ q. q.end) so_far.2 in
       let w = is.0.within in
       let v = before.0.within in
       let sums = paid None dead in
       let more = again-leftmost m.kind (longest m.patterns) (length t.given) leftmost in
-      let stays = λ (tail : List ℕ). (dead-final m false false since tail (Some b) stands.inverse dead).0 is in
-      let picks = λ (tail : List ℕ) (follows : (t.closed ≡ true → tail ≡ [])). subst (λ (q : Occurrence). IsPick m.kind (whole m (x ++ tail) false) t.last (Some t.last) (Some q)) so_far.2 (pick-since m x tail t.last to b (omega arith) within course.filled stays) in
-      search-decided t (Reaches No) start sid (Some best) best looks y z stands lives countable
-      (found-held t b best to course (from-behind t (Reaches No) start sid best stands) (λ standard. absurd (leftmost standard)) (omega arith) within is.0 so_far.2)
+      let stays = λ (tail : List ℕ). (dead-final m false false since tail (Some b) dead).0 is in
+      let picks = λ (tail : List ℕ) (follows : (t.closed ≡ true → tail ≡ [])).
+      subst (λ q. IsPick m.kind (whole m (x ++ tail) false) t.last (Some t.last) (Some q)) so_far.2
+      (pick-since m x tail t.last to b (omega arith) within course.filled stays) in
+      search-decided t (Reaches No) start sid (Some best) best looks y z stands countable
+      (found-held t b best to course (from-behind t (Reaches No) start sid best stands)
+      (λ standard. absurd (leftmost standard)) (omega arith) within is.0 so_far.2)
       (λ given. let searched = given.searched in omega (arith, some))
       picks done (omega arith) (omega arith) (λ d. let e = sums.2 d in omega arith)
 
 -- ---- where all that is held was read
 
-module _ (t : StreamProgress) (Reaches : List ℕ → StateID → Type 0) (start sid : StateID) (best : Occurrence) (z : Steps)
-    (lives : (text : List ℕ) (state : StateID) → Reaches text state → (live : Option ℕ) × IsLive t.built.dictionary false text live)
+module _ (t : StreamProgress Picks) (Reaches : List ℕ → StateID → Type 0) (start sid : StateID) (best : Occurrence)
+    (z : Steps)
     (stands : StandsInState Reaches t start sid (Some best))
     (all : t.at ≡ length (read_by t))
     (countable : CanBeCounted (read_by t)) where
@@ -231,10 +277,18 @@ module _ (t : StreamProgress) (Reaches : List ℕ → StateID → Type 0) (start
 
   -- that match is the best of the bytes since then
   best-so_far : IsBest t.built.dictionary.kind (whole t.built.dictionary (since_last t) false) (Some last_found.0)
-  best-so_far = subst (λ (r : Option Occurrence). IsBest t.built.dictionary.kind (whole t.built.dictionary (since_last t) false) r) last_found.1 stands.told
+  best-so_far =
+      subst (λ r. IsBest t.built.dictionary.kind (whole t.built.dictionary (since_last t) false) r) last_found.1
+      stands.told
 
   -- Nothing more comes: the match is decided.
-  pub decides-closed : t.closed ≡ true → SearchesOn Reaches t start (record { progress = record { sid = start; from = t.from; at = best.end; last = best.end; best = None; closed = t.closed }; found = Some best }) z z
+  pub decides-closed : t.closed ≡ true
+      → SearchesOn Reaches t start
+      (record {
+        progress =
+            record { sid = start; from = t.from; at = best.end; last = best.end; best = None; closed = t.closed };
+        found = Some best;
+      }) z z
   decides-closed closed =
       let m = t.built.dictionary in
       let x = read_by t in
@@ -242,28 +296,44 @@ module _ (t : StreamProgress) (Reaches : List ℕ → StateID → Type 0) (start
       let ordered = course.ordered in
       let b = last_found.0 in
       let is = best-so_far in
-      let long = slice_range-length x t.last t.at ordered.0 ordered.1 in
+      let long = slice_range-length x t.last ordered.0 ordered.1 in
       let none = append-nil (since_last t) in
-      let bound = live-bound m false (since_last t) [] stands.live b stands.inverse not-standard stands.alive (subst (λ (l : List ℕ). Occurs (whole m l false) b) (sym none) is.0) in
-      let start_at : t.last + b.start ≡ best.start = ap (λ (q : Occurrence). q.start) last_found.2 in
-      let end_at : t.last + b.end ≡ best.end = ap (λ (q : Occurrence). q.end) last_found.2 in
+      let bound = live-bound m false (since_last t) [] stands.live b not-standard stands.alive
+      (subst (λ l. Occurs (whole m l false) b) (sym none) is.0) in
+      let start_at : t.last + b.start ≡ best.start = ap (λ q. q.start) last_found.2 in
+      let end_at : t.last + b.end ≡ best.end = ap (λ q. q.end) last_found.2 in
       let w = is.0.within in
       let sums = stands.lookups (Some stands.live) stands.alive in
       let more = again-leftmost m.kind (longest m.patterns) (length t.given) not-standard in
-      let whole_rest : IsBest m.kind (whole m (slice_range x t.last (length x)) false) (Some b) = subst (λ (n : ℕ). IsBest m.kind (whole m (slice_range x t.last n) false) (Some b)) all is in
-      let pick = subst (λ (q : Occurrence). IsPick m.kind (whole m x false) t.last (Some t.last) (Some q)) last_found.2 (pick-rest m x t.last b (omega (arith, ordered.0, ordered.1)) course.filled whole_rest) in
-      let picks = λ (tail : List ℕ) (follows : (t.closed ≡ true → tail ≡ [])). subst (λ (l : List ℕ). IsPick m.kind (whole m l false) t.last (Some t.last) (Some best)) (sym (ap (λ (l : List ℕ). x ++ l) (follows closed) ∙ append-nil x)) pick in
-      search-decided t Reaches start sid (Some best) best 0 z z stands lives countable
-      (found-held t b best t.at course (from-behind t Reaches start sid best stands) (λ standard. absurd (not-standard standard)) ordered.0 ordered.1 is.0 last_found.2)
+      let whole_rest : IsBest m.kind (whole m (slice_range x t.last (length x)) false) (Some b) =
+      subst (λ n. IsBest m.kind (whole m (slice_range x t.last n) false) (Some b)) all is in
+      let pick = subst (λ q. IsPick m.kind (whole m x false) t.last (Some t.last) (Some q)) last_found.2
+      (pick-rest m x t.last b (omega (arith, ordered.0, ordered.1)) course.filled whole_rest) in
+      let picks = λ (tail : List ℕ) (follows : (t.closed ≡ true → tail ≡ [])).
+      subst (λ l. IsPick m.kind (whole m l false) t.last (Some t.last) (Some best))
+      (sym (ap (λ l. x ++ l) (follows closed) ∙ append-nil x)) pick in
+      search-decided t Reaches start sid (Some best) best 0 z z stands countable
+      (found-held t b best t.at course (from-behind t Reaches start sid best stands)
+      (λ standard. absurd (not-standard standard)) ordered.0 ordered.1 is.0 last_found.2)
       (λ given. not-all t best stands.goes (picks [] (λ _. refl)) (given.all (inr closed)))
-      picks (record { looked = omega arith; scanned = omega arith; moved = omega arith }) (omega arith) (omega arith) (λ d. let e = sums.2 d in omega arith)
+      picks (record { looked = omega arith; scanned = omega arith; moved = omega arith }) (omega arith) (omega arith)
+      (λ d. let e = sums.2 d in omega arith)
 
   -- the search is unchanged
-  same-search : after_search t (record { progress = record { sid = sid; from = t.from; at = t.at; last = t.last; best = Some best; closed = t.closed }; found = None }) 0 ≡ t
+  same-search : after_search t
+      (record {
+        progress = record { sid = sid; from = t.from; at = t.at; last = t.last; best = Some best; closed = t.closed };
+        found = None;
+      }) 0 ≡ t
   same-search = λ i. record t { given = append-nil t.given i; looked = add-zero t.looked i }
 
   -- More may come: the match waits.
-  pub waits-none : t.closed ≡ false → SearchesOn Reaches t start (record { progress = record { sid = sid; from = t.from; at = t.at; last = t.last; best = Some best; closed = t.closed }; found = None }) z z
+  pub waits-none : t.closed ≡ false
+      → SearchesOn Reaches t start
+      (record {
+        progress = record { sid = sid; from = t.from; at = t.at; last = t.last; best = Some best; closed = t.closed };
+        found = None;
+      }) z z
   waits-none open_ =
       let m = t.built.dictionary in
       let x = read_by t in
@@ -271,11 +341,12 @@ module _ (t : StreamProgress) (Reaches : List ℕ → StateID → Type 0) (start
       let ordered = course.ordered in
       let b = last_found.0 in
       let is = best-so_far in
-      let long = slice_range-length x t.last t.at ordered.0 ordered.1 in
-      let some = occurs-not_empty (whole m (since_last t) false) b (omega arith) course.filled is.0 in
+      let long = slice_range-length x t.last ordered.0 ordered.1 in
+      let some = occurs-some (omega arith) course.filled is.0 in
       let w = is.0.within in
       let first = live-first t Reaches start sid best b stands last_found.1 not-standard in
-      let alive : IsLive m false (slice_range x t.last (length x)) (Some stands.live) = subst (λ (n : ℕ). IsLive m false (slice_range x t.last n) (Some stands.live)) all stands.alive in
+      let alive : IsLive m false (slice_range x t.last (length x)) (Some stands.live) =
+      subst (λ n. IsLive m false (slice_range x t.last n) (Some stands.live)) all stands.alive in
       let within : t.last ≤ length x = omega (arith, ordered.0, ordered.1) in
       let back = sym same-search in
       record {
@@ -284,26 +355,39 @@ module _ (t : StreamProgress) (Reaches : List ℕ → StateID → Type 0) (start
         closed = refl;
         from = refl;
         finds = (
-          record { on = λ standard. omega arith; last = omega arith; closed = refl; built = refl; pieces = refl; from = refl },
+          record {
+            on = λ standard. omega arith;
+            last = omega arith;
+            closed = refl;
+            built = refl;
+            pieces = refl;
+            from = refl;
+          },
           append-nil t.given,
           λ few. subst AreAllGiven back (record {
             searched = all;
-            all = λ each. absurd (⊎_elim (λ standard. not-standard standard) (λ closed. false≢true (sym open_ ∙ closed)) each);
+            all = λ each.
+                absurd (⊎_elim (λ standard. not-standard standard) (λ closed. false≢true (sym open_ ∙ closed)) each);
             open_ = given-open t stands.live course.decided course.filled course.ended within alive;
             anew = λ nothing.
                 let dead = given-anew t stands.live course.decided course.filled course.ended within alive nothing in
-                let same = same_Some stands.live (length (slice_range x t.last (length x))) (live-one m false (slice_range x t.last (length x)) (Some stands.live) (Some (length (slice_range x t.last (length x)))) alive dead) in
-                let e : length (slice_range x t.last (length x)) ≡ length (since_last t) = ap (λ (n : ℕ). length (slice_range x t.last n)) (sym all) in
+                let same = same_Some stands.live (length (slice_range x t.last (length x)))
+                (live-one m false (slice_range x t.last (length x)) (Some stands.live)
+                (Some (length (slice_range x t.last (length x)))) alive dead) in
+                let e : length (slice_range x t.last (length x)) ≡ length (since_last t) =
+                ap (λ n. length (slice_range x t.last n)) (sym all) in
                 absurd (omega arith);
           }),
         );
-        stands = subst (λ (u : StreamProgress). StandsInState Reaches u start sid (Some best)) back stands;
+        stands = subst (λ u. StandsInState Reaches u start sid (Some best)) back stands;
       }
 
 -- ---- two steps in turn
 
 -- What a search finds after it has waited is what the search finds.
-pub searches-then : (Reaches : List ℕ → StateID → Type 0) (s : StreamProgress) (start : StateID) (at looks : ℕ) (r : Searched) (x y z : Steps) → s.built.dictionary.kind ≢ Standard → s.at ≤ at → at ≤ length (read_by s) → Done looks 0 0 x y → SearchesOn Reaches (waits s at looks) start r y z → SearchesOn Reaches s start r x z
+pub searches-then : (Reaches : List ℕ → StateID → Type 0) (s : StreamProgress Picks) (start : StateID) (at looks : ℕ)
+    (r : Searched) (x y z : Steps) → s.built.dictionary.kind ≢ Standard → s.at ≤ at → at ≤ length (read_by s)
+    → Done looks 0 0 x y → SearchesOn Reaches (waits s at looks) start r y z → SearchesOn Reaches s start r x z
 searches-then Reaches s start at looks r x y z leftmost further inside done on =
     let a = done.looked in
     let b = done.scanned in
@@ -311,20 +395,37 @@ searches-then Reaches s start at looks r x y z leftmost further inside done on =
     let d = on.done.looked in
     let e = on.done.scanned in
     let f = on.done.moved in
-    let same : after_search (waits s at looks) r on.looks ≡ after_search s r (looks + on.looks) = λ i. record s { given = s.given ++ some_of r.found; at = r.progress.at; last = r.progress.last; looked = add_assoc s.looked looks on.looks i } in
+    let same : after_search (waits s at looks) r on.looks
+    ≡ after_search s r (looks + on.looks) = λ i.
+    record s {
+      given = s.given ++ some_of r.found;
+      at = r.progress.at;
+      last = r.progress.last;
+      looked = add_assoc s.looked looks on.looks i;
+    } in
     record {
       looks = looks + on.looks;
       done = record { looked = omega arith; scanned = omega arith; moved = omega arith };
       closed = on.closed;
       from = on.from;
-      finds = subst (λ (u : StreamProgress). FindsHeld s r.found u) same (finds r.found (after_search (waits s at looks) r on.looks) on.finds);
-      stands = subst (λ (u : StreamProgress). StandsInState Reaches u start r.progress.sid r.progress.best) same on.stands;
+      finds = subst (λ u. FindsHeld s r.found u) same
+          (finds r.found (after_search (waits s at looks) r on.looks) on.finds);
+      stands = subst (λ u. StandsInState Reaches u start r.progress.sid r.progress.best) same on.stands;
     }
   where
-    reads-nothing : (u : StreamProgress) → ReadsNothing (waits s at looks) u → ReadsNothing s u
-    reads-nothing u same = record { on = λ standard. absurd (leftmost standard); last = same.last; closed = same.closed; built = same.built; pieces = same.pieces; from = same.from }
+    reads-nothing : (u : StreamProgress Picks) → ReadsNothing (waits s at looks) u → ReadsNothing s u
+    reads-nothing u same =
+        record {
+          on = λ standard. absurd (leftmost standard);
+          last = same.last;
+          closed = same.closed;
+          built = same.built;
+          pieces = same.pieces;
+          from = same.from;
+        }
 
-    finds : (found : Option Occurrence) (u : StreamProgress) → FindsHeld (waits s at looks) found u → FindsHeld s found u
+    finds : (found : Option Occurrence) (u : StreamProgress Picks) → FindsHeld (waits s at looks) found u
+        → FindsHeld s found u
     finds None u h = (reads-nothing u h.0, h.1, h.2)
     finds (Some o) u h =
         let held = h.4 in (
@@ -332,7 +433,15 @@ searches-then Reaches s start at looks r x y z leftmost further inside done on =
           h.1,
           h.2,
           h.3,
-          record { pattern = held.pattern; held = held.held; behind = held.behind; some = held.some; new = λ standard. absurd (leftmost standard); within = held.within },
+          record {
+            pattern = held.pattern;
+            held = held.held;
+            behind = held.behind;
+            some = held.some;
+            new = λ _ standard. absurd (leftmost standard);
+            past = λ e. absurd (picks≢occurrences e);
+            within = held.within;
+          },
           h.5,
           λ given. h.6 (record {
             searched = let searched = given.searched in omega (arith, inside);
@@ -345,41 +454,52 @@ searches-then Reaches s start at looks r x y z leftmost further inside done on =
 -- ---- what the automaton's own loop says
 
 -- Reading on to the first special state meets no match on the way and no dead text.
-pub advance-quiet : {S : Type 0} (A : Ghosts S) (a : S) (t : StreamProgress) (sid : StateID) (stop : Advance)
-    → ((text : List ℕ) (state : StateID) → A.Reaches a No text state → Tells (A.built a).dictionary No text (A.matches a state))
-    → ((text : List ℕ) (state : StateID) → A.Reaches a No text state → (live : Option ℕ) × IsLive (A.built a).dictionary false text live)
-    → ((text : List ℕ) (state : StateID) → A.Reaches a No text state → IsTrue (A.special a state) ↔ IsSpecial (A.built a) (A.matches a state) (A.starts a state) No text)
-    → t.built ≡ A.built a → t.last ≤ t.at → A.Reaches a No (since_last t) sid → Advances (A.Reaches a No) (A.special a) sid (drop t.at (read_by t)) stop
+pub advance-quiet : {S : Type 0} (A : Ghosts S) (a : S) (t : StreamProgress Picks) (sid : StateID) (stop : Advance)
+    → ((text : List ℕ) (state : StateID) → A.Reaches a No text state
+    → Tells (A.built a).dictionary No text (A.matches a state))
+    → ((text : List ℕ) (state : StateID) → A.Reaches a No text state
+    → IsTrue (A.special a state) ↔ IsSpecial (A.built a) (A.matches a state) (A.starts a state) No text)
+    → t.built ≡ A.built a → t.last ≤ t.at → A.Reaches a No (since_last t) sid
+    → Advances (A.Reaches a No) (A.special a) sid (drop t.at (read_by t)) stop
     → IsQuietOn t.built.dictionary (read_by t) t.last t.at (t.at + stop.taken)
-advance-quiet A a t sid stop tells lives stops built ordered here goes = subst (λ (d : Built). IsQuietOn d.dictionary (read_by t) t.last t.at (t.at + stop.taken)) (sym built) (record {
-  silent = λ k lt less.
-      let mid = passed k lt less in
-      let none = plain mid.0 (slice_range (read_by t) t.last k) mid.1 mid.2 in
-      subst (λ (ns : List ℕ). Tells (A.built a).dictionary No (slice_range (read_by t) t.last k) ns) none.0 (tells (slice_range (read_by t) t.last k) mid.0 mid.1);
-  alive = λ k lt less.
-      let mid = passed k lt less in
-      let none = plain mid.0 (slice_range (read_by t) t.last k) mid.1 mid.2 in
-      let live = lives (slice_range (read_by t) t.last k) mid.0 mid.1 in
-      not-dead (A.built a).dictionary (slice_range (read_by t) t.last k) live.0 live.1 none.1;
-})
+advance-quiet A a t sid stop tells stops built ordered here goes =
+    subst (λ d. IsQuietOn d.dictionary (read_by t) t.last t.at (t.at + stop.taken)) (sym built) (record {
+      silent = λ k lt less.
+          let mid = passed k lt less in
+          let none = plain mid.0 (slice_range (read_by t) t.last k) mid.1 mid.2 in
+          subst (λ ns. Tells (A.built a).dictionary No (slice_range (read_by t) t.last k) ns) none.0
+          (tells (slice_range (read_by t) t.last k) mid.0 mid.1);
+      alive = λ k lt less.
+          let mid = passed k lt less in
+          let none = plain mid.0 (slice_range (read_by t) t.last k) mid.1 mid.2 in
+          let live = live-some in
+          not-dead (A.built a).dictionary (slice_range (read_by t) t.last k) live.0 live.1 none.1;
+    })
   where
-    passed : (k : ℕ) → t.at < k → k < t.at + stop.taken → (mid : StateID) × A.Reaches a No (slice_range (read_by t) t.last k) mid × ¬ IsTrue (A.special a mid)
+    passed : (k : ℕ) → t.at < k → k < t.at + stop.taken
+        → (mid : StateID) × A.Reaches a No (slice_range (read_by t) t.last k) mid × ¬ IsTrue (A.special a mid)
     passed k lt less =
         let i : ℕ = k - t.at in
         let there : t.at + i ≡ k = omega arith in
         let rest = length-drop t.at (read_by t) in
         let within = goes.taken.0 in
         let mid = goes.plain i (omega arith) (omega arith) in
-        let text : since_last t ++ take i (drop t.at (read_by t)) ≡ slice_range (read_by t) t.last k = text-on (read_by t) t.last t.at i ordered (omega arith) ∙ ap (slice_range (read_by t) t.last) there in
-        (mid.0, subst (λ (l : List ℕ). A.Reaches a No l mid.0) text (mid.1 (since_last t) here), mid.2)
+        let text : since_last t ++ take i (drop t.at (read_by t)) ≡ slice_range (read_by t) t.last k =
+        text-on (read_by t) t.last t.at i ordered (omega arith) ∙ ap (slice_range (read_by t) t.last) there in
+        (mid.0, subst (λ l. A.Reaches a No l mid.0) text (mid.1 (since_last t) here), mid.2)
 
-    plain : (mid : StateID) (text : List ℕ) → A.Reaches a No text mid → ¬ IsTrue (A.special a mid) → (A.matches a mid ≡ []) × (¬ IsLive (A.built a).dictionary false text None)
-    plain mid text there open_ = (list-none (A.matches a mid) (λ some. open_ ((stops text mid there).1 (inr (inl some)))), λ dead. open_ ((stops text mid there).1 (inl dead)))
+    plain : (mid : StateID) (text : List ℕ) → A.Reaches a No text mid → ¬ IsTrue (A.special a mid)
+        → (A.matches a mid ≡ []) × (¬ IsLive (A.built a).dictionary false text None)
+    plain mid text there open_ = (
+      list-none (A.matches a mid) (λ some. open_ ((stops text mid there).1 (inr (inl some)))),
+      λ dead. open_ ((stops text mid there).1 (inl dead)),
+    )
 
 -- ---- waiting
 
 -- A search has read on from where it stood, and the best match that it has met is still to be decided.
-pub record HasWaited (Reaches : List ℕ → StateID → Type 0) (s : StreamProgress) (start sid : StateID) (at : ℕ) (best : Occurrence) (before after : Steps) : Type 0 where
+pub record HasWaited (Reaches : List ℕ → StateID → Type 0) (s : StreamProgress Picks) (start sid : StateID) (at : ℕ)
+    (best : Occurrence) (before after : Steps) : Type 0 where
   pub on : s.at ≤ at
   pub looks : ℕ
   pub done : Done looks 0 0 before after

@@ -1,9 +1,8 @@
 -- A search over the held bytes: where it stands after it, and what it found.
 use Rattle.std.proofs.Common.{◌≡◌, ◌≢◌, ⊎_elim, ℕ, ◌+◌, ◌-◌, ◌*◌, ◌<◌, ◌≤◌, Bool, true, false, IsTrue, List, [], ◌∷◌, ◌++◌, length, take, drop, Option, None, Some, slice_get, slice_range, sym, ap, subst, refl, ◌↔◌, ◌∙◌, arith, append-nil, length-drop, suc, length-append, mul-suc}
-use Rattle.std.proofs.lemmas.List.{length-take-le}
+use Rattle.std.proofs.lemmas.List.{length-take-le, drop-drop, take_rest}
 use Rattle.std.specs.Option.{option_map}
 use Rattle.std.proofs.lemmas.Bool.{cases_lt, false≢true}
-use Rattle.std.proofs.lemmas.List.{drop-drop, take_rest}
 use Rattle.std.proofs.lemmas.Option.{slice_get_within}
 use Rattle.ac_input.specs.Number.{StateID}
 use Rattle.ac_input.specs.declared.search.Anchored.{Anchored}
@@ -12,7 +11,7 @@ use Rattle.ac_input.specs.declared.search.MatchKind.TheVariants.{Standard, Leftm
 use Rattle.ac_input.specs.declared.steps.Steps.{Steps}
 use Rattle.ac_input.specs.Best.{IsBest}
 use Rattle.ac_input.specs.Dictionary.{Dictionary, IsLive, live_len, whole}
-use Rattle.ac_input.specs.Laws.LiveLaws.{IsOwnInverse, shifted, shifted_best}
+use Rattle.ac_input.specs.Laws.LiveLaws.{shifted, shifted_best}
 use Rattle.ac_input.specs.Occurrence.{Occurrence, Occurs}
 use Rattle.ac_input.specs.Steps.{Done}
 use Rattle.ac_input.specs.Tells.{Tells, ending, ending_at}
@@ -24,12 +23,11 @@ use Rattle.ac_automaton.specs.Automaton.{Advances, Built, IsReadCost, IsState, i
 use Rattle.ac_automaton.specs.Devices.Moved.{AllFit}
 use Rattle.ac_automaton.specs.Replace.{matches_in}
 use Rattle.ac_automaton.specs.Stream.StreamSearch.{ContinuesWalk, IsHeldAt, IsSearchPaid, SearchesOn, StandsInState, after_search, since_last, searched_anew, waits}
-use Rattle.ac_automaton.specs.Stream.{CanBeCounted, FindsHeld, IsHeldMatch, IsOnCourse, NothingIsLive, StreamProgress, cut_of, end_of, read_by, room_of, read_again, again_for, AreAllGiven, may_wait}
+use Rattle.ac_automaton.specs.Stream.{CanBeCounted, FindsHeld, IsHeldItem, IsOnCourse, NothingIsLive, StreamProgress, cut_of, end_of, read_by, room_of, read_again, again_for, AreAllGiven, may_wait, Picks}
 use Rattle.ac_automaton.specs.declared.automaton.Advance.{Advance}
 use Rattle.ac_automaton.specs.declared.automaton.Automaton.{Ghosts}
 use Rattle.ac_automaton.specs.declared.stream.search.Progress.{Progress}
 use Rattle.ac_automaton.proofs.lemmas.CursorLemmas.{list-none, part-empty, part-front}
-use Rattle.ac_automaton.proofs.iter.IterLemmas.{occurs-not_empty}
 use Rattle.ac_automaton.proofs.automaton.PassLemmas.{StopsAtMatch, matching-none, stops-none, stops-there, ReadsOver, stops-over}
 use Rattle.ac_automaton.proofs.stream.StreamBudgetLemmas.{budget-settled}
 use Rattle.ac_automaton.proofs.stream.StreamLemmas.{all-given, decided-from, end_of-push, given-anew, given-open, goes-anew, goes-match, pick-since}
@@ -37,22 +35,29 @@ use Rattle.ac_automaton.proofs.find.ToldLemmas.{told-first_occurs}
 use Rattle.ac_automaton.proofs.lemmas.WalkLemmas.{occurs-bound, standard-final}
 use Rattle.ac_automaton.proofs.lemmas.WalkEndLemmas.{none-alive, unshifted-none}
 use Rattle.ac_automaton.proofs.stream.BestOnLemmas.{best-met, best-stays, best-told}
+use Rattle.ac_automaton.proofs.stream.SequenceLemmas.{picks≢occurrences}
+use Rattle.ac_input.proofs.lemmas.SomeLemmas.{live-some}
+use Rattle.ac_input.proofs.lemmas.UnusedLemmas.{occurs-some}
 
 -- ---- what was read
 
 -- the bytes up to a place, and some more
-pub text-on : (x : List ℕ) (last at k : ℕ) → last ≤ at → k ≤ length x - at → slice_range x last at ++ take k (drop at x) ≡ slice_range x last (at + k)
-text-on x last at k g h = ap (λ (l : List ℕ). slice_range x last at ++ take k l) (sym (take_rest x at)) ∙ part-front x last at (length x) k g h
+pub text-on : (x : List ℕ) (last at k : ℕ) → last ≤ at → k ≤ length x - at
+    → slice_range x last at ++ take k (drop at x) ≡ slice_range x last (at + k)
+text-on x last at k g h =
+    ap (λ l. slice_range x last at ++ take k l) (sym (take_rest x at)) ∙ part-front x last at (length x) k g h
 
 -- what comes after a place of the held bytes
-pub rest-held : (x held : List ℕ) (from at first place : ℕ) → first ≡ from → place ≡ at → held ≡ drop from x → from ≤ at → drop (place - first) held ≡ drop at x
+pub rest-held : (x held : List ℕ) (from at first place : ℕ) → first ≡ from → place ≡ at → held ≡ drop from x → from ≤ at
+    → drop (place - first) held ≡ drop at x
 rest-held x held from at first place f p is le =
     let k : place - first ≡ at - from = omega arith in
     let there : from + (at - from) ≡ at = omega arith in
-    ap (λ (n : ℕ). drop n held) k ∙ ap (drop (at - from)) is ∙ drop-drop (at - from) from x ∙ ap (λ (n : ℕ). drop n x) there
+    ap (λ n. drop n held) k ∙ ap (drop (at - from)) is ∙ drop-drop (at - from) from x ∙ ap (λ n. drop n x) there
 
 -- the looks for the bytes read are all that was done
-pub looks-done : (deterministic : Bool) (n a b : ℕ) (y z : Steps) → IsLookups deterministic n a b y z → Done (z.looked.value - y.looked.value) 0 0 y z
+pub looks-done : (deterministic : Bool) (n a b : ℕ) (y z : Steps) → IsLookups deterministic n a b y z
+    → Done (z.looked.value - y.looked.value) 0 0 y z
 looks-done deterministic n a b y z run =
     let some = run.some in
     let scanned = run.scanned in
@@ -62,12 +67,14 @@ looks-done deterministic n a b y z run =
 -- ---- where a search stands
 
 -- A text without an occurrence isn't dead, whatever its kind.
-pub alive-none : (m : Dictionary) (text : List ℕ) (live : Option ℕ) → IsBest m.kind (whole m text false) None → IsLive m false text live → (from : ℕ) × IsLive m false text (Some from)
+pub alive-none : (m : Dictionary) (text : List ℕ) (live : Option ℕ) → IsBest m.kind (whole m text false) None
+    → IsLive m false text live → (from : ℕ) × IsLive m false text (Some from)
 alive-none m text None quiet is = absurd (none-alive m m.kind text quiet is)
 alive-none m text (Some from) quiet is = (from, is)
 
 -- where a search stands, from what is known of it
-pub stands-from : (Reaches : List ℕ → StateID → Type 0) (t : StreamProgress) (start sid : StateID) (best found : Option Occurrence) (live : ℕ)
+pub stands-from : (Reaches : List ℕ → StateID → Type 0) (t : StreamProgress Picks) (start sid : StateID)
+    (best found : Option Occurrence) (live : ℕ)
     → (t.built.dictionary.kind ≡ Standard → t.closed ≡ false)
     → 1 ≤ shortest t.built.dictionary.patterns
     → t.last ≤ t.at
@@ -75,8 +82,8 @@ pub stands-from : (Reaches : List ℕ → StateID → Type 0) (t : StreamProgres
     → end_of t.given ≤ t.last
     → t.from ≤ cut_of t
     → t.from ≤ t.at
-    → length (read_by t) ≤ t.from + room_of t.built
-    → AllFit (room_of t.built) t.pieces
+    → length (read_by t) ≤ t.from + room_of Picks t.built
+    → AllFit (room_of Picks t.built) t.pieces
     → t.scanned ≡ 0
     → 7 * t.moved ≤ length (read_by t)
     → Reaches [] start
@@ -84,17 +91,19 @@ pub stands-from : (Reaches : List ℕ → StateID → Type 0) (t : StreamProgres
     → best ≡ shifted_best t.last found
     → IsBest t.built.dictionary.kind (whole t.built.dictionary (since_last t) false) found
     → (t.built.dictionary.kind ≡ Standard → found ≡ None)
-    → IsOwnInverse t.built.dictionary.pairing
     → IsLive t.built.dictionary false (since_last t) (Some live)
     → ContinuesWalk t
     → IsSearchPaid t
     → StandsInState Reaches t start sid best
-stands-from Reaches t start sid best found live unclosed filled ordered inside ended kept behind room short scanned moved begins reads is told quiet inverse alive goes paid =
+stands-from Reaches t start sid best found live unclosed filled ordered inside ended kept behind room short scanned
+    moved begins reads is told quiet alive goes paid =
     let here = paid (Some live) alive in
-    let decided = decided-from t found live ordered inside told quiet inverse alive goes in
+    let decided = decided-from t found live ordered inside told quiet alive goes in
     let rest = decided [] (λ _. refl) in
     record {
       course = record {
+        standard = λ e. absurd (picks≢occurrences e);
+        passed = λ e. absurd (picks≢occurrences e);
         unclosed = unclosed;
         filled = filled;
         ordered = (ordered, inside);
@@ -111,7 +120,6 @@ stands-from Reaches t start sid best found live unclosed filled ordered inside e
       kept = is;
       told = told;
       quiet = quiet;
-      inverse = inverse;
       live = live;
       alive = alive;
       goes = goes;
@@ -121,7 +129,8 @@ stands-from Reaches t start sid best found live unclosed filled ordered inside e
 -- ---- reading on
 
 -- the lists of the states on the way were empty
-pub tells-on : (s : StreamProgress) (Reaches : Anchored → List ℕ → StateID → Type 0) (matches : StateID → List ℕ) (sid : StateID) (stop : Advance) (matched : Bool) (y z : Steps)
+pub tells-on : (s : StreamProgress Picks) (Reaches : Anchored → List ℕ → StateID → Type 0) (matches : StateID → List ℕ)
+    (sid : StateID) (stop : Advance) (matched : Bool) (y z : Steps)
     → ((text : List ℕ) (state : StateID) → Reaches No text state → Tells s.built.dictionary No text (matches state))
     → s.last ≤ s.at
     → Reaches No (since_last s) sid
@@ -134,39 +143,51 @@ tells-on s Reaches matches sid stop matched y z tells ordered here stops k lt le
     let within = stops.within in
     let rest = length-drop s.at x in
     let mid = stops.plain i (omega arith) (omega arith) in
-    let text : since_last s ++ take i (drop s.at x) ≡ slice_range x s.last k = text-on x s.last s.at i ordered (omega arith) ∙ ap (slice_range x s.last) there in
-    let reads : Reaches No (slice_range x s.last k) mid.0 = subst (λ (l : List ℕ). Reaches No l mid.0) text (mid.1 (since_last s) here) in
-    subst (λ (ns : List ℕ). Tells s.built.dictionary No (slice_range x s.last k) ns) (matching-none (matches mid.0) mid.2) (tells (slice_range x s.last k) mid.0 reads)
+    let text : since_last s ++ take i (drop s.at x) ≡ slice_range x s.last k =
+    text-on x s.last s.at i ordered (omega arith) ∙ ap (slice_range x s.last) there in
+    let reads : Reaches No (slice_range x s.last k) mid.0 =
+    subst (λ l. Reaches No l mid.0) text (mid.1 (since_last s) here) in
+    subst (λ ns. Tells s.built.dictionary No (slice_range x s.last k) ns) (matching-none (matches mid.0) mid.2)
+    (tells (slice_range x s.last k) mid.0 reads)
 
 -- what reading on cost
-pub cost-on : (s : StreamProgress) (Reaches : Anchored → List ℕ → StateID → Type 0) (sid : StateID) (stop : Advance) (y z : Steps) (before after : Option ℕ)
+pub cost-on : (s : StreamProgress Picks) (Reaches : Anchored → List ℕ → StateID → Type 0) (sid : StateID)
+    (stop : Advance) (y z : Steps) (before after : Option ℕ)
     → s.last ≤ s.at
     → Reaches No (since_last s) sid
     → ReadsOver s.built Reaches sid (drop s.at (read_by s)) stop y z
     → IsLive s.built.dictionary false (since_last s) before
     → IsLive s.built.dictionary false (slice_range (read_by s) s.last (s.at + stop.taken)) after
-    → IsLookups s.built.deterministic stop.taken (live_len (since_last s) before) (live_len (slice_range (read_by s) s.last (s.at + stop.taken)) after) y z
+    → IsLookups s.built.deterministic stop.taken (live_len (since_last s) before)
+    (live_len (slice_range (read_by s) s.last (s.at + stop.taken)) after) y z
 cost-on s Reaches sid stop y z before after ordered here stops g h =
     let x = read_by s in
     let within = stops.within in
     let rest = length-drop s.at x in
-    let text : since_last s ++ take stop.taken (drop s.at x) ≡ slice_range x s.last (s.at + stop.taken) = text-on x s.last s.at stop.taken ordered (omega arith) in
-    let there = subst (λ (l : List ℕ). IsLive s.built.dictionary false l after) (sym text) h in
+    let text : since_last s ++ take stop.taken (drop s.at x) ≡ slice_range x s.last (s.at + stop.taken) =
+    text-on x s.last s.at stop.taken ordered (omega arith) in
+    let there = subst (λ l. IsLive s.built.dictionary false l after) (sym text) h in
     let run = stops.cost (since_last s) before after here g there in
     let long : length (take stop.taken (drop s.at x)) ≡ stop.taken = length-take-le stop.taken (drop s.at x) within in
-    subst (λ (n : ℕ). IsLookups s.built.deterministic n (live_len (since_last s) before) (live_len (slice_range x s.last (s.at + stop.taken)) after) y z) long
-    (subst (λ (l : List ℕ). IsLookups s.built.deterministic (length (take stop.taken (drop s.at x))) (live_len (since_last s) before) (live_len l after) y z) text run)
+    subst (λ n. IsLookups s.built.deterministic n (live_len (since_last s) before)
+    (live_len (slice_range x s.last (s.at + stop.taken)) after) y z) long
+    (subst (λ l. IsLookups s.built.deterministic (length (take stop.taken (drop s.at x)))
+    (live_len (since_last s) before) (live_len l after) y z) text run)
 
 -- after more looks, all are still paid for
-pub paid-on : (deterministic : Bool) (looked live at again n more : ℕ) (y z : Steps) → looked + live ≤ 2 * (at + again) → at ≤ looked → (IsTrue deterministic → looked ≤ at + again) → IsLookups deterministic n live more y z
-    → (looked + (z.looked.value - y.looked.value) + more ≤ 2 * (at + n + again)) × (at + n ≤ looked + (z.looked.value - y.looked.value)) × (IsTrue deterministic → looked + (z.looked.value - y.looked.value) ≤ at + n + again)
+pub paid-on : (deterministic : Bool) (looked live at again n more : ℕ) (y z : Steps) → looked + live ≤ 2 * (at + again)
+    → at ≤ looked → (IsTrue deterministic → looked ≤ at + again) → IsLookups deterministic n live more y z
+    → (looked + (z.looked.value - y.looked.value) + more ≤ 2 * (at + n + again))
+    × (at + n ≤ looked + (z.looked.value - y.looked.value))
+    × (IsTrue deterministic → looked + (z.looked.value - y.looked.value) ≤ at + n + again)
 paid-on deterministic looked live at again n more y z paid some one run =
     let bound = run.bound in
     let least = run.some in
     (omega arith, omega arith, λ d. let e = one d in let f = run.one d in omega arith)
 
 -- the state in which reading on stopped was reached by the bytes since the last match
-pub reads-on : (s : StreamProgress) (Reaches : Anchored → List ℕ → StateID → Type 0) (sid : StateID) (stop : Advance) (y z : Steps)
+pub reads-on : (s : StreamProgress Picks) (Reaches : Anchored → List ℕ → StateID → Type 0) (sid : StateID)
+    (stop : Advance) (y z : Steps)
     → s.last ≤ s.at
     → Reaches No (since_last s) sid
     → ReadsOver s.built Reaches sid (drop s.at (read_by s)) stop y z
@@ -174,7 +195,8 @@ pub reads-on : (s : StreamProgress) (Reaches : Anchored → List ℕ → StateID
 reads-on s Reaches sid stop y z ordered here stops =
     let within = stops.within in
     let rest = length-drop s.at (read_by s) in
-    subst (λ (l : List ℕ). Reaches No l stop.sid) (text-on (read_by s) s.last s.at stop.taken ordered (omega arith)) (stops.reads (since_last s) here)
+    subst (λ l. Reaches No l stop.sid) (text-on (read_by s) s.last s.at stop.taken ordered (omega arith))
+    (stops.reads (since_last s) here)
 
 -- ---- to the end
 
@@ -184,17 +206,24 @@ live-empty x at None = refl
 live-empty x at (Some from) = let empty = ap length (part-empty x at) in omega arith
 
 -- where no pattern is empty, an empty text has no match
-pub nothing-in_empty : (m : Dictionary) (text : List ℕ) → 1 ≤ shortest m.patterns → text ≡ [] → IsBest Standard (whole m text false) None
-nothing-in_empty m text filled empty = λ q h. let w = h.within in let lt = occurs-not_empty (whole m text false) q (omega arith) filled h in absurd (omega (arith, ap length empty))
+pub nothing-in_empty : (m : Dictionary) (text : List ℕ) → 1 ≤ shortest m.patterns → text ≡ []
+    → IsBest Standard (whole m text false) None
+nothing-in_empty m text filled empty = λ q h. let w = h.within in let lt = occurs-some (omega arith) filled h in
+    absurd (omega (arith, ap length empty))
 
 -- where no match is waiting, the bytes since the search last began anew hold no match
-pub none-quiet : (s : StreamProgress) (Reaches : List ℕ → StateID → Type 0) (start sid : StateID) → StandsInState Reaches s start sid None → IsBest s.built.dictionary.kind (whole s.built.dictionary (since_last s) false) None
-none-quiet s Reaches start sid stands = subst (λ (r : Option Occurrence). IsBest s.built.dictionary.kind (whole s.built.dictionary (since_last s) false) r) (unshifted-none s.last stands.found (sym stands.kept)) stands.told
+pub none-quiet : (s : StreamProgress Picks) (Reaches : List ℕ → StateID → Type 0) (start sid : StateID)
+    → StandsInState Reaches s start sid None
+    → IsBest s.built.dictionary.kind (whole s.built.dictionary (since_last s) false) None
+none-quiet s Reaches start sid stands =
+    subst (λ r. IsBest s.built.dictionary.kind (whole s.built.dictionary (since_last s) false) r)
+    (unshifted-none s.last stands.found (sym stands.kept)) stands.told
 
 -- All that is held was searched, and nothing was found.
-module _ (s : StreamProgress) (Reaches : Anchored → List ℕ → StateID → Type 0) (matches : StateID → List ℕ) (start sid : StateID) (stop : Advance) (y z : Steps)
-    (tells : (text : List ℕ) (state : StateID) → Reaches No text state → Tells s.built.dictionary No text (matches state))
-    (lives : (text : List ℕ) (state : StateID) → Reaches No text state → (live : Option ℕ) × IsLive s.built.dictionary false text live)
+module _ (s : StreamProgress Picks) (Reaches : Anchored → List ℕ → StateID → Type 0) (matches : StateID → List ℕ)
+    (start sid : StateID) (stop : Advance) (y z : Steps)
+    (tells : (text : List ℕ) (state : StateID) → Reaches No text state
+    → Tells s.built.dictionary No text (matches state))
     (stands : StandsInState (Reaches No) s start sid None)
     (stops : StopsAtMatch s.built Reaches matches sid (drop s.at (read_by s)) stop false y z) where
   abbrev m : Dictionary
@@ -214,80 +243,101 @@ module _ (s : StreamProgress) (Reaches : Anchored → List ℕ → StateID → T
 
   -- all bytes read so far were searched
   all : to ≡ length (read_by s)
-  all = let rest = length-drop s.at (read_by s) in let within = stops.within in let inside = stands.course.ordered.1 in omega (arith, (stops.none refl).0)
+  all = let rest = length-drop s.at (read_by s) in let within = stops.within in let inside = stands.course.ordered.1 in
+      omega (arith, (stops.none refl).0)
 
   -- the state was reached by these bytes
   reads : Reaches No since stop.sid
-  reads = reads-on s Reaches sid stop y z stands.course.ordered.0 stands.reads (stops-over s.built Reaches matches sid (drop s.at (read_by s)) stop false y z stops)
+  reads = reads-on s Reaches sid stop y z stands.course.ordered.0 stands.reads (stops-over stops)
 
   -- these bytes hold no match
   since-quiet : IsBest m.kind (whole m since false) None
   since-quiet =
       let ordered = stands.course.ordered.0 in
       let end = all in
-      best-stays stop.taken m (read_by s) s.last s.at None stands.inverse ordered (omega arith) (λ standard. refl)
+      best-stays stop.taken m (read_by s) s.last s.at None ordered (omega arith) (λ standard. refl)
       (λ k lt le. ⊎_elim
       (λ (before : k < to). tells-on s Reaches matches sid stop false y z tells ordered stands.reads stops k lt before)
       (λ (there : to ≤ k).
       let same : to ≡ k = omega arith in
-      subst (λ (n : ℕ). Tells m No (slice_range (read_by s) s.last n) []) same (subst (λ (ns : List ℕ). Tells m No since ns) (stops.none refl).1 (tells since stop.sid reads)))
+      subst (λ n. Tells m No (slice_range (read_by s) s.last n) []) same
+      (subst (λ ns. Tells m No since ns) (stops.none refl).1 (tells since stop.sid reads)))
       (cases_lt k to))
       (none-quiet s (Reaches No) start sid stands)
 
   -- these bytes aren't dead
   since-alive : (live : ℕ) × IsLive m false since (Some live)
-  since-alive = let after = lives since stop.sid reads in alive-none m since after.0 since-quiet after.1
+  since-alive = let after = live-some in alive-none m since after.0 since-quiet after.1
 
   -- no match was returned since, so no more bytes may be read again
   same-again : read_again m 0 (length (s.given ++ [])) ≡ read_again m 0 (length s.given)
-  same-again = ap (λ (os : List Occurrence). read_again m 0 (length os)) (append-nil s.given)
+  same-again = ap (λ os. read_again m 0 (length os)) (append-nil s.given)
 
   -- all that looking so far has cost is paid for
-  paid : (live : Option ℕ) → IsLive m false since live → (s.looked + looks + live_len since live ≤ 2 * (to + read_again m 0 (length s.given))) × (to ≤ s.looked + looks) × (IsTrue s.built.deterministic → s.looked + looks ≤ to + read_again m 0 (length s.given))
+  paid : (live : Option ℕ) → IsLive m false since live
+      → (s.looked + looks + live_len since live ≤ 2 * (to + read_again m 0 (length s.given))) × (to ≤ s.looked + looks)
+      × (IsTrue s.built.deterministic → s.looked + looks ≤ to + read_again m 0 (length s.given))
   paid live is =
-      let before = lives (since_last s) sid stands.reads in
+      let before = live-some in
       let sums = stands.lookups before.0 before.1 in
-      paid-on s.built.deterministic s.looked (live_len (since_last s) before.0) s.at (read_again m 0 (length s.given)) stop.taken (live_len since live) y z sums.0 sums.1 sums.2
-      (cost-on s Reaches sid stop y z before.0 live stands.course.ordered.0 stands.reads (stops-over s.built Reaches matches sid (drop s.at (read_by s)) stop false y z stops) before.1 is)
+      paid-on s.built.deterministic s.looked (live_len (since_last s) before.0) s.at (read_again m 0 (length s.given))
+      stop.taken (live_len since live) y z sums.0 sums.1 sums.2
+      (cost-on s Reaches sid stop y z before.0 live stands.course.ordered.0 stands.reads (stops-over stops) before.1 is)
 
   -- the looks are all that was done
   done : Done looks 0 0 y z
   done =
-      let before = lives (since_last s) sid stands.reads in
-      let after = lives since stop.sid reads in
-      looks-done s.built.deterministic stop.taken _ _ y z (cost-on s Reaches sid stop y z before.0 after.0 stands.course.ordered.0 stands.reads (stops-over s.built Reaches matches sid (drop s.at (read_by s)) stop false y z stops) before.1 after.1)
+      let before = live-some in
+      let after = live-some in
+      looks-done s.built.deterministic stop.taken _ _ y z
+      (cost-on s Reaches sid stop y z before.0 after.0 stands.course.ordered.0 stands.reads (stops-over stops) before.1
+      after.1)
 
   -- all matches were returned
   given : s.given ++ [] ≡ matches_in s.built (read_by s)
   given =
       let ordered = stands.course.ordered.0 in
       let end = all in
-      append-nil s.given ∙ all-given s (omega arith) (subst (λ (n : ℕ). IsBest m.kind (whole m (slice_range (read_by s) s.last n) false) None) all since-quiet) stands.goes
+      append-nil s.given ∙ all-given s (omega arith)
+      (subst (λ n. IsBest m.kind (whole m (slice_range (read_by s) s.last n) false) None) all since-quiet) stands.goes
 
   -- there is no further match in what was read
-  none-finds : (sid' : StateID) (last : ℕ) → s.last ≤ last → (NothingIsLive m since → last ≡ to) → FindsHeld s None (after_search s (record { progress = record { sid = sid'; from = s.from; at = to; last = last; best = None; closed = s.closed }; found = None }) looks)
+  none-finds : (sid' : StateID) (last : ℕ) → s.last ≤ last → (NothingIsLive m since → last ≡ to)
+      → FindsHeld s None
+      (after_search s
+      (record {
+        progress = record { sid = sid'; from = s.from; at = to; last = last; best = None; closed = s.closed };
+        found = None;
+      }) looks)
   none-finds sid' last later anew =
       let course = stands.course in
       let ordered = course.ordered.0 in
       let end = all in
       let live = since-alive.0 in
-      let alive : IsLive m false (slice_range (read_by s) s.last (length (read_by s))) (Some live) = subst (λ (n : ℕ). IsLive m false (slice_range (read_by s) s.last n) (Some live)) all since-alive.1 in
+      let alive : IsLive m false (slice_range (read_by s) s.last (length (read_by s))) (Some live) =
+      subst (λ n. IsLive m false (slice_range (read_by s) s.last n) (Some live)) all since-alive.1 in
       let same = sym (append-nil s.given) in (
         record { on = λ standard. omega arith; last = later; closed = refl; built = refl; pieces = refl; from = refl },
         append-nil s.given,
         λ countable. record {
           searched = all;
           all = λ each. given;
-          open_ = subst (λ (os : List Occurrence). ¬ IsLive m false (drop (end_of os) (read_by s)) None) same (given-open s live course.decided course.filled course.ended (omega arith) alive);
+          open_ = subst (λ os. ¬ IsLive m false (drop (end_of os) (read_by s)) None) same
+              (given-open s live course.decided course.filled course.ended (omega arith) alive);
           anew = λ nothing. anew
-              (subst (λ (n : ℕ). NothingIsLive m (slice_range (read_by s) s.last n)) (sym all)
+              (subst (λ n. NothingIsLive m (slice_range (read_by s) s.last n)) (sym all)
               (given-anew s live course.decided course.filled course.ended (omega arith) alive
-              (subst (λ (os : List Occurrence). NothingIsLive m (drop (end_of os) (read_by s))) (append-nil s.given) nothing)));
+              (subst (λ os. NothingIsLive m (drop (end_of os) (read_by s))) (append-nil s.given) nothing)));
         },
       )
 
   -- Something is still live: the search goes on in the state that it came to.
-  pub search-none : ¬ NothingIsLive m since → SearchesOn (Reaches No) s start (record { progress = record { sid = stop.sid; from = s.from; at = to; last = s.last; best = None; closed = s.closed }; found = None }) y z
+  pub search-none : ¬ NothingIsLive m since
+      → SearchesOn (Reaches No) s start
+      (record {
+        progress = record { sid = stop.sid; from = s.from; at = to; last = s.last; best = None; closed = s.closed };
+        found = None;
+      }) y z
   search-none live =
       let course = stands.course in
       let ordered = course.ordered.0 in
@@ -295,20 +345,34 @@ module _ (s : StreamProgress) (Reaches : Anchored → List ℕ → StateID → T
       let ended = course.ended in
       let end = all in
       let again = same-again in
-      let t : StreamProgress = after_search s (record { progress = record { sid = stop.sid; from = s.from; at = to; last = s.last; best = None; closed = s.closed }; found = None }) looks in
-      let goes : ContinuesWalk t = subst (λ (l : List Occurrence). ContinuesWalk (record t { given = l })) (sym (append-nil s.given)) stands.goes in
+      let t : StreamProgress Picks = after_search s
+      (record {
+        progress = record { sid = stop.sid; from = s.from; at = to; last = s.last; best = None; closed = s.closed };
+        found = None;
+      }) looks in
+      let goes : ContinuesWalk t =
+      subst (λ l. ContinuesWalk (record t { given = l })) (sym (append-nil s.given)) stands.goes in
       record {
         looks = looks;
         done = done;
         closed = refl;
         from = refl;
         finds = none-finds stop.sid s.last (omega arith) (λ nothing. absurd (live nothing));
-        stands = stands-from (Reaches No) t start stop.sid None None since-alive.0 course.unclosed course.filled (omega arith) (omega arith) (omega (arith, ap end_of (append-nil s.given))) (omega arith) (omega arith) kept.2 course.short course.paid.scanned course.paid.moved stands.begins reads
-            refl since-quiet (λ standard. refl) stands.inverse since-alive.1 goes (λ one is. let sums = paid one is in (omega arith, sums.1, λ d. let e = sums.2 d in omega arith));
+        stands = stands-from (Reaches No) t start stop.sid None None since-alive.0 course.unclosed course.filled
+            (omega arith) (omega arith) (omega (arith, ap end_of (append-nil s.given))) (omega arith) (omega arith)
+            kept.2
+            course.short course.paid.scanned course.paid.moved stands.begins reads
+            refl since-quiet (λ standard. refl) since-alive.1 goes
+            (λ one is. let sums = paid one is in (omega arith, sums.1, λ d. let e = sums.2 d in omega arith));
       }
 
   -- Nothing is live: the search begins anew.
-  pub search-anew : NothingIsLive m since → SearchesOn (Reaches No) s start (record { progress = record { sid = start; from = s.from; at = to; last = to; best = None; closed = s.closed }; found = None }) y z
+  pub search-anew : NothingIsLive m since
+      → SearchesOn (Reaches No) s start
+      (record {
+        progress = record { sid = start; from = s.from; at = to; last = to; best = None; closed = s.closed };
+        found = None;
+      }) y z
   search-anew live =
       let course = stands.course in
       let ordered = course.ordered.0 in
@@ -318,48 +382,65 @@ module _ (s : StreamProgress) (Reaches : Anchored → List ℕ → StateID → T
       let again = same-again in
       let x = read_by s in
       let empty = part-empty x to in
-      let begins : Reaches No (slice_range x to to) start = subst (λ (l : List ℕ). Reaches No l start) (sym empty) stands.begins in
+      let begins : Reaches No (slice_range x to to) start = subst (λ l. Reaches No l start) (sym empty) stands.begins in
       let sums = paid (Some (length since)) live in
-      let t : StreamProgress = after_search s (record { progress = record { sid = start; from = s.from; at = to; last = to; best = None; closed = s.closed }; found = None }) looks in
+      let t : StreamProgress Picks = after_search s
+      (record {
+        progress = record { sid = start; from = s.from; at = to; last = to; best = None; closed = s.closed };
+        found = None;
+      }) looks in
       let nothing = nothing-in_empty m (slice_range x to to) course.filled empty in
-      let one = lives (slice_range x to to) start begins in
+      let one = live-some in
       let alive = alive-none m (slice_range x to to) one.0 nothing one.1 in
-      let goes : ContinuesWalk t = goes-anew (record t { last = s.last }) stands.inverse course.filled (omega arith) (omega arith) since-quiet live (subst (λ (l : List Occurrence). ContinuesWalk (record t { given = l; last = s.last })) (sym (append-nil s.given)) stands.goes) in
+      let goes : ContinuesWalk t = goes-anew (record t { last = s.last }) course.filled (omega arith) (omega arith)
+      since-quiet live
+      (subst (λ l. ContinuesWalk (record t { given = l; last = s.last })) (sym (append-nil s.given)) stands.goes) in
       record {
         looks = looks;
         done = done;
         closed = refl;
         from = refl;
         finds = none-finds start to (omega arith) (λ none. refl);
-        stands = stands-from (Reaches No) t start start None None alive.0 course.unclosed course.filled (omega arith) (omega arith) (omega (arith, ap end_of (append-nil s.given))) (omega arith) (omega arith) kept.2 course.short course.paid.scanned course.paid.moved stands.begins begins
-            refl nothing (λ standard. refl) stands.inverse alive.1 goes
+        stands = stands-from (Reaches No) t start start None None alive.0 course.unclosed course.filled (omega arith)
+            (omega arith) (omega (arith, ap end_of (append-nil s.given))) (omega arith) (omega arith) kept.2
+            course.short
+            course.paid.scanned course.paid.moved stands.begins begins
+            refl nothing (λ standard. refl) alive.1 goes
             (λ one is. let zero = live-empty x to one in (omega arith, sums.1, λ d. let e = sums.2 d in omega arith));
       }
 
 -- ---- to a match
 
 -- a state with a nonempty list has a match in the text
-pub told-some : (m : Dictionary) (x ns : List ℕ) (last at : ℕ) → Tells m No (slice_range x last at) ns → ns ≢ [] → ¬ IsBest m.kind (whole m (slice_range x last at) false) None
+pub told-some : (m : Dictionary) (x ns : List ℕ) (last at : ℕ) → Tells m No (slice_range x last at) ns → ns ≢ []
+    → ¬ IsBest m.kind (whole m (slice_range x last at) false) None
 told-some m x [] last at tells some quiet = some refl
-told-some m x (n ∷ ns) last at tells some quiet = quiet (ending m (slice_range x last at) n) (told-first_occurs m.kind m (slice_range x last at) (n ∷ ns) n tells refl)
+told-some m x (n ∷ ns) last at tells some quiet =
+    quiet (ending m (slice_range x last at) n)
+    (told-first_occurs m.kind m (slice_range x last at) (n ∷ ns) n tells refl)
 
 -- a match was found among the bytes that are held
-pub found-held : (s : StreamProgress) (b o : Occurrence) (to : ℕ) → IsOnCourse s → s.from ≤ o.start → (s.built.dictionary.kind ≡ Standard → s.at < o.end) → s.last ≤ to → to ≤ length (read_by s) → Occurs (whole s.built.dictionary (slice_range (read_by s) s.last to) false) b → shifted s.last b ≡ o → IsHeldMatch s o
+pub found-held : (s : StreamProgress Picks) (b o : Occurrence) (to : ℕ) → IsOnCourse s → s.from ≤ o.start
+    → (s.built.dictionary.kind ≡ Standard → s.at < o.end) → s.last ≤ to → to ≤ length (read_by s)
+    → Occurs (whole s.built.dictionary (slice_range (read_by s) s.last to) false) b → shifted s.last b ≡ o
+    → IsHeldItem s o
 found-held s b o to course held new le inside occurs is =
     let m = s.built.dictionary in
-    let some = occurs-not_empty (whole m (slice_range (read_by s) s.last to) false) b (omega arith) course.filled occurs in
-    let long = slice_range-length (read_by s) s.last to le inside in
+    let some = occurs-some (omega arith) course.filled occurs in
+    let long = slice_range-length (read_by s) s.last le inside in
     let within = occurs.within in
-    let start : s.last + b.start ≡ o.start = ap (λ (q : Occurrence). q.start) is in
-    let end : s.last + b.end ≡ o.end = ap (λ (q : Occurrence). q.end) is in
-    let number : b.pattern ≡ o.pattern = ap (λ (q : Occurrence). q.pattern) is in
+    let start : s.last + b.start ≡ o.start = ap (λ q. q.start) is in
+    let end : s.last + b.end ≡ o.end = ap (λ q. q.end) is in
+    let number : b.pattern ≡ o.pattern = ap (λ q. q.pattern) is in
     let known = slice_get_within m.patterns b.pattern occurs.same.0 occurs.same.1 in
+    let behind : s.last ≤ o.start = omega arith in
     record {
-      pattern = subst (λ (n : ℕ). n < length m.patterns) number known;
-      held = held;
-      behind = omega arith;
+      pattern = subst (λ n. n < length m.patterns) number known;
+      held = λ _. held;
+      behind = behind;
       some = omega arith;
-      new = new;
+      new = λ _. new;
+      past = λ e. absurd (picks≢occurrences e);
       within = omega arith;
     }
 
@@ -375,48 +456,61 @@ wait-none LeftmostLongest none = absurd (false≢true (sym none))
 
 -- under the standard kind no byte is read again
 pub again-standard : (m : Dictionary) (matches : ℕ) → m.kind ≡ Standard → read_again m 0 matches ≡ 0
-again-standard m matches standard = ap (λ (k : MatchKind). again_for k (longest m.patterns) 0 matches) standard
+again-standard m matches standard = ap (λ k. again_for k (longest m.patterns) 0 matches) standard
 
 -- as much once more
 again-more : (long matches : ℕ) → (long + 1) * (matches + 1) ≡ (long + 1) * matches + (long + 1)
-again-more long matches = let next : matches + 1 ≡ suc matches = omega arith in ap (λ (n : ℕ). (long + 1) * n) next ∙ mul-suc (long + 1) matches
+again-more long matches = let next : matches + 1 ≡ suc matches = omega arith in
+    ap (λ n. (long + 1) * n) next ∙ mul-suc (long + 1) matches
 
 -- under a leftmost kind each match lets as many bytes be read again as the longest pattern has, and one more
-pub again-leftmost : (kind : MatchKind) (long matches : ℕ) → kind ≢ Standard → again_for kind long 0 (matches + 1) ≡ again_for kind long 0 matches + (long + 1)
+pub again-leftmost : (kind : MatchKind) (long matches : ℕ) → kind ≢ Standard
+    → again_for kind long 0 (matches + 1) ≡ again_for kind long 0 matches + (long + 1)
 again-leftmost Standard long matches leftmost = absurd (leftmost refl)
 again-leftmost LeftmostFirst long matches leftmost = let next = again-more long matches in omega (arith, next)
 again-leftmost LeftmostLongest long matches leftmost = let next = again-more long matches in omega (arith, next)
 
 -- what may be read again, with one match more
-pub given-more : (m : Dictionary) (given : List Occurrence) (o : Occurrence) → read_again m 0 (length (given ++ o ∷ [])) ≡ read_again m 0 (length given + 1)
+pub given-more : (m : Dictionary) (given : List Occurrence) (o : Occurrence)
+    → read_again m 0 (length (given ++ o ∷ [])) ≡ read_again m 0 (length given + 1)
 given-more m given o = ap (read_again m 0) (length-append given (o ∷ []))
 
 -- A match is decided: it is the next one, whatever is still read. The search begins anew at its end.
-pub search-decided : (s : StreamProgress) (Reaches : List ℕ → StateID → Type 0) (start sid : StateID) (best : Option Occurrence) (o : Occurrence) (looks : ℕ) (y z : Steps)
+pub search-decided : (s : StreamProgress Picks) (Reaches : List ℕ → StateID → Type 0) (start sid : StateID)
+    (best : Option Occurrence) (o : Occurrence) (looks : ℕ) (y z : Steps)
     → StandsInState Reaches s start sid best
-    → ((text : List ℕ) (state : StateID) → Reaches text state → (live : Option ℕ) × IsLive s.built.dictionary false text live)
     → CanBeCounted (read_by s)
-    → IsHeldMatch s o
+    → IsHeldItem s o
     → ¬ AreAllGiven s
-    → ((more : List ℕ) → (s.closed ≡ true → more ≡ []) → IsPick s.built.dictionary.kind (whole s.built.dictionary (read_by s ++ more) false) s.last (Some s.last) (Some o))
+    → ((more : List ℕ) → (s.closed ≡ true → more ≡ [])
+    → IsPick s.built.dictionary.kind (whole s.built.dictionary (read_by s ++ more) false) s.last (Some s.last) (Some o))
     → Done looks 0 0 y z
     → s.looked + looks ≤ 2 * (o.end + read_again s.built.dictionary 0 (length s.given + 1))
     → o.end ≤ s.looked + looks
     → (IsTrue s.built.deterministic → s.looked + looks ≤ o.end + read_again s.built.dictionary 0 (length s.given + 1))
-    → SearchesOn Reaches s start (record { progress = record { sid = start; from = s.from; at = o.end; last = o.end; best = None; closed = s.closed }; found = Some o }) y z
-search-decided s Reaches start sid best o looks y z stands lives countable held open_ pick done bound some one =
+    → SearchesOn Reaches s start
+    (record {
+      progress = record { sid = start; from = s.from; at = o.end; last = o.end; best = None; closed = s.closed };
+      found = Some o;
+    }) y z
+search-decided s Reaches start sid best o looks y z stands countable held open_ pick done bound some one =
     let m = s.built.dictionary in
     let course = stands.course in
-    let behind = held.behind in
-    let from = held.held in
+    let behind : s.last ≤ o.start = held.behind in
+    let from = held.held refl in
     let filled = held.some in
     let within = held.within in
     let again = given-more m s.given o in
     let empty = part-empty (read_by s) o.end in
-    let t : StreamProgress = after_search s (record { progress = record { sid = start; from = s.from; at = o.end; last = o.end; best = None; closed = s.closed }; found = Some o }) looks in
-    let begins : Reaches (slice_range (read_by s) o.end o.end) start = subst (λ (l : List ℕ). Reaches l start) (sym empty) stands.begins in
+    let t : StreamProgress Picks = after_search s
+    (record {
+      progress = record { sid = start; from = s.from; at = o.end; last = o.end; best = None; closed = s.closed };
+      found = Some o;
+    }) looks in
+    let begins : Reaches (slice_range (read_by s) o.end o.end) start =
+    subst (λ l. Reaches l start) (sym empty) stands.begins in
     let nothing = nothing-in_empty m (slice_range (read_by s) o.end o.end) course.filled empty in
-    let live = lives (slice_range (read_by s) o.end o.end) start begins in
+    let live = live-some in
     let alive = alive-none m (slice_range (read_by s) o.end o.end) live.0 nothing live.1 in
     record {
       looks = looks;
@@ -424,7 +518,15 @@ search-decided s Reaches start sid best o looks y z stands lives countable held 
       closed = refl;
       from = refl;
       finds = (
-        record { on = λ standard. let new = held.new standard in omega arith; last = omega arith; closed = refl; built = refl; pieces = refl; from = refl },
+        record {
+          on = λ standard. let new = held.new refl standard in
+              omega arith;
+          last = omega arith;
+          closed = refl;
+          built = refl;
+          pieces = refl;
+          from = refl;
+        },
         refl,
         refl,
         refl,
@@ -432,16 +534,21 @@ search-decided s Reaches start sid best o looks y z stands lives countable held 
         countable,
         open_,
       );
-      stands = stands-from Reaches t start start None None alive.0 course.unclosed course.filled (omega arith) within (omega (arith, end_of-push s.given o)) (omega arith) (omega arith) course.kept.2 course.short course.paid.scanned course.paid.moved stands.begins begins
-          refl nothing (λ standard. refl) stands.inverse alive.1
+      stands = stands-from Reaches t start start None None alive.0 course.unclosed course.filled (omega arith) within
+          (omega (arith, end_of-push s.given o)) (omega arith) (omega arith) course.kept.2 course.short
+          course.paid.scanned
+          course.paid.moved stands.begins begins
+          refl nothing (λ standard. refl) alive.1
           (goes-match s o (s.looked + looks) stands.goes pick)
-          (λ one_live is. let none = live-empty (read_by s) o.end one_live in (omega arith, some, λ d. let e = one d in omega arith));
+          (λ one_live is. let none = live-empty (read_by s) o.end one_live in
+          (omega arith, some, λ d. let e = one d in omega arith));
     }
 
 -- What reading on to a match shows.
-module _ (s : StreamProgress) (Reaches : Anchored → List ℕ → StateID → Type 0) (matches : StateID → List ℕ) (start sid : StateID) (stop : Advance) (o : Occurrence) (y z : Steps)
-    (tells : (text : List ℕ) (state : StateID) → Reaches No text state → Tells s.built.dictionary No text (matches state))
-    (lives : (text : List ℕ) (state : StateID) → Reaches No text state → (live : Option ℕ) × IsLive s.built.dictionary false text live)
+module _ (s : StreamProgress Picks) (Reaches : Anchored → List ℕ → StateID → Type 0) (matches : StateID → List ℕ)
+    (start sid : StateID) (stop : Advance) (o : Occurrence) (y z : Steps)
+    (tells : (text : List ℕ) (state : StateID) → Reaches No text state
+    → Tells s.built.dictionary No text (matches state))
     (stands : StandsInState (Reaches No) s start sid None)
     (stops : StopsAtMatch s.built Reaches matches sid (drop s.at (read_by s)) stop true y z)
     (is : Some o ≡ option_map (ending_at s.built.dictionary (s.at + stop.taken)) (slice_get (matches stop.sid) 0)) where
@@ -455,11 +562,12 @@ module _ (s : StreamProgress) (Reaches : Anchored → List ℕ → StateID → T
 
   -- the place lies within the bytes read
   inside : there ≤ length (read_by s)
-  inside = let rest = length-drop s.at (read_by s) in let within = stops.within in let le = stands.course.ordered.1 in omega arith
+  inside = let rest = length-drop s.at (read_by s) in let within = stops.within in let le = stands.course.ordered.1 in
+      omega arith
 
   -- the state was reached by these bytes
   there-reads : Reaches No since_then stop.sid
-  there-reads = reads-on s Reaches sid stop y z stands.course.ordered.0 stands.reads (stops-over s.built Reaches matches sid (drop s.at (read_by s)) stop true y z stops)
+  there-reads = reads-on s Reaches sid stop y z stands.course.ordered.0 stands.reads (stops-over stops)
 
   -- at least one byte was read
   some-read : 0 < stop.taken
@@ -468,17 +576,24 @@ module _ (s : StreamProgress) (Reaches : Anchored → List ℕ → StateID → T
       (λ (le : stop.taken ≤ 0).
       let same : there ≡ s.at = omega (arith, le) in
       let nothing = none-quiet s (Reaches No) start sid stands in
-      absurd (told-some s.built.dictionary (read_by s) (matches stop.sid) s.last there (tells since_then stop.sid there-reads) (stops.there refl) (subst (λ (n : ℕ). IsBest s.built.dictionary.kind (whole s.built.dictionary (slice_range (read_by s) s.last n) false) None) (sym same) nothing)))
+      absurd (told-some s.built.dictionary (read_by s) (matches stop.sid) s.last there
+      (tells since_then stop.sid there-reads) (stops.there refl)
+      (subst (λ n. IsBest s.built.dictionary.kind (whole s.built.dictionary (slice_range (read_by s) s.last n) false)
+      None) (sym same) nothing)))
       (cases_lt 0 stop.taken)
 
   -- the match is the best of these bytes
-  met : (b : Occurrence) × IsBest s.built.dictionary.kind (whole s.built.dictionary since_then false) (Some b) × (shifted s.last b ≡ o) × (o.end ≡ there)
+  met : (b : Occurrence) × IsBest s.built.dictionary.kind (whole s.built.dictionary since_then false) (Some b)
+      × (shifted s.last b ≡ o) × (o.end ≡ there)
   met =
       let ordered = stands.course.ordered.0 in
       let within = inside in
-      let long = slice_range-length (read_by s) s.last there (omega arith) within in
+      let long = slice_range-length (read_by s) s.last {b = there} (omega arith) within in
       best-met s.built.dictionary since_then (matches stop.sid) s.last there None o (omega arith) (stops.there refl)
-      (best-told s.built.dictionary (read_by s) (matches stop.sid) s.last s.at there None stands.inverse ordered (omega (arith, some-read)) within (λ standard. refl) (tells-on s Reaches matches sid stop true y z tells ordered stands.reads stops) (tells since_then stop.sid there-reads) (none-quiet s (Reaches No) start sid stands))
+      (best-told s.built.dictionary (read_by s) (matches stop.sid) s.last s.at there None ordered
+      (omega (arith, some-read)) within (λ standard. refl)
+      (tells-on s Reaches matches sid stop true y z tells ordered stands.reads stops)
+      (tells since_then stop.sid there-reads) (none-quiet s (Reaches No) start sid stands))
       is
 
   -- how often it looked
@@ -487,23 +602,33 @@ module _ (s : StreamProgress) (Reaches : Anchored → List ℕ → StateID → T
 
   -- these looks are paid for
   met-paid : (live : Option ℕ) → IsLive s.built.dictionary false since_then live
-      → (s.looked + met-looks + live_len since_then live ≤ 2 * (there + read_again s.built.dictionary 0 (length s.given))) × (there ≤ s.looked + met-looks) × (IsTrue s.built.deterministic → s.looked + met-looks ≤ there + read_again s.built.dictionary 0 (length s.given))
+      → (s.looked + met-looks + live_len since_then live
+      ≤ 2 * (there + read_again s.built.dictionary 0 (length s.given))) × (there ≤ s.looked + met-looks)
+      × (IsTrue s.built.deterministic → s.looked + met-looks ≤ there + read_again s.built.dictionary 0 (length s.given))
   met-paid live alive =
-      let before = lives (since_last s) sid stands.reads in
+      let before = live-some in
       let sums = stands.lookups before.0 before.1 in
-      paid-on s.built.deterministic s.looked (live_len (since_last s) before.0) s.at (read_again s.built.dictionary 0 (length s.given)) stop.taken (live_len since_then live) y z sums.0 sums.1 sums.2
-      (cost-on s Reaches sid stop y z before.0 live stands.course.ordered.0 stands.reads (stops-over s.built Reaches matches sid (drop s.at (read_by s)) stop true y z stops) before.1 alive)
+      paid-on s.built.deterministic s.looked (live_len (since_last s) before.0) s.at
+      (read_again s.built.dictionary 0 (length s.given)) stop.taken (live_len since_then live) y z sums.0 sums.1 sums.2
+      (cost-on s Reaches sid stop y z before.0 live stands.course.ordered.0 stands.reads (stops-over stops) before.1
+      alive)
 
   -- the looks are all that was done
   pub met-done : Done met-looks 0 0 y z
   met-done =
-      let before = lives (since_last s) sid stands.reads in
-      let after = lives since_then stop.sid there-reads in
-      looks-done s.built.deterministic stop.taken _ _ y z (cost-on s Reaches sid stop y z before.0 after.0 stands.course.ordered.0 stands.reads (stops-over s.built Reaches matches sid (drop s.at (read_by s)) stop true y z stops) before.1 after.1)
+      let before = live-some in
+      let after = live-some in
+      looks-done s.built.deterministic stop.taken _ _ y z
+      (cost-on s Reaches sid stop y z before.0 after.0 stands.course.ordered.0 stands.reads (stops-over stops) before.1
+      after.1)
 
   -- Under the standard kind the match is decided.
   pub search-some : s.built.dictionary.kind ≡ Standard → CanBeCounted (read_by s)
-      → SearchesOn (Reaches No) s start (record { progress = record { sid = start; from = s.from; at = o.end; last = o.end; best = None; closed = s.closed }; found = Some o }) y z
+      → SearchesOn (Reaches No) s start
+      (record {
+        progress = record { sid = start; from = s.from; at = o.end; last = o.end; best = None; closed = s.closed };
+        found = Some o;
+      }) y z
   search-some standard countable =
       let m = s.built.dictionary in
       let x = read_by s in
@@ -514,60 +639,73 @@ module _ (s : StreamProgress) (Reaches : Anchored → List ℕ → StateID → T
       let kept = course.kept.0 in
       let read = some-read in
       let ends = best.3 in
-      let after = lives since_then stop.sid there-reads in
+      let after = live-some in
       let sums = met-paid after.0 after.1 in
       let none = again-standard m (length s.given) standard in
       let none_more = again-standard m (length s.given + 1) standard in
-      let bound = occurs-bound m false since_then best.0 best.1.0 in
-      let start_at : s.last + best.0.start ≡ o.start = ap (λ (q : Occurrence). q.start) best.2 in
-      let end_at : s.last + best.0.end ≡ o.end = ap (λ (q : Occurrence). q.end) best.2 in
+      let bound = occurs-bound m best.1.0 in
+      let start_at : s.last + best.0.start ≡ o.start = ap (λ q. q.start) best.2 in
+      let end_at : s.last + best.0.end ≡ o.end = ap (λ q. q.end) best.2 in
       let stays = λ (tail : List ℕ).
-      subst (λ (k : MatchKind). IsBest k (whole m (since_then ++ tail) false) (Some best.0)) (sym standard)
-      (standard-final m false since_then tail best.0 (subst (λ (k : MatchKind). IsBest k (whole m since_then false) (Some best.0)) standard best.1)) in
-      search-decided s (Reaches No) start sid None o met-looks y z stands lives countable
+      subst (λ k. IsBest k (whole m (since_then ++ tail) false) (Some best.0)) (sym standard)
+      (standard-final m tail (subst (λ k. IsBest k (whole m since_then false) (Some best.0)) standard best.1)) in
+      search-decided s (Reaches No) start sid None o met-looks y z stands countable
       (found-held s best.0 o there course (omega arith) (λ e. omega arith) (omega arith) within best.1.0 best.2)
       (λ given. let searched = given.searched in omega arith)
-      (λ more follows. subst (λ (q : Occurrence). IsPick m.kind (whole m (x ++ more) false) s.last (Some s.last) (Some q)) best.2 (pick-since m x more s.last there best.0 (omega arith) within course.filled stays))
+      (λ more follows. subst (λ q. IsPick m.kind (whole m (x ++ more) false) s.last (Some s.last) (Some q)) best.2
+      (pick-since m x more s.last there best.0 (omega arith) within course.filled stays))
       met-done (omega arith) (omega arith) (λ d. let e = sums.2 d in omega arith)
 
   -- Under a leftmost kind the match waits to be decided.
-  pub search-met : s.built.dictionary.kind ≢ Standard → (live : ℕ) → IsLive s.built.dictionary false since_then (Some live) → StandsInState (Reaches No) (waits s there met-looks) start stop.sid (Some o)
+  pub search-met : s.built.dictionary.kind ≢ Standard → (live : ℕ)
+      → IsLive s.built.dictionary false since_then (Some live)
+      → StandsInState (Reaches No) (waits s there met-looks) start stop.sid (Some o)
   search-met leftmost live alive =
       let best = met in
       let course = stands.course in
       let ordered = course.ordered.0 in
       let within = inside in
       let kept = course.kept in
-      stands-from (Reaches No) (waits s there met-looks) start stop.sid (Some o) (Some best.0) live course.unclosed course.filled (omega arith) within course.ended (omega arith) (omega arith) kept.2 course.short course.paid.scanned course.paid.moved stands.begins there-reads
-      (ap Some (sym best.2)) best.1 (λ standard. absurd (leftmost standard)) stands.inverse alive stands.goes
+      stands-from (Reaches No) (waits s there met-looks) start stop.sid (Some o) (Some best.0) live course.unclosed
+      course.filled (omega arith) within course.ended (omega arith) (omega arith) kept.2 course.short
+      course.paid.scanned course.paid.moved stands.begins there-reads
+      (ap Some (sym best.2)) best.1 (λ standard. absurd (leftmost standard)) alive stands.goes
       (λ one is_one. met-paid one is_one)
 
 -- ---- in terms of the fields that a search keeps
 
 -- the fields that a search keeps are those of its progress
-pub progress-same : (s : StreamProgress) (p : Progress) → p.closed ≡ s.closed → p.from ≡ s.from → p.at ≡ s.at → p.last ≡ s.last → record { sid = p.sid; from = s.from; at = s.at; last = s.last; best = p.best; closed = s.closed } ≡ p
-progress-same s p c f a l = λ i. record { sid = p.sid; from = sym f i; at = sym a i; last = sym l i; best = p.best; closed = sym c i }
+pub progress-same : (s : StreamProgress Picks) (p : Progress) → p.closed ≡ s.closed → p.from ≡ s.from → p.at ≡ s.at
+    → p.last ≡ s.last
+    → record { sid = p.sid; from = s.from; at = s.at; last = s.last; best = p.best; closed = s.closed } ≡ p
+progress-same s p c f a l =
+    λ i. record { sid = p.sid; from = sym f i; at = sym a i; last = sym l i; best = p.best; closed = sym c i }
 
 -- where the search stands, if no match is waiting
-stands-none : (b : Built) (s : StreamProgress) (Reaches : List ℕ → StateID → Type 0) (start : StateID) (p : Progress) (held : List ℕ) → IsHeldAt b Reaches s start p held → p.best ≡ None → StandsInState Reaches s start p.sid None
-stands-none b s Reaches start p held is none = subst (λ (r : Option Occurrence). StandsInState Reaches s start p.sid r) none is.stands
+stands-none : (b : Built) (s : StreamProgress Picks) (Reaches : List ℕ → StateID → Type 0) (start : StateID)
+    (p : Progress) (held : List ℕ) → IsHeldAt b Reaches s start p held → p.best ≡ None
+    → StandsInState Reaches s start p.sid None
+stands-none b s Reaches start p held is none = subst (λ r. StandsInState Reaches s start p.sid r) none is.stands
 
-module _ (b : Built) (s : StreamProgress) (Reaches : Anchored → List ℕ → StateID → Type 0) (matches : StateID → List ℕ) (start : StateID) (p : Progress) (held : List ℕ) (stop : Advance) (matched : Bool) (y z : Steps)
+module _ (b : Built) (s : StreamProgress Picks) (Reaches : Anchored → List ℕ → StateID → Type 0)
+    (matches : StateID → List ℕ) (start : StateID) (p : Progress) (held : List ℕ) (stop : Advance) (matched : Bool)
+    (y z : Steps)
     (tells : (text : List ℕ) (state : StateID) → Reaches No text state → Tells b.dictionary No text (matches state))
-    (lives : (text : List ℕ) (state : StateID) → Reaches No text state → (live : Option ℕ) × IsLive b.dictionary false text live)
     (is : IsHeldAt b (Reaches No) s start p held)
     (open_ : p.best ≡ None)
     (stops : StopsAtMatch b Reaches matches p.sid (drop (p.at - p.from) held) stop matched y z) where
-  pub tells-here : (text : List ℕ) (state : StateID) → Reaches No text state → Tells s.built.dictionary No text (matches state)
-  tells-here = subst (λ (d : Built). (text : List ℕ) (state : StateID) → Reaches No text state → Tells d.dictionary No text (matches state)) (sym is.built) tells
-
-  pub lives-here : (text : List ℕ) (state : StateID) → Reaches No text state → (live : Option ℕ) × IsLive s.built.dictionary false text live
-  lives-here = subst (λ (d : Built). (text : List ℕ) (state : StateID) → Reaches No text state → (live : Option ℕ) × IsLive d.dictionary false text live) (sym is.built) lives
+  pub tells-here : (text : List ℕ) (state : StateID) → Reaches No text state
+      → Tells s.built.dictionary No text (matches state)
+  tells-here =
+      subst (λ d. (text : List ℕ) (state : StateID) → Reaches No text state
+      → Tells d.dictionary No text (matches state)) (sym is.built) tells
 
   pub stops-here : StopsAtMatch s.built Reaches matches p.sid (drop s.at (read_by s)) stop matched y z
   stops-here =
-      let rest : drop (p.at - p.from) held ≡ drop s.at (read_by s) = rest-held (read_by s) held s.from s.at p.from p.at is.from is.at is.bytes is.stands.course.kept.1 in
-      subst (λ (d : Built). StopsAtMatch d Reaches matches p.sid (drop s.at (read_by s)) stop matched y z) (sym is.built) (subst (λ (l : List ℕ). StopsAtMatch b Reaches matches p.sid l stop matched y z) rest stops)
+      let rest : drop (p.at - p.from) held ≡ drop s.at (read_by s) =
+      rest-held (read_by s) held s.from s.at p.from p.at is.from is.at is.bytes is.stands.course.kept.1 in
+      subst (λ d. StopsAtMatch d Reaches matches p.sid (drop s.at (read_by s)) stop matched y z) (sym is.built)
+      (subst (λ l. StopsAtMatch b Reaches matches p.sid l stop matched y z) rest stops)
 
   pub stands-here : StandsInState (Reaches No) s start p.sid None
   stands-here = stands-none b s (Reaches No) start p held is open_
@@ -578,59 +716,132 @@ module _ (b : Built) (s : StreamProgress) (Reaches : Anchored → List ℕ → S
 
   -- these bytes lead to the state
   pub searched-reads : Reaches No searched-text stop.sid
-  searched-reads = reads-on s Reaches p.sid stop y z is.stands.course.ordered.0 is.stands.reads (stops-over s.built Reaches matches p.sid (drop s.at (read_by s)) stop matched y z stops-here)
+  searched-reads = reads-on s Reaches p.sid stop y z is.stands.course.ordered.0 is.stands.reads (stops-over stops-here)
 
   -- the state was reached
   pub searched-state : IsState Reaches stop.sid
   searched-state = ∣ (No, searched-text, searched-reads) ∣₁
 
   -- the match of the state, where the search stands
-  pub found-here : (o : Occurrence) → Some o ≡ option_map (ending_at b.dictionary (p.at + stop.taken)) (slice_get (matches stop.sid) 0) → Some o ≡ option_map (ending_at s.built.dictionary (s.at + stop.taken)) (slice_get (matches stop.sid) 0)
+  pub found-here : (o : Occurrence)
+      → Some o ≡ option_map (ending_at b.dictionary (p.at + stop.taken)) (slice_get (matches stop.sid) 0)
+      → Some o ≡ option_map (ending_at s.built.dictionary (s.at + stop.taken)) (slice_get (matches stop.sid) 0)
   found-here o found =
-      subst (λ (d : Built). Some o ≡ option_map (ending_at d.dictionary (s.at + stop.taken)) (slice_get (matches stop.sid) 0)) (sym is.built)
-      (subst (λ (n : ℕ). Some o ≡ option_map (ending_at b.dictionary (n + stop.taken)) (slice_get (matches stop.sid) 0)) is.at found)
+      subst (λ d. Some o ≡ option_map (ending_at d.dictionary (s.at + stop.taken)) (slice_get (matches stop.sid) 0))
+      (sym is.built)
+      (subst (λ n. Some o ≡ option_map (ending_at b.dictionary (n + stop.taken)) (slice_get (matches stop.sid) 0)) is.at
+      found)
 
   -- nothing was found, and something is still live
   pub searches-none : matched ≡ false → ((text : List ℕ) → Reaches No text stop.sid → ¬ NothingIsLive b.dictionary text)
-      → SearchesOn (Reaches No) s start (record { progress = record { sid = stop.sid; from = p.from; at = p.at + stop.taken; last = p.last; best = None; closed = p.closed }; found = None }) y z
+      → SearchesOn (Reaches No) s start
+      (record {
+        progress =
+            record {
+              sid = stop.sid;
+              from = p.from;
+              at = p.at + stop.taken;
+              last = p.last;
+              best = None;
+              closed = p.closed;
+            };
+        found = None;
+      }) y z
   searches-none none some =
       let live = some searched-text searched-reads in
-      subst (λ (q : Progress). SearchesOn (Reaches No) s start (record { progress = record { sid = stop.sid; from = q.from; at = q.at + stop.taken; last = q.last; best = None; closed = q.closed }; found = None }) y z) (progress-same s p is.closed is.from is.at is.last)
-      (search-none s Reaches matches start p.sid stop y z tells-here lives-here stands-here (subst (λ (m : Bool). StopsAtMatch s.built Reaches matches p.sid (drop s.at (read_by s)) stop m y z) none stops-here) (subst (λ (d : Built). ¬ NothingIsLive d.dictionary searched-text) (sym is.built) live))
+      subst (λ q. SearchesOn (Reaches No) s start
+      (record {
+        progress =
+            record {
+              sid = stop.sid;
+              from = q.from;
+              at = q.at + stop.taken;
+              last = q.last;
+              best = None;
+              closed = q.closed;
+            };
+        found = None;
+      }) y z) (progress-same s p is.closed is.from is.at is.last)
+      (search-none s Reaches matches start p.sid stop y z tells-here stands-here
+      (subst (λ m. StopsAtMatch s.built Reaches matches p.sid (drop s.at (read_by s)) stop m y z) none stops-here)
+      (subst (λ d. ¬ NothingIsLive d.dictionary searched-text) (sym is.built) live))
 
   -- nothing was found, and nothing is live
   pub searches-anew : matched ≡ false → ((text : List ℕ) → Reaches No text stop.sid → NothingIsLive b.dictionary text)
-      → SearchesOn (Reaches No) s start (record { progress = record { sid = start; from = p.from; at = p.at + stop.taken; last = p.at + stop.taken; best = None; closed = p.closed }; found = None }) y z
+      → SearchesOn (Reaches No) s start
+      (record {
+        progress =
+            record {
+              sid = start;
+              from = p.from;
+              at = p.at + stop.taken;
+              last = p.at + stop.taken;
+              best = None;
+              closed = p.closed;
+            };
+        found = None;
+      }) y z
   searches-anew none dead =
       let live = dead searched-text searched-reads in
-      subst (λ (q : Progress). SearchesOn (Reaches No) s start (record { progress = record { sid = start; from = q.from; at = q.at + stop.taken; last = q.at + stop.taken; best = None; closed = q.closed }; found = None }) y z) (progress-same s p is.closed is.from is.at is.last)
-      (search-anew s Reaches matches start p.sid stop y z tells-here lives-here stands-here (subst (λ (m : Bool). StopsAtMatch s.built Reaches matches p.sid (drop s.at (read_by s)) stop m y z) none stops-here) (subst (λ (d : Built). NothingIsLive d.dictionary searched-text) (sym is.built) live))
+      subst (λ q. SearchesOn (Reaches No) s start
+      (record {
+        progress =
+            record {
+              sid = start;
+              from = q.from;
+              at = q.at + stop.taken;
+              last = q.at + stop.taken;
+              best = None;
+              closed = q.closed;
+            };
+        found = None;
+      }) y z) (progress-same s p is.closed is.from is.at is.last)
+      (search-anew s Reaches matches start p.sid stop y z tells-here stands-here
+      (subst (λ m. StopsAtMatch s.built Reaches matches p.sid (drop s.at (read_by s)) stop m y z) none stops-here)
+      (subst (λ d. NothingIsLive d.dictionary searched-text) (sym is.built) live))
 
   -- a match was found, under the standard kind
-  pub searches-some : matched ≡ true → b.dictionary.kind ≡ Standard → (o : Occurrence) → Some o ≡ option_map (ending_at b.dictionary (p.at + stop.taken)) (slice_get (matches stop.sid) 0) → SearchesOn (Reaches No) s start (searched_anew start p o) y z
+  pub searches-some : matched ≡ true → b.dictionary.kind ≡ Standard → (o : Occurrence)
+      → Some o ≡ option_map (ending_at b.dictionary (p.at + stop.taken)) (slice_get (matches stop.sid) 0)
+      → SearchesOn (Reaches No) s start (searched_anew start p o) y z
   searches-some some standard o found =
-      subst (λ (q : Progress). SearchesOn (Reaches No) s start (searched_anew start q o) y z) (progress-same s p is.closed is.from is.at is.last)
-      (search-some s Reaches matches start p.sid stop o y z tells-here lives-here stands-here (subst (λ (m : Bool). StopsAtMatch s.built Reaches matches p.sid (drop s.at (read_by s)) stop m y z) some stops-here) (found-here o found) (subst (λ (d : Built). d.dictionary.kind ≡ Standard) (sym is.built) standard) is.countable)
+      subst (λ q. SearchesOn (Reaches No) s start (searched_anew start q o) y z)
+      (progress-same s p is.closed is.from is.at is.last)
+      (search-some s Reaches matches start p.sid stop o y z tells-here stands-here
+      (subst (λ m. StopsAtMatch s.built Reaches matches p.sid (drop s.at (read_by s)) stop m y z) some stops-here)
+      (found-here o found) (subst (λ d. d.dictionary.kind ≡ Standard) (sym is.built) standard) is.countable)
 
 -- the bytes since the last match are no longer than the place where the search stands
-pub reached-text : (b : Built) (s : StreamProgress) (Reaches : Anchored → List ℕ → StateID → Type 0) (matches : StateID → List ℕ) (start : StateID) (p : Progress) (held : List ℕ) (stop : Advance) (y z : Steps)
+pub reached-text : (b : Built) (s : StreamProgress Picks) (Reaches : Anchored → List ℕ → StateID → Type 0)
+    (matches : StateID → List ℕ) (start : StateID) (p : Progress) (held : List ℕ) (stop : Advance) (y z : Steps)
     → IsHeldAt b (Reaches No) s start p held
     → StopsAtMatch b Reaches matches p.sid (drop (p.at - p.from) held) stop true y z
     → (text : List ℕ) × Reaches No text stop.sid × (length text ≤ p.at + stop.taken)
 reached-text b s Reaches matches start p held stop y z is stops =
-    let rest : drop (p.at - p.from) held ≡ drop s.at (read_by s) = rest-held (read_by s) held s.from s.at p.from p.at is.from is.at is.bytes is.stands.course.kept.1 in
-    let here : StopsAtMatch b Reaches matches p.sid (drop s.at (read_by s)) stop true y z = subst (λ (l : List ℕ). StopsAtMatch b Reaches matches p.sid l stop true y z) rest stops in
+    let rest : drop (p.at - p.from) held ≡ drop s.at (read_by s) =
+    rest-held (read_by s) held s.from s.at p.from p.at is.from is.at is.bytes is.stands.course.kept.1 in
+    let here : StopsAtMatch b Reaches matches p.sid (drop s.at (read_by s)) stop true y z =
+    subst (λ l. StopsAtMatch b Reaches matches p.sid l stop true y z) rest stops in
     let ordered = is.stands.course.ordered in
     let at = is.at in
     let within = here.within in
     let left = length-drop s.at (read_by s) in
-    let long = slice_range-length (read_by s) s.last (s.at + stop.taken) (omega (arith, ordered.0)) (omega (arith, ordered.1)) in
-    (slice_range (read_by s) s.last (s.at + stop.taken), subst (λ (l : List ℕ). Reaches No l stop.sid) (text-on (read_by s) s.last s.at stop.taken ordered.0 (omega arith)) (here.reads (since_last s) is.stands.reads), omega arith)
+    let long = slice_range-length (read_by s) s.last {b = s.at + stop.taken} (omega (arith, ordered.0))
+    (omega (arith, ordered.1)) in (
+      slice_range (read_by s) s.last (s.at + stop.taken),
+      subst (λ l. Reaches No l stop.sid) (text-on (read_by s) s.last s.at stop.taken ordered.0 (omega arith))
+          (here.reads (since_last s) is.stands.reads),
+      omega arith,
+    )
 
 -- Where reading on stopped in the held bytes, by the test whether the state there matches.
-pub stopped-at : {S : Type 0} (A : Ghosts S) (a : S) (sid : StateID) (rest : List ℕ) (stop : Advance) (asked matched : Bool) (y z : Steps)
-    → Advances (A.Reaches a No) (is_matching (A.matches a)) sid rest stop → IsReadCost (A.built a) (A.Reaches a) No sid (take stop.taken rest) y z
-    → (IsTrue asked ↔ (A.matches a stop.sid ≢ [])) → asked ≡ matched → StopsAtMatch (A.built a) (A.Reaches a) (A.matches a) sid rest stop matched y z
-stopped-at A a sid rest stop asked true y z goes cost is e = stops-there (A.built a) (A.Reaches a) (A.matches a) sid rest stop y z goes.taken goes.reads goes.plain cost (is.0 e)
+pub stopped-at : {S : Type 0} (A : Ghosts S) (a : S) (sid : StateID) (rest : List ℕ) (stop : Advance)
+    (asked matched : Bool) (y z : Steps)
+    → Advances (A.Reaches a No) (is_matching (A.matches a)) sid rest stop
+    → IsReadCost (A.built a) (A.Reaches a) No sid (take stop.taken rest) y z
+    → (IsTrue asked ↔ (A.matches a stop.sid ≢ [])) → asked ≡ matched
+    → StopsAtMatch (A.built a) (A.Reaches a) (A.matches a) sid rest stop matched y z
+stopped-at A a sid rest stop asked true y z goes cost is e = stops-there goes.taken goes.reads goes.plain cost (is.0 e)
 stopped-at A a sid rest stop asked false y z goes cost is e =
-    stops-none (A.built a) (A.Reaches a) (A.matches a) sid rest stop y z goes.taken goes.reads goes.plain goes.stops cost (list-none (A.matches a stop.sid) (λ some. false≢true (sym e ∙ is.1 some)))
+    stops-none goes.taken goes.reads goes.plain goes.stops cost
+    (list-none (A.matches a stop.sid) (λ some. false≢true (sym e ∙ is.1 some)))

@@ -12,7 +12,7 @@ use Rattle.ac_input.specs.declared.search.MatchKind.TheVariants.{Standard, Leftm
 use Rattle.ac_input.specs.Work.{longest, lookups_per_byte}
 use Rattle.ac_automaton.specs.Replace.{matches_in}
 use Rattle.ac_automaton.specs.Automaton.{Built}
-use Rattle.ac_automaton.specs.Stream.{CanStream, IsStreamRefusal, StreamProgress, again_for, fresh_progress, read_again, read_by, read_in_all}
+use Rattle.ac_automaton.specs.Stream.{CanStream, IsStreamRefusal, StreamProgress, again_for, fresh_progress, read_again, read_by, read_in_all, Picks}
 use Rattle.ac_automaton.specs.Stream.StreamReplace.{AcceptsStream, CostsStream, HasSearched, IsStreamCost, IsBegun, ReplacesStream}
 use Rattle.ac_automaton.specs.declared.error.StreamError.{StreamError}
 use Rattle.ac_automaton.specs.declared.error.StreamError.TheVariants.{Config, Read, Write, WriteZero, Memory, Position}
@@ -21,19 +21,33 @@ use Rattle.ac_automaton.specs.declared.watched.Watched.{Watched}
 use Rattle.ac_automaton.proofs.stream.StreamReplaceLemmas.{given-none, taken-none}
 
 -- nothing was moved
-pub nothing-moved : {R W : Type 0} (remaining : R → Option (List ℕ)) (contents : W → Option (List ℕ)) (kinds : StreamKinds) (b : Built) (supports : Anchored → Type 0) (replacements : List (List ℕ)) (reader : Watched R) (writer : Watched W) (error : StreamError)
-    → IsStreamRefusal kinds b supports error → ReplacesStream remaining contents b replacements reader reader writer writer (Err error)
-nothing-moved remaining contents kinds b supports replacements reader writer (Config error) refused =
-    (record { pieces = []; failed_reads = 0; taken = []; failed_writes = 0; stalled_writes = 0 }, record { reader = given-none remaining reader; writer = taken-none contents writer }, λ k d lt. absurd (omega arith), record { pieces = refl; taken = refl; failed = (refl, refl, refl) }, inr (refl, refl))
+pub nothing-moved : {R W : Type 0} (remaining : R → Option (List ℕ)) (contents : W → Option (List ℕ))
+    (kinds : StreamKinds) (b : Built) (supports : Anchored → Type 0) (replacements : List (List ℕ)) (reader : Watched R)
+    (writer : Watched W) (error : StreamError)
+    → IsStreamRefusal kinds b supports error
+    → ReplacesStream remaining contents b replacements reader reader writer writer (Err error)
+nothing-moved remaining contents kinds b supports replacements reader writer (Config error) refused = (
+  record { pieces = []; failed_reads = 0; taken = []; failed_writes = 0; stalled_writes = 0 },
+  record { reader = given-none; writer = taken-none },
+  λ k d lt. absurd (omega arith),
+  record { pieces = refl; taken = refl; failed = (refl, refl, refl) },
+  inr (refl, refl),
+)
 nothing-moved remaining contents kinds b supports replacements reader writer (Read error) refused = absurd refused
 nothing-moved remaining contents kinds b supports replacements reader writer (Write error) refused = absurd refused
 nothing-moved remaining contents kinds b supports replacements reader writer WriteZero refused = absurd refused
-nothing-moved remaining contents kinds b supports replacements reader writer Memory refused =
-    (record { pieces = []; failed_reads = 0; taken = []; failed_writes = 0; stalled_writes = 0 }, record { reader = given-none remaining reader; writer = taken-none contents writer }, λ k d lt. absurd (omega arith), record { pieces = refl; taken = refl; failed = (refl, refl, refl) }, inr (refl, refl))
+nothing-moved remaining contents kinds b supports replacements reader writer Memory refused = (
+  record { pieces = []; failed_reads = 0; taken = []; failed_writes = 0; stalled_writes = 0 },
+  record { reader = given-none; writer = taken-none },
+  λ k d lt. absurd (omega arith),
+  record { pieces = refl; taken = refl; failed = (refl, refl, refl) },
+  inr (refl, refl),
+)
 nothing-moved remaining contents kinds b supports replacements reader writer Position refused = absurd refused
 
 -- why it did not begin
-pub not-begun : (kinds : StreamKinds) (b : Built) (supports : Anchored → Type 0) (error : StreamError) → IsStreamRefusal kinds b supports error → AcceptsStream kinds b supports (Err error)
+pub not-begun : (kinds : StreamKinds) (b : Built) (supports : Anchored → Type 0) (error : StreamError)
+    → IsStreamRefusal kinds b supports error → AcceptsStream kinds b supports (Err error)
 not-begun kinds b supports (Config error) refused = refused
 not-begun kinds b supports (Read error) refused = absurd refused
 not-begun kinds b supports (Write error) refused = absurd refused
@@ -42,7 +56,8 @@ not-begun kinds b supports Memory refused = refused
 not-begun kinds b supports Position refused = absurd refused
 
 -- an error that came later
-begun-later : (kinds : StreamKinds) (b : Built) (supports : Anchored → Type 0) (error : StreamError) → CanStream kinds b supports → IsBegun error → AcceptsStream kinds b supports (Err error)
+begun-later : (kinds : StreamKinds) (b : Built) (supports : Anchored → Type 0) (error : StreamError)
+    → CanStream kinds b supports → IsBegun error → AcceptsStream kinds b supports (Err error)
 begun-later kinds b supports (Config error) can begun = absurd begun
 begun-later kinds b supports (Read error) can begun = can
 begun-later kinds b supports (Write error) can begun = can
@@ -51,57 +66,82 @@ begun-later kinds b supports Memory can begun = absurd begun
 begun-later kinds b supports Position can begun = can
 
 -- a replacement that did not begin cost nothing
-pub cost-none : {R : Type 0} (b : Built) (reader : Watched R) (steps : Steps) (error : StreamError) → CostsStream b reader reader steps steps (Err error)
-cost-none b reader steps error = ([], sym (append-nil _), record { looked = omega arith; scanned = refl; moved = omega arith }, tt, inr refl)
+pub cost-none : {R : Type 0} (b : Built) (reader : Watched R) (steps : Steps) (error : StreamError)
+    → CostsStream b reader reader steps steps (Err error)
+cost-none b reader steps error =
+    ([], sym (append-nil _), record { looked = omega arith; scanned = refl; moved = omega arith }, tt, inr refl)
 
 -- looks within the bound for the bytes read are within the bound for more bytes
-looks-within : (deterministic : Bool) (looked at n : ℕ) → looked ≤ lookups_per_byte deterministic * at → at ≤ n → looked ≤ lookups_per_byte deterministic * n
+looks-within : (deterministic : Bool) (looked at n : ℕ) → looked ≤ lookups_per_byte deterministic * at → at ≤ n
+    → looked ≤ lookups_per_byte deterministic * n
 looks-within true looked at n h le = omega arith
 looks-within false looked at n h le = omega arith
 
 -- with more matches at least as many bytes may be looked at again
-again-within : (kind : MatchKind) (long n few more : ℕ) → few ≤ more → again_for kind long n few ≤ again_for kind long n more
+pub again-within : (kind : MatchKind) (long n few more : ℕ) → few ≤ more
+    → again_for kind long n few ≤ again_for kind long n more
 again-within Standard long n few more le = omega arith
 again-within LeftmostFirst long n few more le = let again = mul-le-mul_left (long + 1) le in omega arith
 again-within LeftmostLongest long n few more le = let again = mul-le-mul_left (long + 1) le in omega arith
 
 -- the cost of a search that began fresh, by the bytes that it read and their matches
-cost-pieces : {R : Type 0} (b : Built) (s t : StreamProgress) (r0 r1 : Watched R) (before after : Steps) (result : Result (Unit {0}) StreamError) → s ≡ fresh_progress b → HasSearched s t r0 r1 before after result
-    → (pieces : List (List ℕ)) × (r1.pieces.items ≡ r0.pieces.items ++ pieces) × IsStreamCost b (length (concat pieces)) (length (matches_in b (concat pieces))) before after × OnOk result (before.looked.value + length (concat pieces) ≤ after.looked.value)
+cost-pieces : {R : Type 0} (b : Built) (s t : StreamProgress Picks) (r0 r1 : Watched R) (before after : Steps)
+    (result : Result (Unit {0}) StreamError) → s ≡ fresh_progress b → HasSearched s t r0 r1 before after result
+    → (pieces : List (List ℕ)) × (r1.pieces.items ≡ r0.pieces.items ++ pieces)
+    × IsStreamCost b (length (concat pieces)) (length (matches_in b (concat pieces))) before after
+    × OnOk result (before.looked.value + length (concat pieces) ≤ after.looked.value)
 cost-pieces b s t r0 r1 before after result fresh h =
-    let built : t.built ≡ b = h.built ∙ ap (λ (q : StreamProgress). q.built) fresh in
-    let looked : s.looked ≡ 0 = ap (λ (q : StreamProgress). q.looked) fresh in
-    let scanned : s.scanned ≡ 0 = ap (λ (q : StreamProgress). q.scanned) fresh in
-    let moved : s.moved ≡ 0 = ap (λ (q : StreamProgress). q.moved) fresh in
+    let built : t.built ≡ b = h.built ∙ ap (λ q. q.built) fresh in
+    let looked : s.looked ≡ 0 = ap (λ q. q.looked) fresh in
+    let scanned : s.scanned ≡ 0 = ap (λ q. q.scanned) fresh in
+    let moved : s.moved ≡ 0 = ap (λ q. q.moved) fresh in
     let paid = h.course.paid in
     let counts = h.counts in
     let within : t.at ≤ length (read_by t) = h.course.ordered.1 in
-    let looks : t.looked ≡ counts.0 = counts.4 ∙ ap (λ (n : ℕ). n + counts.0) looked ∙ zero-add counts.0 in
-    let places : t.scanned ≡ counts.1 = counts.5 ∙ ap (λ (n : ℕ). n + counts.1) scanned ∙ zero-add counts.1 in
-    let bytes : t.moved ≡ counts.2 = counts.6 ∙ ap (λ (n : ℕ). n + counts.2) moved ∙ zero-add counts.2 in
-    let given : length t.given ≤ length (matches_in t.built (read_by t)) = let long = ap length h.course.begun.1 in omega (arith, long, length-append t.given h.course.begun.0) in
-    let again = again-within t.built.dictionary.kind (longest t.built.dictionary.patterns) (length (read_by t)) (length t.given) (length (matches_in t.built (read_by t))) given in
-    let bound : t.looked ≤ lookups_per_byte b.deterministic * (length (read_by t) + read_again b.dictionary (length (read_by t)) (length (matches_in b (read_by t)))) =
-    subst (λ (c : Built). t.looked ≤ lookups_per_byte c.deterministic * (length (read_by t) + read_again c.dictionary (length (read_by t)) (length (matches_in c (read_by t))))) built (looks-within t.built.deterministic t.looked (read_in_all t) (length (read_by t) + read_again t.built.dictionary (length (read_by t)) (length (matches_in t.built (read_by t)))) paid.looked (omega arith)) in
+    let looks : t.looked ≡ counts.0 = counts.4 ∙ ap (λ n. n + counts.0) looked ∙ zero-add counts.0 in
+    let places : t.scanned ≡ counts.1 = counts.5 ∙ ap (λ n. n + counts.1) scanned ∙ zero-add counts.1 in
+    let bytes : t.moved ≡ counts.2 = counts.6 ∙ ap (λ n. n + counts.2) moved ∙ zero-add counts.2 in
+    let given : length t.given ≤ length (matches_in t.built (read_by t)) = let long = ap length h.course.begun.1 in
+    omega (arith, long, length-append t.given h.course.begun.0) in
+    let again = again-within t.built.dictionary.kind (longest t.built.dictionary.patterns) (length (read_by t))
+    (length t.given) (length (matches_in t.built (read_by t))) given in
+    let bound : t.looked ≤ lookups_per_byte b.deterministic
+    * (length (read_by t) + read_again b.dictionary (length (read_by t)) (length (matches_in b (read_by t)))) =
+    subst (λ c. t.looked ≤ lookups_per_byte c.deterministic
+    * (length (read_by t) + read_again c.dictionary (length (read_by t)) (length (matches_in c (read_by t))))) built
+    (looks-within t.built.deterministic t.looked (read_in_all t)
+    (length (read_by t) + read_again t.built.dictionary (length (read_by t)) (length (matches_in t.built (read_by t))))
+    paid.looked (omega arith)) in
     let none : t.scanned ≡ 0 = paid.scanned in
     let seventh : 7 * t.moved ≤ length (read_by t) = paid.moved in
     let some : t.at ≤ t.looked = paid.some in
     let one : after.looked.value ≡ before.looked.value + counts.0 = counts.3.looked in
     let two : after.scanned.value ≡ before.scanned.value + counts.1 = counts.3.scanned in
-    let three : after.moved.value ≡ before.moved.value + counts.2 = counts.3.moved in
-    (t.pieces, h.read, record { looked = omega arith; scanned = omega arith; moved = omega arith }, on_ok_weaker result (λ (all : t.at ≡ length (read_by t)). let z : before.looked.value + length (read_by t) ≤ after.looked.value = omega arith in z) h.searched)
+    let three : after.moved.value ≡ before.moved.value + counts.2 = counts.3.moved in (
+      t.pieces,
+      h.read,
+      record { looked = omega arith; scanned = omega arith; moved = omega arith },
+      on_ok_weaker result
+          (λ (all : t.at ≡ length (read_by t)). let z : before.looked.value + length (read_by t) ≤ after.looked.value =
+          omega arith in z) h.searched,
+    )
 
 -- an error that comes after the first read, or one that cost nothing
-came-later : (result : Result (Unit {0}) StreamError) (before after : Steps) → IfErr result IsBegun → IfErr result (λ error. IsBegun error ⊎ (after ≡ before))
+came-later : (result : Result (Unit {0}) StreamError) (before after : Steps) → IfErr result IsBegun
+    → IfErr result (λ error. IsBegun error ⊎ (after ≡ before))
 came-later (Ok done) before after begun = tt
 came-later (Err error) before after begun = inl begun
 
-pub cost-read : {R : Type 0} (b : Built) (s t : StreamProgress) (r0 r1 : Watched R) (before after : Steps) (result : Result (Unit {0}) StreamError) → s ≡ fresh_progress b → IfErr result IsBegun → HasSearched s t r0 r1 before after result → CostsStream b r0 r1 before after result
+pub cost-read : {R : Type 0} (b : Built) (s t : StreamProgress Picks) (r0 r1 : Watched R) (before after : Steps)
+    (result : Result (Unit {0}) StreamError) → s ≡ fresh_progress b → IfErr result IsBegun
+    → HasSearched s t r0 r1 before after result → CostsStream b r0 r1 before after result
 cost-read b s t r0 r1 before after result fresh begun h =
     let cost = cost-pieces b s t r0 r1 before after result fresh h in
     (cost.0, cost.1, cost.2, cost.3, came-later result before after begun)
 
 -- a result that came later
-pub accepted-later : (kinds : StreamKinds) (b : Built) (supports : Anchored → Type 0) (result : Result (Unit {0}) StreamError) → CanStream kinds b supports → IfErr result IsBegun → AcceptsStream kinds b supports result
+pub accepted-later : (kinds : StreamKinds) (b : Built) (supports : Anchored → Type 0)
+    (result : Result (Unit {0}) StreamError) → CanStream kinds b supports → IfErr result IsBegun
+    → AcceptsStream kinds b supports result
 accepted-later kinds b supports (Ok done) can begun = can
 accepted-later kinds b supports (Err error) can begun = begun-later kinds b supports error can begun

@@ -7,73 +7,89 @@ use Rattle.std.proofs.lemmas.List.Elements.{All-push}
 use Rattle.std.proofs.lemmas.List.Folds.{concat-append}
 use Rattle.ac_input.specs.declared.steps.Steps.{Steps}
 use Rattle.std.specs.Io.KnownBytes.{IsAtEnd}
+use Rattle.ac_input.specs.Number.{usize_max}
 use Rattle.ac_input.specs.declared.search.MatchKind.{MatchKind}
 use Rattle.ac_input.specs.declared.search.MatchKind.TheVariants.{Standard, LeftmostFirst, LeftmostLongest}
 use Rattle.ac_input.specs.Dictionary.{IsLive}
 use Rattle.ac_input.specs.Occurrence.{Occurrence}
 use Rattle.ac_input.proofs.lemmas.LiveLemmas.{kind_cases}
 use Rattle.ac_automaton.specs.Automaton.{Built}
-use Rattle.ac_automaton.specs.Replace.{matches_in}
-use Rattle.ac_automaton.specs.Stream.{AreAllGiven, CanBeCounted, EachIsDecided, FindsHeld, NothingIsLive, ReadsMore, ReadsNothing, StreamCounts, StreamProgress, closed_by, end_of, may_wait, read_by, room_of}
-use Rattle.ac_automaton.specs.Devices.Moved.{AreFilled, AreWhole}
-use Rattle.ac_automaton.specs.Stream.StreamIter.{HasGained, IsReadForMatch, IsStopped, NextGives, StaysStopped, TurnGives, TurnReads}
+use Rattle.ac_automaton.specs.Stream.{AreAllGiven, CanBeCounted, EachIsDecided, FindsHeld, IsHeldItem, NothingIsLive, Occurrences, Picks, ReadsMore, ReadsNothing, Sequence, StreamCounts, StreamProgress, closed_by, end_of, items_of, may_wait, read_by, room_of}
+use Rattle.ac_automaton.specs.Devices.Moved.{AreFilled, AreWhole, but_last}
+use Rattle.ac_automaton.specs.Stream.StreamIter.{HadGiven, HasGained, IsReadForItem, IsStopped, NextGives, StaysStopped, TurnGives, TurnReads, read_before}
 use Rattle.ac_automaton.specs.declared.error.StreamError.{StreamError}
 use Rattle.ac_automaton.specs.declared.error.StreamError.TheVariants.{Config, Read, Write, WriteZero, Memory, Position}
 use Rattle.ac_automaton.specs.declared.stream.Turn.TheVariants.{Found, More, Ended, Over, Failed}
 use Rattle.ac_automaton.specs.declared.watched.Watched.{Watched}
 use Rattle.ac_automaton.proofs.devices.MovedLemmas.{AreFilled-push, given-none, given-push, is_empty-none}
-
--- ---- counting
-
--- the counts of two steps in turn add up
-pub counts-join : (s u t : StreamProgress) (x y z : Steps) → StreamCounts s u x y → StreamCounts u t y z → StreamCounts s t x z
-counts-join s u t x y z one two =
-    let a = one.3 in
-    let b = two.3 in
-    let l = a.looked in
-    let m = b.looked in
-    let n = a.scanned in
-    let o = b.scanned in
-    let p = a.moved in
-    let q = b.moved in
-    (one.0 + two.0, one.1 + two.1, one.2 + two.2, record { looked = omega arith; scanned = omega arith; moved = omega arith }, omega (arith, one.4, two.4), omega (arith, one.5, two.5), omega (arith, one.6, two.6))
+use Rattle.ac_automaton.proofs.stream.StreamCountLemmas.{StreamCounts-then}
 
 -- ---- one turn
 
 -- where no further match was found and places can be counted, all was searched and all matches were returned
-all-given-then : (s u : StreamProgress) → FindsHeld s None u → CanBeCounted (read_by u) → AreAllGiven u
-all-given-then s u finds few = finds.2 (subst (λ (l : List (List ℕ)). CanBeCounted (concat l)) finds.0.pieces few)
+all-given-then : {q : Sequence} (s u : StreamProgress q) → FindsHeld s None u → CanBeCounted (read_by u) → AreAllGiven u
+all-given-then s u finds few = finds.2 (subst (λ l. CanBeCounted (concat l)) finds.0.pieces few)
 
 -- a read after which places can't be counted returned a piece that isn't empty
-brought-some : (u t : StreamProgress) (piece : List ℕ) → CanBeCounted (read_by u) → t.pieces ≡ u.pieces ++ piece ∷ [] → ¬ CanBeCounted (read_by t) → piece ≢ []
+brought-some : {q : Sequence} (u t : StreamProgress q) (piece : List ℕ) → CanBeCounted (read_by u)
+    → t.pieces ≡ u.pieces ++ piece ∷ [] → ¬ CanBeCounted (read_by t) → piece ≢ []
 brought-some u t piece few is many = λ none.
-    let e : read_by t ≡ read_by u ++ [] = ap concat is ∙ ap (λ (l : List ℕ). concat (u.pieces ++ l ∷ [])) none ∙ concat-append u.pieces ([] ∷ []) in
+    let e : read_by t ≡ read_by u ++ [] = ap concat is ∙ ap (λ l. concat (u.pieces ++ l ∷ [])) none
+    ∙ concat-append u.pieces ([] ∷ []) in
     many (subst CanBeCounted (sym (e ∙ append-nil (read_by u))) few)
 
 -- a turn whose read fails returns the error of that read
-pub turn-failed : {R : Type 0} (remaining : R → Option (List ℕ)) (s u t : StreamProgress) (before after : Watched R) (error : StreamError) → before.ended ≡ false → u.closed ≡ false → FindsHeld s None u → CanBeCounted (read_by u) → ReadsMore remaining u t before after (Err error) → TurnGives remaining s t before after (Failed error)
+pub turn-failed : {R : Type 0} {q : Sequence} (remaining : R → Option (List ℕ)) (s u t : StreamProgress q)
+    (before after : Watched R) (error : StreamError) → before.ended ≡ false → u.closed ≡ false → FindsHeld s None u
+    → CanBeCounted (read_by u) → ReadsMore remaining u t before after (Err error)
+    → TurnGives remaining s t before after (Failed error)
 turn-failed remaining s u t before after (Config error) open_ unclosed finds few read = read
-turn-failed remaining s u t before after (Read error) open_ unclosed finds few read = record { mid = u; few = few; nothing = finds.0; given = finds.1; unclosed = unclosed; all = all-given-then s u finds few; read = read }
+turn-failed remaining s u t before after (Read error) open_ unclosed finds few read =
+    record {
+      mid = u;
+      few = few;
+      nothing = finds.0;
+      given = finds.1;
+      unclosed = unclosed;
+      all = all-given-then s u finds few;
+      read = read;
+    }
 turn-failed remaining s u t before after (Write error) open_ unclosed finds few read = read
 turn-failed remaining s u t before after WriteZero open_ unclosed finds few read = read
 turn-failed remaining s u t before after Memory open_ unclosed finds few read = read
-turn-failed remaining s u t before after Position open_ unclosed finds few read =
-    (read.0, record { mid = u; few = few; nothing = finds.0; given = finds.1; unclosed = unclosed; all = all-given-then s u finds few; read = read.1 }, brought-some u t read.0 few read.1.pieces read.2, read.2)
+turn-failed remaining s u t before after Position open_ unclosed finds few read = (
+  read.0,
+  record {
+    mid = u;
+    few = few;
+    nothing = finds.0;
+    given = finds.1;
+    unclosed = unclosed;
+    all = all-given-then s u finds few;
+    read = read.1;
+  },
+  brought-some u t read.0 few read.1.pieces read.2,
+  read.2,
+)
 
 -- ---- what was gained
 
 -- at first nothing was gained
-pub gained-none : {R : Type 0} (remaining : R → Option (List ℕ)) (s : StreamProgress) (before : Watched R) → HasGained remaining s s before before [] 0
+pub gained-none : {R : Type 0} {q : Sequence} (remaining : R → Option (List ℕ)) (s : StreamProgress q)
+    (before : Watched R) → HasGained remaining s s before before [] 0
 gained-none remaining s before = record {
   built = refl;
   pieces = sym (append-nil s.pieces);
   last = omega arith;
   short = λ k d lt. absurd (omega arith);
-  read = given-none remaining before;
+  read = given-none;
 }
 
 -- where nothing is read, nothing more is gained
-pub gained-same : {R : Type 0} (remaining : R → Option (List ℕ)) (s t u : StreamProgress) (before after : Watched R) (gained : List (List ℕ)) (failed : ℕ) → HasGained remaining s t before after gained failed → ReadsNothing t u → HasGained remaining s u before after gained failed
+pub gained-same : {R : Type 0} {q : Sequence} (remaining : R → Option (List ℕ)) (s t u : StreamProgress q)
+    (before after : Watched R) (gained : List (List ℕ)) (failed : ℕ)
+    → HasGained remaining s t before after gained failed → ReadsNothing t u
+    → HasGained remaining s u before after gained failed
 gained-same remaining s t u before after gained failed has nothing = record {
   built = nothing.built ∙ has.built;
   pieces = nothing.pieces ∙ has.pieces;
@@ -83,30 +99,49 @@ gained-same remaining s t u before after gained failed has nothing = record {
 }
 
 -- a turn that reads gains one piece more
-pub gained-more : {R : Type 0} (remaining : R → Option (List ℕ)) (s t u : StreamProgress) (before mid after : Watched R) (gained : List (List ℕ)) (piece : List ℕ) (failed : ℕ) → HasGained remaining s t before mid gained 0 → TurnReads remaining t u mid after piece failed → HasGained remaining s u before after (gained ++ piece ∷ []) failed
-gained-more remaining s t u before mid after gained piece failed has turn =
+pub gained-more : {R : Type 0} {q : Sequence} (remaining : R → Option (List ℕ)) (s t u : StreamProgress q)
+    (before mid after : Watched R) (gained : List (List ℕ)) (piece : List ℕ) (failed : ℕ)
+    → HasGained remaining s t before mid gained 0 → TurnReads remaining t u mid after piece failed
+    → HasGained remaining s u before after (gained ++ piece ∷ []) failed
+gained-more {R} {q} remaining s t u before mid after gained piece failed has turn =
     let read = turn.read in
     let built : turn.mid.built ≡ s.built = turn.nothing.built ∙ has.built in
     record {
       built = read.built ∙ built;
-      pieces = read.pieces ∙ ap (λ (l : List (List ℕ)). l ++ piece ∷ []) (turn.nothing.pieces ∙ has.pieces) ∙ append_assoc s.pieces gained (piece ∷ []);
+      pieces = read.pieces ∙ ap (λ l. l ++ piece ∷ []) (turn.nothing.pieces ∙ has.pieces)
+          ∙ append_assoc s.pieces gained (piece ∷ []);
       last = let a = has.last in let b = turn.nothing.last in let e = read.last in omega arith;
-      short = All-push (λ l. length l ≤ room_of s.built) gained piece has.short (subst (λ (b : Built). length piece ≤ room_of b) built read.short);
-      read = given-push remaining before mid after gained piece failed has.read read.read;
+      short = All-push (λ l. length l ≤ room_of q s.built) gained piece has.short
+          (subst (λ b. length piece ≤ room_of q b) built read.short);
+      read = given-push has.read read.read;
     }
 
 -- After some turns the reader goes on, each read having returned bytes; or the last read was empty, and no more comes.
-pub data HowItStands {R : Type 0} (remaining : R → Option (List ℕ)) (s t : StreamProgress) (after : Watched R) (gained : List (List ℕ)) : Type 0 where
-  GoesOnReading : AreFilled gained → (gained ≢ [] → (¬ IsTrue after.ended) × (t.closed ≡ false)) → HowItStands remaining s t after gained
-  HasEnded : AreWhole gained → after.ended ≡ true → IsAtEnd (remaining after.inner) → (t.built.dictionary.kind ≡ Standard → AreAllGiven t) → (t.built.dictionary.kind ≢ Standard → t.closed ≡ true) → HowItStands remaining s t after gained
+pub data HowItStands {R : Type 0} {q : Sequence} (remaining : R → Option (List ℕ)) (s t : StreamProgress q)
+    (after : Watched R) (gained : List (List ℕ)) : Type 0 where
+  GoesOnReading : AreFilled gained → (gained ≢ [] → (¬ IsTrue after.ended) × (t.closed ≡ false))
+      → HowItStands remaining s t after gained
+  HasEnded : AreWhole gained → after.ended ≡ true → IsAtEnd (remaining after.inner)
+      → (t.built.dictionary.kind ≡ Standard → AreAllGiven t) → (t.built.dictionary.kind ≢ Standard → t.closed ≡ true)
+      → HowItStands remaining s t after gained
+
+-- The last turn read. All decided items of what was read before had been returned, and what came after them wasn't
+-- dead.
+pub record HasJustRead {q : Sequence} (s t : StreamProgress q) : Type 0 where
+  pub all : HadGiven s t
+  pub at : t.at ≡ length (read_before t)
+  pub front : take t.at (read_by t) ≡ read_before t
+  pub countable : CanBeCounted (read_by t)
+  pub open_ : ¬ IsLive s.built.dictionary false (drop (end_of s.given) (read_before t)) None
 
 -- Some turns have been made, each of which read.
-pub record HasTurned {R : Type 0} (remaining : R → Option (List ℕ)) (s t : StreamProgress) (before after : Watched R) (x y : Steps) : Type 0 where
+pub record HasTurned {R : Type 0} {q : Sequence} (remaining : R → Option (List ℕ)) (s t : StreamProgress q)
+    (before after : Watched R) (x y : Steps) : Type 0 where
   pub gained : List (List ℕ)
   pub has : HasGained remaining s t before after gained 0
   pub how : HowItStands remaining s t after gained
   pub given : t.given ≡ s.given
-  pub fresh : gained ≢ [] → (s.built.dictionary.kind ≡ Standard → length (concat (take (length t.pieces - 1) t.pieces)) ≤ t.at) × CanBeCounted (read_by t) × (¬ IsLive s.built.dictionary false (drop (end_of s.given) (concat (take (length t.pieces - 1) t.pieces))) None)
+  pub fresh : gained ≢ [] → HasJustRead s t
   pub first : gained ≡ [] → (t ≡ s) × (after ≡ before)
   pub unended : gained ≢ [] → (before.ended ≡ false) × CanBeCounted (read_by s) × (s.closed ≡ false)
   pub on : s.built.dictionary.kind ≡ Standard → s.at ≤ t.at
@@ -123,47 +158,78 @@ more-some [] x = λ e. let d : x ∷ [] ≡ [] = e in cc
 more-some (y ∷ ys) x = λ e. let d : y ∷ (ys ++ x ∷ []) ≡ [] = e in cc
 
 -- where a turn reads, the reader was open at first and places could be counted
-open-first : {R : Type 0} (remaining : R → Option (List ℕ)) (s t u : StreamProgress) (before mid after : Watched R) (x y : Steps) (piece : List ℕ) (failed : ℕ) → HasTurned remaining s t before mid x y → TurnReads remaining t u mid after piece failed → (before.ended ≡ false) × CanBeCounted (read_by s) × (s.closed ≡ false)
+open-first : {R : Type 0} {q : Sequence} (remaining : R → Option (List ℕ)) (s t u : StreamProgress q)
+    (before mid after : Watched R) (x y : Steps) (piece : List ℕ) (failed : ℕ) → HasTurned remaining s t before mid x y
+    → TurnReads remaining t u mid after piece failed
+    → (before.ended ≡ false) × CanBeCounted (read_by s) × (s.closed ≡ false)
 open-first {R} remaining s t u before mid after x y piece failed has turn = ⊎_elim
     (λ (none : has.gained ≡ []).
     let same = has.first none in (
-      ap (λ (r : Watched R). r.ended) (sym same.1) ∙ turn.read.read.turns.0,
-      subst (λ (l : List (List ℕ)). CanBeCounted (concat l)) (turn.nothing.pieces ∙ ap (λ (z : StreamProgress). z.pieces) same.0) turn.few,
-      ap (λ (z : StreamProgress). z.closed) (sym same.0) ∙ sym turn.nothing.closed ∙ turn.unclosed,
+      ap (λ r. r.ended) (sym same.1) ∙ turn.read.read.turns.0,
+      subst (λ l. CanBeCounted (concat l)) (turn.nothing.pieces ∙ ap (λ z. z.pieces) same.0) turn.few,
+      ap (λ z. z.closed) (sym same.0) ∙ sym turn.nothing.closed ∙ turn.unclosed,
     ))
     has.unended
     (none-or-some has.gained)
 
+-- removing the last piece undoes adding it
+pub but_last-push : (pieces : List (List ℕ)) (piece : List ℕ) → but_last (pieces ++ piece ∷ []) ≡ pieces
+but_last-push [] piece = refl
+but_last-push (p ∷ []) piece = refl
+but_last-push (p ∷ (q ∷ ps)) piece = ap (λ t. p ∷ t) (but_last-push (q ∷ ps) piece)
+
 -- the bytes of all pieces but the last are those read before this turn
-before-last : {R : Type 0} (remaining : R → Option (List ℕ)) (t u : StreamProgress) (mid after : Watched R) (piece : List ℕ) (failed : ℕ) → (turn : TurnReads remaining t u mid after piece failed) → concat (take (length u.pieces - 1) u.pieces) ≡ read_by turn.mid
+before-last : {R : Type 0} {q : Sequence} (remaining : R → Option (List ℕ)) (t u : StreamProgress q)
+    (mid after : Watched R) (piece : List ℕ) (failed : ℕ)
+    → (turn : TurnReads remaining t u mid after piece failed) → read_before u ≡ read_by turn.mid
 before-last remaining t u mid after piece failed turn =
-    let pieces : u.pieces ≡ turn.mid.pieces ++ piece ∷ [] = turn.read.pieces in
-    let long = ap length pieces in
-    let both = length-append turn.mid.pieces (piece ∷ []) in
-    let few : length u.pieces - 1 ≡ length turn.mid.pieces = omega arith in
-    ap concat (ap (λ (n : ℕ). take n u.pieces) few ∙ ap (take (length turn.mid.pieces)) pieces ∙ take-append_seam turn.mid.pieces (piece ∷ []))
+    ap (λ l. concat (but_last l)) turn.read.pieces ∙ ap concat (but_last-push turn.mid.pieces piece)
 
 -- what came before one more read
-module _ {R : Type 0} (remaining : R → Option (List ℕ)) (s t u : StreamProgress) (before mid after : Watched R) (x y : Steps) (piece : List ℕ) (failed : ℕ) (has : HasTurned remaining s t before mid x y) (turn : TurnReads remaining t u mid after piece failed) where
+module _ {R : Type 0} {q : Sequence} (remaining : R → Option (List ℕ)) (s t u : StreamProgress q)
+    (before mid after : Watched R) (x y : Steps) (piece : List ℕ) (failed : ℕ)
+    (has : HasTurned remaining s t before mid x y) (turn : TurnReads remaining t u mid after piece failed) where
   turned-built : turn.mid.built ≡ s.built
   turned-built = turn.nothing.built ∙ has.has.built
 
   turned-given : turn.mid.given ≡ s.given
   turned-given = turn.given ∙ has.given
 
-  -- all that was read before this turn was searched
-  turned-at : length (concat (take (length u.pieces - 1) u.pieces)) ≤ u.at
-  turned-at = let e = read-before in let at = turn.read.at in let all = turn.all.searched in omega arith
-    where
-      read-before : length (concat (take (length u.pieces - 1) u.pieces)) ≡ length (read_by turn.mid)
-      read-before = ap length (before-last remaining t u mid after piece failed turn)
+  turned-before : read_before u ≡ read_by turn.mid
+  turned-before = before-last remaining t u mid after piece failed turn
 
-  -- what comes after the matches returned isn't dead
-  turned-open : ¬ IsLive s.built.dictionary false (drop (end_of s.given) (concat (take (length u.pieces - 1) u.pieces))) None
-  turned-open =
-      subst (λ (l : List ℕ). ¬ IsLive s.built.dictionary false (drop (end_of s.given) l) None) (sym (before-last remaining t u mid after piece failed turn))
-      (subst (λ (os : List Occurrence). ¬ IsLive s.built.dictionary false (drop (end_of os) (read_by turn.mid)) None) turned-given
-      (subst (λ (b : Built). ¬ IsLive b.dictionary false (drop (end_of turn.mid.given) (read_by turn.mid)) None) turned-built turn.all.open_))
+  -- under standard all items of what was read before the turn had been returned
+  pub turned-had : HadGiven s u
+  turned-had = λ standard.
+      sym turned-given ∙ turn.all.all (inl (subst (λ b. b.dictionary.kind ≡ Standard) (sym turned-built) standard))
+      ∙ ap (λ b. items_of q b.dictionary (read_by turn.mid)) turned-built
+      ∙ ap (items_of q s.built.dictionary) (sym turned-before)
+
+  -- what a turn leaves after which places can be counted
+  pub turned-fresh : CanBeCounted (read_by u) → HasJustRead s u
+  turned-fresh few = record {
+    all = turned-had;
+    at = at;
+    front = ap (λ n. take n (read_by u)) at ∙ ap (take (length (read_before u))) text
+        ∙ take-append_seam (read_before u) piece;
+    countable = few;
+    open_ = turned-open;
+  }
+    where
+      at : u.at ≡ length (read_before u)
+      at = turn.read.at ∙ turn.all.searched ∙ ap length (sym turned-before)
+
+      text : read_by u ≡ read_before u ++ piece
+      text = ap concat turn.read.pieces ∙ concat-append turn.mid.pieces (piece ∷ [])
+          ∙ ap (λ l. read_by turn.mid ++ l) (append-nil piece) ∙ ap (λ l. l ++ piece) (sym turned-before)
+
+      -- what comes after the items returned isn't dead
+      turned-open : ¬ IsLive s.built.dictionary false (drop (end_of s.given) (read_before u)) None
+      turned-open =
+          subst (λ l. ¬ IsLive s.built.dictionary false (drop (end_of s.given) l) None) (sym turned-before)
+          (subst (λ os. ¬ IsLive s.built.dictionary false (drop (end_of os) (read_by turn.mid)) None) turned-given
+          (subst (λ b. ¬ IsLive b.dictionary false (drop (end_of turn.mid.given) (read_by turn.mid)) None) turned-built
+          turn.all.open_))
 
   -- no piece gained so far is empty
   turned-reads : HowItStands remaining s t mid has.gained → AreFilled has.gained
@@ -174,42 +240,59 @@ module _ {R : Type 0} (remaining : R → Option (List ℕ)) (s t u : StreamProgr
   turned-filled = turned-reads has.how
 
 -- some turns and one more that read some bytes
-pub turned-more : {R : Type 0} (remaining : R → Option (List ℕ)) (s t u : StreamProgress) (before mid after : Watched R) (x y z : Steps) → HasTurned remaining s t before mid x y → TurnGives remaining t u mid after More → StreamCounts t u y z → HasTurned remaining s u before after x z
+pub turned-more : {R : Type 0} {q : Sequence} (remaining : R → Option (List ℕ)) (s t u : StreamProgress q)
+    (before mid after : Watched R) (x y z : Steps) → HasTurned remaining s t before mid x y
+    → TurnGives remaining t u mid after More → StreamCounts t u y z → HasTurned remaining s u before after x z
 turned-more remaining s t u before mid after x y z has turn counts =
     let read = turn.1.read in
     let piece = turn.0 in
     record {
       gained = has.gained ++ piece ∷ [];
       has = gained-more remaining s t u before mid after has.gained piece 0 has.has turn.1;
-      how = GoesOnReading (AreFilled-push has.gained piece (turned-filled remaining s t u before mid after x y piece 0 has turn.1) turn.2) (λ some. (λ e. turn.2 (is_empty-none piece (sym read.read.turns.1 ∙ e)), read.closed ∙ turn.1.unclosed));
+      how = GoesOnReading
+          (AreFilled-push has.gained (turned-filled remaining s t u before mid after x y piece 0 has turn.1) turn.2)
+          (λ some. (λ e. turn.2 (is_empty-none piece (sym read.read.turns.1 ∙ e)), read.closed ∙ turn.1.unclosed));
       given = read.given ∙ turn.1.given ∙ has.given;
-      fresh = λ some. (λ standard. turned-at remaining s t u before mid after x y piece 0 has turn.1, turn.3, turned-open remaining s t u before mid after x y piece 0 has turn.1);
+      fresh = λ some. turned-fresh remaining s t u before mid after x y piece 0 has turn.1 turn.3;
       first = λ none. absurd (more-some has.gained piece none);
       unended = λ some. open-first remaining s t u before mid after x y piece 0 has turn.1;
-      on = λ standard. let a = has.on standard in let b = turn.1.nothing.on (subst (λ (b : Built). b.dictionary.kind ≡ Standard) (sym has.has.built) standard) in let e = read.at in omega arith;
-      counts = counts-join s t u x y z has.counts counts;
+      on = λ standard. let a = has.on standard in
+          let b = turn.1.nothing.on (subst (λ b. b.dictionary.kind ≡ Standard) (sym has.has.built) standard) in
+          let e = read.at in omega arith;
+      counts = StreamCounts-then s t u x y z has.counts counts;
     }
 
 -- after an empty piece all matches of what was read are still returned
-all-given-still : {R : Type 0} (remaining : R → Option (List ℕ)) (t u : StreamProgress) (mid after : Watched R) (failed : ℕ) → TurnReads remaining t u mid after [] failed → AreAllGiven u
-all-given-still remaining t u mid after failed turn =
+all-given-still : {R : Type 0} {q : Sequence} (remaining : R → Option (List ℕ)) (t u : StreamProgress q)
+    (mid after : Watched R) (failed : ℕ) → TurnReads remaining t u mid after [] failed → AreAllGiven u
+all-given-still {R} {q} remaining t u mid after failed turn =
     let read = turn.read in
-    let same : read_by u ≡ read_by turn.mid = ap concat read.pieces ∙ concat-append turn.mid.pieces ([] ∷ []) ∙ append-nil (read_by turn.mid) in
-    let rest : drop (end_of u.given) (read_by u) ≡ drop (end_of turn.mid.given) (read_by turn.mid) = ap (λ (os : List Occurrence). drop (end_of os) (read_by u)) read.given ∙ ap (drop (end_of turn.mid.given)) same in
+    let same : read_by u ≡ read_by turn.mid = ap concat read.pieces ∙ concat-append turn.mid.pieces ([] ∷ [])
+    ∙ append-nil (read_by turn.mid) in
+    let rest : drop (end_of u.given) (read_by u) ≡ drop (end_of turn.mid.given) (read_by turn.mid) =
+    ap (λ os. drop (end_of os) (read_by u)) read.given ∙ ap (drop (end_of turn.mid.given)) same in
     record {
       searched = read.at ∙ turn.all.searched ∙ ap length (sym same);
-      all = λ each. read.given ∙ turn.all.all (each-before each) ∙ ap (λ (l : List ℕ). matches_in turn.mid.built l) (sym same) ∙ ap (λ (b : Built). matches_in b (read_by u)) (sym read.built);
-      open_ = subst (λ (l : List ℕ). ¬ IsLive u.built.dictionary false l None) (sym rest) (subst (λ (b : Built). ¬ IsLive b.dictionary false (drop (end_of turn.mid.given) (read_by turn.mid)) None) (sym read.built) turn.all.open_);
-      anew = λ done. read.last ∙ turn.all.anew (subst (λ (b : Built). NothingIsLive b.dictionary (drop (end_of turn.mid.given) (read_by turn.mid))) read.built (subst (NothingIsLive u.built.dictionary) rest done)) ∙ sym read.at;
+      all = λ each. read.given ∙ turn.all.all (each-before each) ∙ ap (items_of q turn.mid.built.dictionary) (sym same)
+          ∙ ap (λ b. items_of q b.dictionary (read_by u)) (sym read.built);
+      open_ = subst (λ l. ¬ IsLive u.built.dictionary false l None) (sym rest)
+          (subst (λ b. ¬ IsLive b.dictionary false (drop (end_of turn.mid.given) (read_by turn.mid)) None)
+          (sym read.built)
+          turn.all.open_);
+      anew = λ done. read.last ∙ turn.all.anew
+          (subst (λ b. NothingIsLive b.dictionary (drop (end_of turn.mid.given) (read_by turn.mid))) read.built
+          (subst (NothingIsLive u.built.dictionary) rest done)) ∙ sym read.at;
     }
   where
     each-before : EachIsDecided u → EachIsDecided turn.mid
-    each-before (inl standard) = inl (subst (λ (b : Built). b.dictionary.kind ≡ Standard) turn.read.built standard)
+    each-before (inl standard) = inl (subst (λ b. b.dictionary.kind ≡ Standard) turn.read.built standard)
     each-before (inr closed) = inr (sym turn.read.closed ∙ closed)
 
 -- under the standard kind, closing a search leaves all of its matches returned
-given-closed : (u : StreamProgress) → u.built.dictionary.kind ≡ Standard → AreAllGiven u → AreAllGiven (closed_by u)
-given-closed u standard all = record { searched = all.searched; all = λ each. all.all (inl standard); open_ = all.open_; anew = all.anew }
+given-closed : {q : Sequence} (u : StreamProgress q) → u.built.dictionary.kind ≡ Standard → AreAllGiven u
+    → AreAllGiven (closed_by u)
+given-closed u standard all =
+    record { searched = all.searched; all = λ each. all.all (inl standard); open_ = all.open_; anew = all.anew }
 
 -- under a leftmost kind a closed search knows that no more comes
 closed-leftmost : (kind : MatchKind) → kind ≢ Standard → may_wait kind ≡ true
@@ -218,88 +301,154 @@ closed-leftmost LeftmostFirst leftmost = refl
 closed-leftmost LeftmostLongest leftmost = refl
 
 -- some turns and one more that ended the input
-pub turned-ended : {R : Type 0} (remaining : R → Option (List ℕ)) (s t u : StreamProgress) (before mid after : Watched R) (x y z : Steps) → HasTurned remaining s t before mid x y → TurnGives remaining t u mid after Ended → StreamCounts t u y z → HasTurned remaining s u before after x z
-turned-ended {R} remaining s t u before mid after x y z has turn counts = subst (λ (v : StreamProgress). StreamCounts t v y z → HasTurned remaining s v before after x z) (sym turn.2) by counts
+pub turned-ended : {R : Type 0} {q : Sequence} (remaining : R → Option (List ℕ)) (s t u : StreamProgress q)
+    (before mid after : Watched R) (x y z : Steps) → HasTurned remaining s t before mid x y
+    → TurnGives remaining t u mid after Ended → StreamCounts t u y z → HasTurned remaining s u before after x z
+turned-ended {R} {q} remaining s t u before mid after x y z has turn counts =
+    subst (λ v. StreamCounts t v y z → HasTurned remaining s v before after x z) (sym turn.2) by counts
   where
-    v : StreamProgress
+    v : StreamProgress q
     v = turn.0
 
     by : StreamCounts t (closed_by v) y z → HasTurned remaining s (closed_by v) before after x z
     by counted =
         let read = turn.1.read in
         let gains = gained-more remaining s t v before mid after has.gained [] 0 has.has turn.1 in
-        let same : read_by v ≡ read_by turn.1.mid = ap concat read.pieces ∙ concat-append turn.1.mid.pieces ([] ∷ []) ∙ append-nil (read_by turn.1.mid) in
+        let same : read_by v ≡ read_by turn.1.mid = ap concat read.pieces ∙ concat-append turn.1.mid.pieces ([] ∷ [])
+        ∙ append-nil (read_by turn.1.mid) in
         record {
           gained = has.gained ++ [] ∷ [];
-          has = record { built = gains.built; pieces = gains.pieces; last = gains.last; short = gains.short; read = gains.read };
-          how = HasEnded (has.gained, turned-filled remaining s t v before mid after x y [] 0 has turn.1, refl) read.read.turns.1 (read.read.at_end refl ([], tt, refl))
-              (λ standard. given-closed v standard (all-given-still remaining t v mid after 0 turn.1)) (λ leftmost. closed-leftmost v.built.dictionary.kind leftmost);
+          has = record {
+            built = gains.built;
+            pieces = gains.pieces;
+            last = gains.last;
+            short = gains.short;
+            read = gains.read;
+          };
+          how = HasEnded (has.gained, turned-filled remaining s t v before mid after x y [] 0 has turn.1, refl)
+              read.read.turns.1 (read.read.at_end refl ([], tt, refl))
+              (λ standard. given-closed v standard (all-given-still remaining t v mid after 0 turn.1))
+              (λ leftmost. closed-leftmost v.built.dictionary.kind leftmost);
           given = read.given ∙ turn.1.given ∙ has.given;
-          fresh = λ some. (λ standard. turned-at remaining s t v before mid after x y [] 0 has turn.1, subst CanBeCounted (sym same) turn.1.few, turned-open remaining s t v before mid after x y [] 0 has turn.1);
+          fresh = λ some.
+              let just =
+              turned-fresh remaining s t v before mid after x y [] 0 has turn.1
+              (subst CanBeCounted (sym same) turn.1.few) in
+              record {
+                all = just.all;
+                at = just.at;
+                front = just.front;
+                countable = just.countable;
+                open_ = just.open_;
+              };
           first = λ none. absurd (more-some has.gained [] none);
           unended = λ some. open-first remaining s t v before mid after x y [] 0 has turn.1;
-          on = λ standard. let a = has.on standard in let b = turn.1.nothing.on (subst (λ (b : Built). b.dictionary.kind ≡ Standard) (sym has.has.built) standard) in let e = read.at in omega arith;
-          counts = counts-join s t (closed_by v) x y z has.counts counted;
+          on = λ standard. let a = has.on standard in
+              let b = turn.1.nothing.on (subst (λ b. b.dictionary.kind ≡ Standard) (sym has.has.built) standard) in
+              let e = read.at in omega arith;
+          counts = StreamCounts-then s t (closed_by v) x y z has.counts counted;
         }
 
 -- ---- items
 
 -- where the reader goes on, the search is closed if it was closed before
-closed-still : {R : Type 0} (remaining : R → Option (List ℕ)) (s t : StreamProgress) (before after : Watched R) (x y : Steps) → (has : HasTurned remaining s t before after x y) → (has.gained ≢ [] → (¬ IsTrue after.ended) × (t.closed ≡ false)) → t.closed ≡ s.closed
+closed-still : {R : Type 0} {q : Sequence} (remaining : R → Option (List ℕ)) (s t : StreamProgress q)
+    (before after : Watched R) (x y : Steps) → (has : HasTurned remaining s t before after x y)
+    → (has.gained ≢ [] → (¬ IsTrue after.ended) × (t.closed ≡ false)) → t.closed ≡ s.closed
 closed-still remaining s t before after x y has goes = ⊎_elim
-    (λ (none : has.gained ≡ []). ap (λ (z : StreamProgress). z.closed) (has.first none).0)
+    (λ (none : has.gained ≡ []). ap (λ z. z.closed) (has.first none).0)
     (λ (some : has.gained ≢ []). (goes some).1 ∙ sym (has.unended some).2)
     (none-or-some has.gained)
 
 -- the pieces that were read for a match
-read-for : {R : Type 0} (remaining : R → Option (List ℕ)) (s t u : StreamProgress) (before after : Watched R) (x y : Steps) (o : Occurrence) → (has : HasTurned remaining s t before after x y) → HowItStands remaining s t after has.gained → FindsHeld t (Some o) u → IsReadForMatch s u has.gained
-read-for remaining s t u before after x y o has (GoesOnReading filled goes) finds = inl (filled, finds.0.closed ∙ closed-still remaining s t before after x y has goes)
+read-for : {R : Type 0} {q : Sequence} (remaining : R → Option (List ℕ)) (s t u : StreamProgress q)
+    (before after : Watched R) (x y : Steps) (o : Occurrence) → (has : HasTurned remaining s t before after x y)
+    → HowItStands remaining s t after has.gained → FindsHeld t (Some o) u → IsReadForItem s u has.gained
+read-for remaining s t u before after x y o has (GoesOnReading filled goes) finds =
+    inl (filled, finds.0.closed ∙ closed-still remaining s t before after x y has goes)
 read-for {R} remaining s t u before after x y o has (HasEnded whole ended at_end given closed) finds = ⊎_elim
     (λ (standard : t.built.dictionary.kind ≡ Standard). absurd (finds.6 (given standard)))
-    (λ (leftmost : t.built.dictionary.kind ≢ Standard). inr (subst (λ (b : Built). b.dictionary.kind ≢ Standard) (sym finds.0.built) leftmost, whole, finds.0.closed ∙ closed leftmost))
+    (λ (leftmost : t.built.dictionary.kind ≢ Standard).
+    inr (
+      subst (λ b. b.dictionary.kind ≢ Standard) (sym finds.0.built) leftmost,
+      whole,
+      finds.0.closed ∙ closed leftmost,
+    ))
     (kind_cases t.built.dictionary.kind)
 
--- a turn that found a match returns it
-pub turned-found : {R : Type 0} (remaining : R → Option (List ℕ)) (s t u : StreamProgress) (before mid after : Watched R) (x y : Steps) (o : Occurrence) → HasTurned remaining s t before mid x y → TurnGives remaining t u mid after (Found o) → NextGives remaining s u before after (Some (Ok o))
-turned-found {R} remaining s t u before mid after x y o has turn =
-    let finds = turn.0 in
-    let held = finds.4 in (
-      has.gained,
-      subst (λ (r : Watched R). HasGained remaining s u before r has.gained 0) (sym turn.1) (gained-same remaining s t u before mid has.gained 0 has.has finds.0),
-      read-for remaining s t u before mid x y o has has.how finds,
-      finds.1 ∙ ap (λ (l : List Occurrence). l ++ o ∷ []) has.given,
-      finds.2,
+-- an item found ends after all that was searched, if all items of that were returned
+ends-later : (q : Sequence) (t : StreamProgress q) (o : Occurrence) → IsHeldItem t o
+    → t.built.dictionary.kind ≡ Standard → t.given ≡ items_of q t.built.dictionary (take t.at (read_by t))
+    → t.at < o.end
+ends-later Picks t o held standard all = held.new refl standard
+ends-later Occurrences t o held standard all = held.past refl all
+
+-- a turn that found an item returns it
+pub turned-found : {R : Type 0} {q : Sequence} (remaining : R → Option (List ℕ)) (s t u : StreamProgress q)
+    (before mid after : Watched R) (x y : Steps) (o : Occurrence)
+    → HasTurned remaining s t before mid x y → TurnGives remaining t u mid after (Found o)
+    → NextGives remaining s u before after (Some (Ok o))
+turned-found {R} {q} remaining s t u before mid after x y o has turn = record {
+  gained = has.gained;
+  has = subst (λ r. HasGained remaining s u before r has.gained 0) (sym turn.1)
+      (gained-same remaining s t u before mid has.gained 0 has.has finds.0);
+  read = read-for remaining s t u before mid x y o has has.how finds;
+  given = finds.1 ∙ ap (λ l. l ++ o ∷ []) has.given;
+  come = (finds.2, finds.3);
+  pattern = subst (λ b. o.pattern < length b.dictionary.patterns) has.has.built held.pattern;
+  behind = let l = has.has.last in let b = held.behind in omega arith;
+  some = held.some;
+  new = λ picks standard. let a = has.on standard in let new = held.new picks (there standard) in omega arith;
+  within = subst (λ l. o.end ≤ length (concat l)) (sym finds.0.pieces) held.within;
+  countable = subst (λ l. CanBeCounted (concat l)) (sym finds.0.pieces) finds.5;
+  due = λ some.
+      let fresh = has.fresh some in
       record {
-        pattern = subst (λ (b : Built). o.pattern < length b.dictionary.patterns) has.has.built held.pattern;
-        behind = let l = has.has.last in let b = held.behind in omega arith;
-        some = held.some;
-        new = λ standard. let a = has.on standard in let new = held.new (subst (λ (b : Built). b.dictionary.kind ≡ Standard) (sym has.has.built) standard) in omega arith;
-        within = subst (λ (l : List (List ℕ)). o.end ≤ length (concat l)) (sym finds.0.pieces) held.within;
-        countable = subst (λ (l : List (List ℕ)). CanBeCounted (concat l)) (sym finds.0.pieces) finds.5;
-      },
-      λ some.
-          let fresh = has.fresh some in
-          let same : concat (take (length u.pieces - 1) u.pieces) ≡ concat (take (length t.pieces - 1) t.pieces) = ap (λ (l : List (List ℕ)). concat (take (length l - 1) l)) finds.0.pieces in
-          record {
-            ends = λ standard. let le = fresh.0 standard in let new = held.new (subst (λ (b : Built). b.dictionary.kind ≡ Standard) (sym has.has.built) standard) in let e = ap length same in omega arith;
-            open_ = subst (λ (l : List ℕ). ¬ IsLive s.built.dictionary false (drop (end_of s.given) l) None) (sym same) fresh.2;
-          },
-    )
+        all = λ standard. fresh.all standard ∙ ap (items_of q s.built.dictionary) (sym same);
+        ends = λ standard.
+            let new = ends-later q t o held (there standard)
+            (has.given ∙ fresh.all standard ∙ ap (items_of q s.built.dictionary) (sym fresh.front)
+            ∙ ap (λ b. items_of q b.dictionary (take t.at (read_by t))) (sym has.has.built)) in
+            let e = ap length same in
+            let at = fresh.at in
+            omega arith;
+        open_ = subst (λ l. ¬ IsLive s.built.dictionary false (drop (end_of s.given) l) None) (sym same) fresh.open_;
+      };
+}
+  where
+    finds : FindsHeld t (Some o) u
+    finds = turn.0
+
+    held : IsHeldItem t o
+    held = finds.4
+
+    there : s.built.dictionary.kind ≡ Standard → t.built.dictionary.kind ≡ Standard
+    there standard = subst (λ b. b.dictionary.kind ≡ Standard) (sym has.has.built) standard
+
+    same : read_before u ≡ read_before t
+    same = ap (λ l. concat (but_last l)) finds.0.pieces
 
 -- the pieces that were read where no item is left
-read-to_end : {R : Type 0} (remaining : R → Option (List ℕ)) (s t u : StreamProgress) (before mid : Watched R) (x y : Steps) → (has : HasTurned remaining s t before mid x y) → HowItStands remaining s t mid has.gained → ReadsNothing t u → IsStopped u mid
-    → ((has.gained ≡ []) × (u.closed ≡ s.closed)) ⊎ (AreWhole has.gained × AreAllGiven u × EachIsDecided u × IsAtEnd (remaining mid.inner))
+read-to_end : {R : Type 0} {q : Sequence} (remaining : R → Option (List ℕ)) (s t u : StreamProgress q)
+    (before mid : Watched R) (x y : Steps) → (has : HasTurned remaining s t before mid x y)
+    → HowItStands remaining s t mid has.gained → ReadsNothing t u → IsStopped u mid
+    → ((has.gained ≡ []) × (u.closed ≡ s.closed))
+    ⊎ (AreWhole has.gained × AreAllGiven u × EachIsDecided u × IsAtEnd (remaining mid.inner))
 read-to_end {R} remaining s t u before mid x y has (GoesOnReading filled goes) nothing stopped = ⊎_elim
     (λ (none : has.gained ≡ []). inl (none, nothing.closed ∙ closed-still remaining s t before mid x y has goes))
     (λ (some : has.gained ≢ []).
     absurd (⊎_elim
-    (λ (over : ((mid.ended ≡ true) ⊎ (u.closed ≡ true)) × AreAllGiven u). ⊎_elim (λ (ended : mid.ended ≡ true). (goes some).0 ended) (λ (closed : u.closed ≡ true). false≢true (sym (nothing.closed ∙ (goes some).1) ∙ closed)) over.0)
-    (λ (many : ¬ CanBeCounted (read_by u)). many (subst (λ (l : List (List ℕ)). CanBeCounted (concat l)) (sym nothing.pieces) (has.fresh some).1))
+    (λ (over : ((mid.ended ≡ true) ⊎ (u.closed ≡ true)) × AreAllGiven u).
+    ⊎_elim (λ (ended : mid.ended ≡ true). (goes some).0 ended)
+    (λ (closed : u.closed ≡ true). false≢true (sym (nothing.closed ∙ (goes some).1) ∙ closed)) over.0)
+    (λ (many : ¬ CanBeCounted (read_by u)).
+    many (subst (λ l. CanBeCounted (concat l)) (sym nothing.pieces) (has.fresh some).countable))
     stopped))
     (none-or-some has.gained)
 read-to_end {R} remaining s t u before mid x y has (HasEnded whole ended at_end given closed) nothing stopped = ⊎_elim
     (λ (over : ((mid.ended ≡ true) ⊎ (u.closed ≡ true)) × AreAllGiven u). inr (whole, over.1, each, at_end))
-    (λ (many : ¬ CanBeCounted (read_by u)). absurd (many (subst (λ (l : List (List ℕ)). CanBeCounted (concat l)) (sym nothing.pieces) (has.fresh some).1)))
+    (λ (many : ¬ CanBeCounted (read_by u)).
+    absurd (many (subst (λ l. CanBeCounted (concat l)) (sym nothing.pieces) (has.fresh some).countable)))
     stopped
   where
     -- some piece was read, if only an empty one
@@ -308,42 +457,51 @@ read-to_end {R} remaining s t u before mid x y has (HasEnded whole ended at_end 
 
     each : EachIsDecided u
     each = ⊎_elim
-        (λ (standard : t.built.dictionary.kind ≡ Standard). inl (subst (λ (b : Built). b.dictionary.kind ≡ Standard) (sym nothing.built) standard))
+        (λ (standard : t.built.dictionary.kind ≡ Standard).
+        inl (subst (λ b. b.dictionary.kind ≡ Standard) (sym nothing.built) standard))
         (λ (leftmost : t.built.dictionary.kind ≢ Standard). inr (nothing.closed ∙ closed leftmost))
         (kind_cases t.built.dictionary.kind)
 
 -- a turn at the end returns no item
-pub turned-over : {R : Type 0} (remaining : R → Option (List ℕ)) (s t u : StreamProgress) (before mid after : Watched R) (x y : Steps) → HasTurned remaining s t before mid x y → TurnGives remaining t u mid after Over → NextGives remaining s u before after None
-turned-over {R} remaining s t u before mid after x y has turn = (
-  has.gained,
-  subst (λ (r : Watched R). HasGained remaining s u before r has.gained 0) (sym turn.2) (gained-same remaining s t u before mid has.gained 0 has.has turn.0),
-  subst (λ (r : Watched R). ((has.gained ≡ []) × (u.closed ≡ s.closed)) ⊎ (AreWhole has.gained × AreAllGiven u × EachIsDecided u × IsAtEnd (remaining r.inner))) (sym turn.2)
-      (read-to_end remaining s t u before mid x y has has.how turn.0 (subst (λ (r : Watched R). IsStopped u r) turn.2 turn.3)),
-  turn.1 ∙ has.given,
-  turn.3,
-)
+pub turned-over : {R : Type 0} {q : Sequence} (remaining : R → Option (List ℕ)) (s t u : StreamProgress q)
+    (before mid after : Watched R) (x y : Steps) → HasTurned remaining s t before mid x y
+    → TurnGives remaining t u mid after Over → NextGives remaining s u before after None
+turned-over {R} remaining s t u before mid after x y has turn = record {
+  gained = has.gained;
+  has = subst (λ r. HasGained remaining s u before r has.gained 0) (sym turn.2)
+      (gained-same remaining s t u before mid has.gained 0 has.has turn.0);
+  read = subst
+      (λ r. ((has.gained ≡ []) × (u.closed ≡ s.closed))
+      ⊎ (AreWhole has.gained × AreAllGiven u × EachIsDecided u × IsAtEnd (remaining r.inner))) (sym turn.2)
+      (read-to_end remaining s t u before mid x y has has.how turn.0 (subst (λ r. IsStopped u r) turn.2 turn.3));
+  given = turn.1 ∙ has.given;
+  stopped = turn.3;
+}
 
 -- a turn whose read failed returns the error
-pub turned-failed : {R : Type 0} (remaining : R → Option (List ℕ)) (s t u : StreamProgress) (before mid after : Watched R) (x y : Steps) (error : StreamError) → HasTurned remaining s t before mid x y → TurnGives remaining t u mid after (Failed error) → NextGives remaining s u before after (Some (Err error))
+pub turned-failed : {R : Type 0} {q : Sequence} (remaining : R → Option (List ℕ)) (s t u : StreamProgress q)
+    (before mid after : Watched R) (x y : Steps) (error : StreamError) → HasTurned remaining s t before mid x y
+    → TurnGives remaining t u mid after (Failed error) → NextGives remaining s u before after (Some (Err error))
 turned-failed remaining s t u before mid after x y (Config error) has turn = turn
-turned-failed remaining s t u before mid after x y (Read error) has turn = (
-  has.gained,
-  gained-more remaining s t u before mid after has.gained [] 1 has.has turn,
-  turned-filled remaining s t u before mid after x y [] 1 has turn,
-  turn.read.given ∙ turn.given ∙ has.given,
-  turn.read.read.turns.1,
-  all-given-still remaining t u mid after 1 turn,
-)
+turned-failed remaining s t u before mid after x y (Read error) has turn = record {
+  filled = has.gained;
+  has = gained-more remaining s t u before mid after has.gained [] 1 has.has turn;
+  read = turned-filled remaining s t u before mid after x y [] 1 has turn;
+  given = turn.read.given ∙ turn.given ∙ has.given;
+  ended = turn.read.read.turns.1;
+  all = all-given-still remaining t u mid after 1 turn;
+}
 turned-failed remaining s t u before mid after x y (Write error) has turn = turn
 turned-failed remaining s t u before mid after x y WriteZero has turn = turn
 turned-failed remaining s t u before mid after x y Memory has turn = turn
-turned-failed remaining s t u before mid after x y Position has turn = (
-  has.gained ++ turn.0 ∷ [],
-  gained-more remaining s t u before mid after has.gained turn.0 0 has.has turn.1,
-  AreFilled-push has.gained turn.0 (turned-filled remaining s t u before mid after x y turn.0 0 has turn.1) turn.2,
-  turn.1.read.given ∙ turn.1.given ∙ has.given,
-  turn.3,
-)
+turned-failed remaining s t u before mid after x y Position has turn = record {
+  gained = has.gained ++ turn.0 ∷ [];
+  has = gained-more remaining s t u before mid after has.gained turn.0 0 has.has turn.1;
+  read = AreFilled-push has.gained (turned-filled remaining s t u before mid after x y turn.0 0 has turn.1) turn.2;
+  given = turn.1.read.given ∙ turn.1.given ∙ has.given;
+  all = turned-had remaining s t u before mid after x y turn.0 0 has turn.1;
+  many = turn.3;
+}
 
 -- a piece that isn't empty is some bytes
 some-bytes : (piece : List ℕ) → piece ≢ [] → 0 < length piece
@@ -355,16 +513,20 @@ abbrev pub turns_left : ℕ → Bool → ℕ
 turns_left read ended = 2 * (18446744073709551616 - read) + (if ended then 0 else 1)
 
 -- fewer turns are left after more bytes
-more-fewer : (read later : ℕ) (ended ends : Bool) → read < later → later ≤ 18446744073709551615 → turns_left later ends < turns_left read ended
+more-fewer : (read later : ℕ) (ended ends : Bool) → read < later → later ≤ usize_max
+    → turns_left later ends < turns_left read ended
 more-fewer read later true true lt few = omega arith
 more-fewer read later true false lt few = omega arith
 more-fewer read later false true lt few = omega arith
 more-fewer read later false false lt few = omega arith
 
 -- fewer turns are left after one that read some bytes
-pub turn-smaller : {R : Type 0} (remaining : R → Option (List ℕ)) (t u : StreamProgress) (mid after : Watched R) → TurnGives remaining t u mid after More → turns_left (length (read_by u)) after.ended < turns_left (length (read_by t)) mid.ended
+pub turn-smaller : {R : Type 0} {q : Sequence} (remaining : R → Option (List ℕ)) (t u : StreamProgress q)
+    (mid after : Watched R) → TurnGives remaining t u mid after More
+    → turns_left (length (read_by u)) after.ended < turns_left (length (read_by t)) mid.ended
 turn-smaller remaining t u mid after turn =
-    let all : read_by u ≡ read_by t ++ (turn.0 ++ []) = ap concat turn.1.read.pieces ∙ ap (λ (l : List (List ℕ)). concat (l ++ turn.0 ∷ [])) turn.1.nothing.pieces ∙ concat-append t.pieces (turn.0 ∷ []) in
+    let all : read_by u ≡ read_by t ++ (turn.0 ++ []) = ap concat turn.1.read.pieces
+    ∙ ap (λ l. concat (l ++ turn.0 ∷ [])) turn.1.nothing.pieces ∙ concat-append t.pieces (turn.0 ∷ []) in
     let long = ap length all in
     let both = length-append (read_by t) (turn.0 ++ []) in
     let piece = length-append turn.0 [] in
@@ -372,60 +534,80 @@ turn-smaller remaining t u mid after turn =
     more-fewer (length (read_by t)) (length (read_by u)) mid.ended after.ended (omega arith) turn.3
 
 -- fewer turns are left after one that ended the input
-pub ended-smaller : {R : Type 0} (remaining : R → Option (List ℕ)) (t u : StreamProgress) (mid after : Watched R) → TurnGives remaining t u mid after Ended → turns_left (length (read_by u)) after.ended < turns_left (length (read_by t)) mid.ended
+pub ended-smaller : {R : Type 0} {q : Sequence} (remaining : R → Option (List ℕ)) (t u : StreamProgress q)
+    (mid after : Watched R) → TurnGives remaining t u mid after Ended
+    → turns_left (length (read_by u)) after.ended < turns_left (length (read_by t)) mid.ended
 ended-smaller remaining t u mid after turn =
     let read = turn.1.read in
-    let same : read_by u ≡ read_by t = ap (λ (v : StreamProgress). read_by v) turn.2 ∙ ap concat read.pieces ∙ concat-append turn.1.mid.pieces ([] ∷ []) ∙ append-nil (read_by turn.1.mid) ∙ ap concat turn.1.nothing.pieces in
+    let same : read_by u ≡ read_by t = ap (λ v. read_by v) turn.2 ∙ ap concat read.pieces
+    ∙ concat-append turn.1.mid.pieces ([] ∷ []) ∙ append-nil (read_by turn.1.mid) ∙ ap concat turn.1.nothing.pieces in
     let long = ap length same in
-    let ends = ap (λ (b : Bool). turns_left (length (read_by u)) b) read.read.turns.1 in
-    let open_ = ap (λ (b : Bool). turns_left (length (read_by t)) b) read.read.turns.0 in
+    let ends = ap (λ b. turns_left (length (read_by u)) b) read.read.turns.1 in
+    let open_ = ap (λ b. turns_left (length (read_by t)) b) read.read.turns.0 in
     omega arith
 
 -- ---- nothing comes after the end
 
 -- where nothing was left to come, no piece was read
-none-gained : {R : Type 0} (s : StreamProgress) (before : Watched R) (gained : List (List ℕ)) → IsStopped s before → (gained ≢ [] → (before.ended ≡ false) × CanBeCounted (read_by s) × (s.closed ≡ false)) → gained ≡ []
+none-gained : {R : Type 0} {q : Sequence} (s : StreamProgress q) (before : Watched R) (gained : List (List ℕ))
+    → IsStopped s before → (gained ≢ [] → (before.ended ≡ false) × CanBeCounted (read_by s) × (s.closed ≡ false))
+    → gained ≡ []
 none-gained s before gained stopped open_ = ⊎_elim
     (λ (none : gained ≡ []). none)
     (λ (some : gained ≢ []).
     let first = open_ some in
-    absurd (⊎_elim (λ (over : ((before.ended ≡ true) ⊎ (s.closed ≡ true)) × AreAllGiven s). ⊎_elim (λ (ended : before.ended ≡ true). false≢true (sym first.0 ∙ ended)) (λ (closed : s.closed ≡ true). false≢true (sym first.2 ∙ closed)) over.0) (λ (many : ¬ CanBeCounted (read_by s)). many first.1) stopped))
+    absurd (⊎_elim
+    (λ (over : ((before.ended ≡ true) ⊎ (s.closed ≡ true)) × AreAllGiven s).
+    ⊎_elim (λ (ended : before.ended ≡ true). false≢true (sym first.0 ∙ ended))
+    (λ (closed : s.closed ≡ true). false≢true (sym first.2 ∙ closed)) over.0)
+    (λ (many : ¬ CanBeCounted (read_by s)). many first.1) stopped))
     (none-or-some gained)
 
 -- a search that has stopped finds no match
-none-found : {R : Type 0} (s u : StreamProgress) (before : Watched R) (o : Occurrence) → IsStopped s before → ¬ FindsHeld s (Some o) u
+none-found : {R : Type 0} {q : Sequence} (s u : StreamProgress q) (before : Watched R) (o : Occurrence)
+    → IsStopped s before → ¬ FindsHeld s (Some o) u
 none-found s u before o stopped finds = ⊎_elim
     (λ (over : ((before.ended ≡ true) ⊎ (s.closed ≡ true)) × AreAllGiven s). absurd (finds.6 over.1))
     (λ (many : ¬ CanBeCounted (read_by s)). many finds.5)
     stopped
 
 -- a turn of a search that has stopped returns no match
-pub stopped-found : {R : Type 0} (remaining : R → Option (List ℕ)) (s t u : StreamProgress) (before mid after : Watched R) (x y : Steps) (o : Occurrence) → HasTurned remaining s t before mid x y → TurnGives remaining t u mid after (Found o) → ¬ IsStopped s before
+pub stopped-found : {R : Type 0} {q : Sequence} (remaining : R → Option (List ℕ)) (s t u : StreamProgress q)
+    (before mid after : Watched R) (x y : Steps) (o : Occurrence) → HasTurned remaining s t before mid x y
+    → TurnGives remaining t u mid after (Found o) → ¬ IsStopped s before
 stopped-found remaining s t u before mid after x y o has turn stopped =
     let same = has.first (none-gained s before has.gained stopped has.unended) in
-    none-found s u before o stopped (subst (λ (z : StreamProgress). FindsHeld z (Some o) u) same.0 turn.0)
+    none-found s u before o stopped (subst (λ z. FindsHeld z (Some o) u) same.0 turn.0)
 
 -- a search that has stopped makes no read
-stopped-read : {R : Type 0} (remaining : R → Option (List ℕ)) (s t u : StreamProgress) (before mid after : Watched R) (x y : Steps) (piece : List ℕ) (failed : ℕ) → HasTurned remaining s t before mid x y → TurnReads remaining t u mid after piece failed → ¬ IsStopped s before
+stopped-read : {R : Type 0} {q : Sequence} (remaining : R → Option (List ℕ)) (s t u : StreamProgress q)
+    (before mid after : Watched R) (x y : Steps) (piece : List ℕ) (failed : ℕ) → HasTurned remaining s t before mid x y
+    → TurnReads remaining t u mid after piece failed → ¬ IsStopped s before
 stopped-read remaining s t u before mid after x y piece failed has turn stopped =
     let first = open-first remaining s t u before mid after x y piece failed has turn in
     more-some [] piece (none-gained s before (piece ∷ []) stopped (λ some. first))
 
 -- a turn of a search that has stopped returns no error
-pub stopped-failed : {R : Type 0} (remaining : R → Option (List ℕ)) (s t u : StreamProgress) (before mid after : Watched R) (x y : Steps) (error : StreamError) → HasTurned remaining s t before mid x y → TurnGives remaining t u mid after (Failed error) → ¬ IsStopped s before
+pub stopped-failed : {R : Type 0} {q : Sequence} (remaining : R → Option (List ℕ)) (s t u : StreamProgress q)
+    (before mid after : Watched R) (x y : Steps) (error : StreamError) → HasTurned remaining s t before mid x y
+    → TurnGives remaining t u mid after (Failed error) → ¬ IsStopped s before
 stopped-failed remaining s t u before mid after x y (Config error) has turn = absurd turn
-stopped-failed remaining s t u before mid after x y (Read error) has turn = stopped-read remaining s t u before mid after x y [] 1 has turn
+stopped-failed remaining s t u before mid after x y (Read error) has turn =
+    stopped-read remaining s t u before mid after x y [] 1 has turn
 stopped-failed remaining s t u before mid after x y (Write error) has turn = absurd turn
 stopped-failed remaining s t u before mid after x y WriteZero has turn = absurd turn
 stopped-failed remaining s t u before mid after x y Memory has turn = absurd turn
-stopped-failed remaining s t u before mid after x y Position has turn = stopped-read remaining s t u before mid after x y turn.0 0 has turn.1
+stopped-failed remaining s t u before mid after x y Position has turn =
+    stopped-read remaining s t u before mid after x y turn.0 0 has turn.1
 
 -- a turn of a search that has stopped returns no item, and leaves everything unchanged
-pub stopped-over : {R : Type 0} (remaining : R → Option (List ℕ)) (s t u : StreamProgress) (before mid after : Watched R) (x y : Steps) → HasTurned remaining s t before mid x y → TurnGives remaining t u mid after Over → StaysStopped s u before after None
+pub stopped-over : {R : Type 0} {q : Sequence} (remaining : R → Option (List ℕ)) (s t u : StreamProgress q)
+    (before mid after : Watched R) (x y : Steps) → HasTurned remaining s t before mid x y
+    → TurnGives remaining t u mid after Over → StaysStopped s u before after None
 stopped-over {R} remaining s t u before mid after x y has over = λ stopped.
     let same = has.first (none-gained s before has.gained stopped has.unended) in (
       refl,
-      over.0.pieces ∙ ap (λ (z : StreamProgress). z.pieces) same.0,
-      over.1 ∙ ap (λ (z : StreamProgress). z.given) same.0,
+      over.0.pieces ∙ ap (λ z. z.pieces) same.0,
+      over.1 ∙ ap (λ z. z.given) same.0,
       over.2 ∙ same.1,
     )

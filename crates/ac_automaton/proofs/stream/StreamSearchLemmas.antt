@@ -6,13 +6,12 @@ use Rattle.std.proofs.lemmas.Bool.{false≢true, ltb-false, ltb-true}
 use Rattle.std.proofs.lemmas.List.{drop-append-le, drop-drop}
 use Rattle.std.proofs.lemmas.List.Elements.{All-push}
 use Rattle.std.proofs.lemmas.List.Folds.{concat-append}
-use Rattle.ac_input.specs.Number.{StateID}
+use Rattle.ac_input.specs.Number.{usize_max, StateID}
 use Rattle.ac_input.specs.declared.steps.Steps.{Steps}
 use Rattle.ac_input.specs.declared.search.MatchKind.{MatchKind}
 use Rattle.ac_input.specs.declared.search.MatchKind.TheVariants.{Standard, LeftmostFirst, LeftmostLongest}
 use Rattle.ac_input.specs.Dictionary.{IsLive, live_len, whole}
 use Rattle.ac_input.specs.Best.{IsBest}
-use Rattle.ac_input.specs.Laws.LiveLaws.{IsOwnInverse}
 use Rattle.ac_input.specs.Walk.{IsWalk}
 use Rattle.ac_input.proofs.lemmas.BeginningLemmas.{slice_range-append}
 use Rattle.ac_input.specs.Occurrence.{Occurrence}
@@ -24,7 +23,7 @@ use Rattle.ac_automaton.specs.Devices.Buffer.{Filled, Held, IsRollPaid, room_for
 use Rattle.std.specs.Prelude.{max}
 use Rattle.ac_automaton.specs.Replace.{matches_in}
 use Rattle.ac_automaton.specs.Stream.StreamSearch.{HoldsRead, IsStreamSearch, StandsInState, since_last, SearchesOn, after_search, passed_in_all, progress_at, some_of}
-use Rattle.ac_automaton.specs.Stream.{CanBeCounted, HasRead, IsOnCourse, cut_of, StreamProgress, fresh_progress, room_of, IsDecided, StreamCounts, read_by, closed_by, may_wait}
+use Rattle.ac_automaton.specs.Stream.{CanBeCounted, HasRead, IsOnCourse, cut_of, StreamProgress, fresh_progress, room_of, IsDecided, read_by, closed_by, may_wait, Picks}
 use Rattle.ac_automaton.specs.Devices.Moved.{HasGiven}
 use Rattle.ac_automaton.specs.declared.watched.Watched.{Watched}
 use Rattle.ac_automaton.specs.declared.stream.search.Progress.{Progress}
@@ -34,15 +33,14 @@ use Rattle.ac_automaton.specs.declared.automaton.Automaton.{Ghosts}
 use Rattle.ac_automaton.specs.declared.stream.search.Searched.{Searched}
 use Rattle.ac_automaton.proofs.stream.SearchLemmas.{live-empty, wait-standard, stands-from, nothing-in_empty, alive-none}
 use Rattle.ac_automaton.proofs.stream.StreamLemmas.{walk-any}
+use Rattle.ac_automaton.proofs.stream.SequenceLemmas.{picks≢occurrences}
+use Rattle.ac_input.proofs.lemmas.SomeLemmas.{live-some}
 
 -- ---- counting
 
--- nothing was done
-pub counts-none : (s : StreamProgress) (x : Steps) → StreamCounts s s x x
-counts-none s x = (0, 0, 0, record { looked = omega arith; scanned = omega arith; moved = omega arith }, omega arith, omega arith, omega arith)
-
 -- what is done in fresh steps is done in the steps to which they are added
-pub added-done : (looks : ℕ) (fresh taken before after : Steps) → AreNone fresh → Done looks 0 0 fresh taken → Added taken before after → Done looks 0 0 before after
+pub added-done : (looks : ℕ) (fresh taken before after : Steps) → AreNone fresh → Done looks 0 0 fresh taken
+    → Added taken before after → Done looks 0 0 before after
 added-done looks fresh taken before after none done added =
     let a = none.looked in
     let b = none.scanned in
@@ -58,27 +56,34 @@ added-done looks fresh taken before after none done added =
 -- ---- what was given
 
 -- the matches returned are the first of all matches
-pub given-front : (s : StreamProgress) → IsDecided s → take (length s.given) (matches_in s.built (read_by s)) ≡ s.given
+pub given-front : (s : StreamProgress Picks) → IsDecided s
+    → take (length s.given) (matches_in s.built (read_by s)) ≡ s.given
 given-front s decided =
     let rest = decided [] (λ _. refl) in
-    let all : matches_in s.built (read_by s) ≡ s.given ++ rest.0 = ap (matches_in s.built) (sym (append-nil (read_by s))) ∙ rest.1 in
+    let all : matches_in s.built (read_by s) ≡ s.given ++ rest.0 =
+    ap (matches_in s.built) (sym (append-nil (read_by s))) ∙ rest.1 in
     ap (take (length s.given)) all ∙ take-append_seam s.given rest.0
 
 -- ---- the next match
 
 -- how far a search has come after the next match, from what it keeps then
-pub next-view : (b : Built) (pieces : List (List ℕ)) (count : ℕ) (p : Progress) (buffer : Held) (sums : Steps) (r : Searched) (looks : ℕ) (more : Steps) (number : ℕ)
+pub next-view : (b : Built) (pieces : List (List ℕ)) (count : ℕ) (p : Progress) (buffer : Held) (sums : Steps)
+    (r : Searched) (looks : ℕ) (more : Steps) (number : ℕ)
     → length (take count (matches_in b (concat pieces))) ≡ count
     → IsDecided (after_search (progress_at b pieces count p buffer sums) r looks)
     → r.progress.closed ≡ p.closed
     → r.progress.from ≡ p.from
     → number ≡ count + length (some_of r.found)
     → Done looks 0 0 sums more
-    → progress_at b pieces number r.progress buffer more ≡ after_search (progress_at b pieces count p buffer sums) r looks
+    → progress_at b pieces number r.progress buffer more
+    ≡ after_search (progress_at b pieces count p buffer sums) r looks
 next-view b pieces count p buffer sums r looks more number is decided closed from numbered done =
     let given : List Occurrence = take count (matches_in b (concat pieces)) in
-    let long : number ≡ length (given ++ some_of r.found) = let both = length-append given (some_of r.found) in omega arith in
-    let front : take number (matches_in b (concat pieces)) ≡ given ++ some_of r.found = ap (λ (n : ℕ). take n (matches_in b (concat pieces))) long ∙ given-front (after_search (progress_at b pieces count p buffer sums) r looks) decided in
+    let long : number ≡ length (given ++ some_of r.found) = let both = length-append given (some_of r.found) in
+    omega arith in
+    let front : take number (matches_in b (concat pieces))
+    ≡ given ++ some_of r.found = ap (λ n. take n (matches_in b (concat pieces))) long
+    ∙ given-front (after_search (progress_at b pieces count p buffer sums) r looks) decided in
     let scanned : more.scanned.value ≡ sums.scanned.value = let e = done.scanned in omega arith in
     λ i. record {
       built = b;
@@ -94,12 +99,21 @@ next-view b pieces count p buffer sums r looks more number is decided closed fro
     }
 
 -- what the search keeps after the next match is right
-pub next-stream : (Reaches : List ℕ → StateID → Type 0) (s : StreamProgress) (start sid : StateID) (best : Option Occurrence) (count : ℕ) (buffer : Held) (over : Bool) (r : Searched) (x y : Steps) (number : ℕ)
-    → IsStreamSearch Reaches s start sid best count buffer over → (on : SearchesOn Reaches s start r x y) → number ≡ count + length (some_of r.found) → IsStreamSearch Reaches (after_search s r on.looks) start r.progress.sid r.progress.best number buffer over
+pub next-stream : (Reaches : List ℕ → StateID → Type 0) (s : StreamProgress Picks) (start sid : StateID)
+    (best : Option Occurrence) (count : ℕ) (buffer : Held) (over : Bool) (r : Searched) (x y : Steps) (number : ℕ)
+    → IsStreamSearch Reaches s start sid best count buffer over → (on : SearchesOn Reaches s start r x y)
+    → number ≡ count + length (some_of r.found)
+    → IsStreamSearch Reaches (after_search s r on.looks) start r.progress.sid r.progress.best number buffer over
 next-stream Reaches s start sid best count buffer over r x y number is on numbered = record {
   stands = on.stands;
   number = let both = length-append s.given (some_of r.found) in let n = is.number in omega arith;
-  holds = record { bytes = is.holds.bytes; keep = is.holds.keep; read = is.holds.read; moved = is.holds.moved; paid = is.holds.paid };
+  holds = record {
+    bytes = is.holds.bytes;
+    keep = is.holds.keep;
+    read = is.holds.read;
+    moved = is.holds.moved;
+    paid = is.holds.paid;
+  };
   countable = is.countable;
   uncountable = is.uncountable;
 }
@@ -107,19 +121,25 @@ next-stream Reaches s start sid best count buffer over r x y number is on number
 -- ---- at first
 
 -- a search that has read nothing stands in the start state
-fresh-stands : (b : Built) (Reaches : List ℕ → StateID → Type 0) (start : StateID) → 1 ≤ shortest b.dictionary.patterns → Reaches [] start → IsOwnInverse b.dictionary.pairing → ((live : Option ℕ) × IsLive b.dictionary false [] live) → StandsInState Reaches (fresh_progress b) start start None
-fresh-stands b Reaches start filled begins inverse live =
+fresh-stands : (b : Built) (Reaches : List ℕ → StateID → Type 0) (start : StateID) → 1 ≤ shortest b.dictionary.patterns
+    → Reaches [] start → StandsInState Reaches (fresh_progress b) start start None
+fresh-stands b Reaches start filled begins =
     let nothing = nothing-in_empty b.dictionary [] filled refl in
-    let alive = alive-none b.dictionary [] live.0 nothing live.1 in
+    let alive = alive-none b.dictionary [] (live-some).0 nothing (live-some).1 in
     let kind = b.dictionary.kind in
-    stands-from Reaches (fresh_progress b) start start None None alive.0 (λ standard. refl) filled (omega arith) (omega arith) (omega arith) (omega arith) (omega arith) (omega arith) (λ k d lt. absurd (omega arith)) refl (omega arith) begins begins
-    refl nothing (λ standard. refl) inverse alive.1
-    (λ more rest follows walk. walk-any kind (whole b.dictionary more false) 0 (Some 0) None rest (omega arith) filled walk)
+    stands-from Reaches (fresh_progress b) start start None None alive.0 (λ standard. refl) filled (omega arith)
+    (omega arith) (omega arith) (omega arith) (omega arith) (omega arith) (λ k d lt. absurd (omega arith)) refl
+    (omega arith) begins begins
+    refl nothing (λ standard. refl) alive.1
+    (λ more rest follows walk. walk-any kind (whole b.dictionary more false) 0 (Some 0) None rest (omega arith) filled
+    walk)
     (λ one is. let none = live-empty [] 0 one in (omega arith, omega arith, λ d. omega arith))
 
 -- how far a search that has read nothing has come, from what it keeps
-pub fresh-view : (b : Built) (pieces : List (List ℕ)) (count : ℕ) (start : StateID) (n : ℕ) (buffer : Held) (sums : Steps) → pieces ≡ [] → count ≡ 0 → buffer ≡ nothing_held (max n 1) → AreNone sums
-    → progress_at b pieces count (record { sid = start; from = 0; at = 0; last = 0; best = None; closed = false }) buffer sums ≡ fresh_progress b
+pub fresh-view : (b : Built) (pieces : List (List ℕ)) (count : ℕ) (start : StateID) (n : ℕ) (buffer : Held)
+    (sums : Steps) → pieces ≡ [] → count ≡ 0 → buffer ≡ nothing_held (max n 1) → AreNone sums
+    → progress_at b pieces count (record { sid = start; from = 0; at = 0; last = 0; best = None; closed = false })
+    buffer sums ≡ fresh_progress b
 fresh-view b pieces count start n buffer sums none zero_given empty no_sums = λ i. record {
   built = b;
   pieces = none i;
@@ -134,16 +154,18 @@ fresh-view b pieces count start n buffer sums none zero_given empty no_sums = λ
 }
 
 -- and what it keeps is right
-pub fresh-right : (b : Built) (Reaches : List ℕ → StateID → Type 0) (start : StateID) (n count : ℕ) (buffer : Held) → 1 ≤ shortest b.dictionary.patterns → Reaches [] start → IsOwnInverse b.dictionary.pairing → ((live : Option ℕ) × IsLive b.dictionary false [] live)
-    → n ≡ longest b.dictionary.patterns → count ≡ 0 → buffer ≡ nothing_held (max n 1) → IsRollPaid buffer → IsStreamSearch Reaches (fresh_progress b) start start None count buffer false
-fresh-right b Reaches start n count buffer filled begins inverse live long none empty paid = record {
-  stands = fresh-stands b Reaches start filled begins inverse live;
+pub fresh-right : (b : Built) (Reaches : List ℕ → StateID → Type 0) (start : StateID) (n count : ℕ) (buffer : Held)
+    → 1 ≤ shortest b.dictionary.patterns → Reaches [] start → n ≡ longest b.dictionary.patterns → count ≡ 0
+    → buffer ≡ nothing_held (max n 1) → IsRollPaid buffer
+    → IsStreamSearch Reaches (fresh_progress b) start start None count buffer false
+fresh-right b Reaches start n count buffer filled begins long none empty paid = record {
+  stands = fresh-stands b Reaches start filled begins;
   number = sym none;
   holds = record {
-    bytes = ap (λ (h : Held). h.bytes) empty;
-    keep = ap (λ (h : Held). h.keep) empty ∙ ap (λ longest. max longest 1) long;
-    read = ap (λ (h : Held). h.read) empty;
-    moved = ap (λ (h : Held). h.moved) empty;
+    bytes = ap (λ h. h.bytes) empty;
+    keep = ap (λ h. h.keep) empty ∙ ap (λ longest. max longest 1) long;
+    read = ap (λ h. h.read) empty;
+    moved = ap (λ h. h.moved) empty;
     paid = paid;
   };
   countable = λ e. omega arith;
@@ -153,18 +175,23 @@ fresh-right b Reaches start n count buffer filled begins inverse live long none 
 -- ---- the end of the input
 
 -- a closed search has nothing more to read
-wait-follows : (kind : MatchKind) (closed : Bool) (more : List ℕ) → (kind ≡ Standard → closed ≡ false) → (may_wait kind ≡ true → more ≡ []) → closed ≡ true → more ≡ []
+wait-follows : (kind : MatchKind) (closed : Bool) (more : List ℕ) → (kind ≡ Standard → closed ≡ false)
+    → (may_wait kind ≡ true → more ≡ []) → closed ≡ true → more ≡ []
 wait-follows Standard closed more none follows is = absurd (false≢true (sym (none refl) ∙ is))
 wait-follows LeftmostFirst closed more none follows is = follows refl
 wait-follows LeftmostLongest closed more none follows is = follows refl
 
 -- closing a search leaves it where it stands
-closed-stands : (Reaches : List ℕ → StateID → Type 0) (s : StreamProgress) (start sid : StateID) (best : Option Occurrence) → StandsInState Reaches s start sid best → StandsInState Reaches (closed_by s) start sid best
+closed-stands : (Reaches : List ℕ → StateID → Type 0) (s : StreamProgress Picks) (start sid : StateID)
+    (best : Option Occurrence) → StandsInState Reaches s start sid best
+    → StandsInState Reaches (closed_by s) start sid best
 closed-stands Reaches s start sid best stands =
     let course = stands.course in
     let kind = s.built.dictionary.kind in
     record {
       course = record {
+        standard = course.standard;
+        passed = course.passed;
         unclosed = λ standard. wait-standard kind standard;
         filled = course.filled;
         ordered = course.ordered;
@@ -173,7 +200,14 @@ closed-stands Reaches s start sid best stands =
         begun = course.begun;
         ended = course.ended;
         decided = λ more follows. course.decided more (wait-follows kind s.closed more course.unclosed follows);
-        paid = record { some = course.paid.some; looked = course.paid.looked; near = course.paid.near; scanned = course.paid.scanned; moved = course.paid.moved };
+        paid = record {
+          some = course.paid.some;
+          looked = course.paid.looked;
+          near = course.paid.near;
+          scanned = course.paid.scanned;
+          moved = course.paid.moved;
+          unmoved = course.paid.unmoved;
+        };
       };
       begins = stands.begins;
       reads = stands.reads;
@@ -181,19 +215,28 @@ closed-stands Reaches s start sid best stands =
       kept = stands.kept;
       told = stands.told;
       quiet = stands.quiet;
-      inverse = stands.inverse;
       live = stands.live;
       alive = stands.alive;
-      goes = λ more rest follows walk. stands.goes more rest (wait-follows kind s.closed more course.unclosed follows) walk;
+      goes = λ more rest follows walk.
+          stands.goes more rest (wait-follows kind s.closed more course.unclosed follows) walk;
       lookups = stands.lookups;
     }
 
 -- and what it keeps is right
-pub closed-right : (Reaches : List ℕ → StateID → Type 0) (s : StreamProgress) (start sid : StateID) (best : Option Occurrence) (count : ℕ) (buffer : Held) (over : Bool) → IsStreamSearch Reaches s start sid best count buffer over → IsStreamSearch Reaches (closed_by s) start sid best count buffer over
+pub closed-right : (Reaches : List ℕ → StateID → Type 0) (s : StreamProgress Picks) (start sid : StateID)
+    (best : Option Occurrence) (count : ℕ) (buffer : Held) (over : Bool)
+    → IsStreamSearch Reaches s start sid best count buffer over
+    → IsStreamSearch Reaches (closed_by s) start sid best count buffer over
 closed-right Reaches s start sid best count buffer over is = record {
   stands = closed-stands Reaches s start sid best is.stands;
   number = is.number;
-  holds = record { bytes = is.holds.bytes; keep = is.holds.keep; read = is.holds.read; moved = is.holds.moved; paid = is.holds.paid };
+  holds = record {
+    bytes = is.holds.bytes;
+    keep = is.holds.keep;
+    read = is.holds.read;
+    moved = is.holds.moved;
+    paid = is.holds.paid;
+  };
   countable = is.countable;
   uncountable = is.uncountable;
 }
@@ -209,19 +252,23 @@ pub record IsGrown (old new : Held) (piece : List ℕ) : Type 0 where
   pub paid : IsRollPaid new
 
 -- how far a search has come after a read
-abbrev pub after_read : StreamProgress → List ℕ → StreamProgress
+abbrev pub after_read : StreamProgress Picks → List ℕ → StreamProgress Picks
 after_read s piece = record s { pieces = s.pieces ++ piece ∷ [] }
 
 -- the bytes read after a read are those before it and the piece
-pub read-more : (s : StreamProgress) (piece : List ℕ) → read_by (after_read s piece) ≡ read_by s ++ piece
-read-more s piece = concat-append s.pieces (piece ∷ []) ∙ ap (λ (l : List ℕ). read_by s ++ l) (append-nil piece)
+pub read-more : (s : StreamProgress Picks) (piece : List ℕ) → read_by (after_read s piece) ≡ read_by s ++ piece
+read-more s piece = concat-append s.pieces (piece ∷ []) ∙ ap (λ l. read_by s ++ l) (append-nil piece)
 
 -- what comes after a read: the piece and what follows it
-read-on : (s : StreamProgress) (piece more : List ℕ) → read_by (after_read s piece) ++ more ≡ read_by s ++ (piece ++ more)
-read-on s piece more = ap (λ (l : List ℕ). l ++ more) (read-more s piece) ∙ append_assoc (read_by s) piece more
+read-on : (s : StreamProgress Picks) (piece more : List ℕ)
+    → read_by (after_read s piece) ++ more ≡ read_by s ++ (piece ++ more)
+read-on s piece more = ap (λ l. l ++ more) (read-more s piece) ∙ append_assoc (read_by s) piece more
 
 -- a read leaves the search in its state
-read-stands : (Reaches : List ℕ → StateID → Type 0) (s : StreamProgress) (start sid : StateID) (best : Option Occurrence) (piece : List ℕ) → StandsInState Reaches s start sid best → s.closed ≡ false → length (read_by s ++ piece) ≤ s.from + room_of s.built → length piece ≤ room_of s.built → StandsInState Reaches (after_read s piece) start sid best
+read-stands : (Reaches : List ℕ → StateID → Type 0) (s : StreamProgress Picks) (start sid : StateID)
+    (best : Option Occurrence) (piece : List ℕ) → StandsInState Reaches s start sid best → s.closed ≡ false
+    → length (read_by s ++ piece) ≤ s.from + room_of Picks s.built → length piece ≤ room_of Picks s.built
+    → StandsInState Reaches (after_read s piece) start sid best
 read-stands Reaches s start sid best piece is open_ fits short =
     let m = s.built.dictionary in
     let t = after_read s piece in
@@ -232,23 +279,30 @@ read-stands Reaches s start sid best piece is open_ fits short =
     let ordered = course.ordered in
     let moved = course.paid.moved in
     let kept = course.kept in
-    let same : since_last t ≡ since_last s = ap (λ (l : List ℕ). slice_range l s.last s.at) more ∙ slice_range-append (read_by s) piece s.last s.at ordered.0 ordered.1 in
-    stands-from Reaches t start sid best is.found is.live course.unclosed course.filled ordered.0 (omega (arith, ordered.1)) course.ended kept.0 kept.1 (omega arith) (All-push (λ l. length l ≤ room_of s.built) s.pieces piece course.short short) course.paid.scanned (omega arith) is.begins
-    (subst (λ (l : List ℕ). Reaches l sid) (sym same) is.reads)
+    let same : since_last t ≡ since_last s = ap (λ l. slice_range l s.last s.at) more
+    ∙ slice_range-append (read_by s) piece ordered.0 ordered.1 in
+    stands-from Reaches t start sid best is.found is.live course.unclosed course.filled ordered.0
+    (omega (arith, ordered.1)) course.ended kept.0 kept.1 (omega arith)
+    (All-push (λ l. length l ≤ room_of Picks s.built) s.pieces piece course.short short) course.paid.scanned
+    (omega arith) is.begins
+    (subst (λ l. Reaches l sid) (sym same) is.reads)
     is.kept
-    (subst (λ (l : List ℕ). IsBest m.kind (whole m l false) is.found) (sym same) is.told)
-    is.quiet is.inverse
-    (subst (λ (l : List ℕ). IsLive m false l (Some is.live)) (sym same) is.alive)
+    (subst (λ l. IsBest m.kind (whole m l false) is.found) (sym same) is.told)
+    is.quiet
+    (subst (λ l. IsLive m false l (Some is.live)) (sym same) is.alive)
     (λ after rest follows walk.
     let e = read-on s piece after in
-    subst (λ (l : List ℕ). IsWalk m.kind (whole m l false) 0 None (s.given ++ rest)) (sym e)
-    (is.goes (piece ++ after) rest (λ closed. absurd (false≢true (sym open_ ∙ closed))) (subst (λ (l : List ℕ). IsWalk m.kind (whole m l false) s.last (Some s.last) rest) e walk)))
+    subst (λ l. IsWalk m.kind (whole m l false) 0 None (s.given ++ rest)) (sym e)
+    (is.goes (piece ++ after) rest (λ closed. absurd (false≢true (sym open_ ∙ closed)))
+    (subst (λ l. IsWalk m.kind (whole m l false) s.last (Some s.last) rest) e walk)))
     (λ one alive.
-    subst (λ (l : List ℕ). (s.looked + live_len l one ≤ 2 * passed_in_all s) × (s.at ≤ s.looked) × (IsTrue s.built.deterministic → s.looked ≤ passed_in_all s)) (sym same)
-    (is.lookups one (subst (λ (l : List ℕ). IsLive m false l one) same alive)))
+    subst (λ l. (s.looked + live_len l one ≤ 2 * passed_in_all s) × (s.at ≤ s.looked)
+    × (IsTrue s.built.deterministic → s.looked ≤ passed_in_all s)) (sym same)
+    (is.lookups one (subst (λ l. IsLive m false l one) same alive)))
 
 -- how many bytes are held after the piece
-pub grown-long : (s : StreamProgress) (old new : Held) (piece : List ℕ) → IsOnCourse s → HoldsRead s old → IsGrown old new piece → length new.bytes + s.from ≡ length (read_by s ++ piece)
+pub grown-long : (s : StreamProgress Picks) (old new : Held) (piece : List ℕ) → IsOnCourse s → HoldsRead s old
+    → IsGrown old new piece → length new.bytes + s.from ≡ length (read_by s ++ piece)
 grown-long s old new piece course holds grown =
     let bytes = ap length grown.bytes in
     let joined = length-append old.bytes piece in
@@ -260,25 +314,29 @@ grown-long s old new piece course holds grown =
     omega arith
 
 -- the bytes fit the buffer
-grown-fits : (s : StreamProgress) (old new : Held) (piece : List ℕ) → IsOnCourse s → HoldsRead s old → IsGrown old new piece → length (read_by s ++ piece) ≤ s.from + room_of s.built
+grown-fits : (s : StreamProgress Picks) (old new : Held) (piece : List ℕ) → IsOnCourse s → HoldsRead s old
+    → IsGrown old new piece → length (read_by s ++ piece) ≤ s.from + room_of Picks s.built
 grown-fits s old new piece course holds grown =
     let long = grown-long s old new piece course holds grown in
     let within = grown.paid.within in
-    let room : new.room ≡ room_of s.built = grown.paid.room ∙ ap room_for (grown.keep ∙ holds.keep) in
+    let room : new.room ≡ room_of Picks s.built = grown.paid.room ∙ ap room_for (grown.keep ∙ holds.keep) in
     omega arith
 
 -- no piece is longer than the buffer
-pub piece-short : (s : StreamProgress) (old new : Held) (piece : List ℕ) → IsOnCourse s → HoldsRead s old → IsGrown old new piece → length piece ≤ room_of s.built
+pub piece-short : (s : StreamProgress Picks) (old new : Held) (piece : List ℕ) → IsOnCourse s → HoldsRead s old
+    → IsGrown old new piece → length piece ≤ room_of Picks s.built
 piece-short s old new piece course holds grown =
     let within = grown.paid.within in
-    let room : new.room ≡ room_of s.built = grown.paid.room ∙ ap room_for (grown.keep ∙ holds.keep) in
+    let room : new.room ≡ room_of Picks s.built = grown.paid.room ∙ ap room_for (grown.keep ∙ holds.keep) in
     let bytes = ap length grown.bytes in
     let joined = length-append old.bytes piece in
     omega arith
 
 -- moving the held bytes to the front leaves what the search keeps right
-pub roll-right : (Reaches : List ℕ → StateID → Type 0) (s : StreamProgress) (start sid : StateID) (best : Option Occurrence) (count : ℕ) (old new : Held) (over : Bool) (cut : ℕ)
-    → IsStreamSearch Reaches s start sid best count old over → cut ≡ cut_of s → new ≡ rolled old (cut - s.from) → IsRollPaid new
+pub roll-right : (Reaches : List ℕ → StateID → Type 0) (s : StreamProgress Picks) (start sid : StateID)
+    (best : Option Occurrence) (count : ℕ) (old new : Held) (over : Bool) (cut : ℕ)
+    → IsStreamSearch Reaches s start sid best count old over → cut ≡ cut_of s → new ≡ rolled old (cut - s.from)
+    → IsRollPaid new
     → IsStreamSearch Reaches (record s { from = cut; moved = new.moved }) start sid best count new over
 roll-right Reaches s start sid best count old new over cut is at moves paid =
     let stands = is.stands in
@@ -288,11 +346,13 @@ roll-right Reaches s start sid best count old new over cut is at moves paid =
     let room = course.kept.2 in
     let ordered = course.ordered in
     let more = paid.paid in
-    let read : new.read ≡ length (read_by s) = ap (λ (h : Held). h.read) moves ∙ is.holds.read in
+    let read : new.read ≡ length (read_by s) = ap (λ h. h.read) moves ∙ is.holds.read in
     let there : s.from + (cut - s.from) ≡ cut = omega (arith, before, at) in
     record {
       stands = record {
         course = record {
+          standard = course.standard;
+          passed = course.passed;
           unclosed = course.unclosed;
           filled = course.filled;
           ordered = ordered;
@@ -301,7 +361,14 @@ roll-right Reaches s start sid best count old new over cut is at moves paid =
           begun = course.begun;
           ended = course.ended;
           decided = course.decided;
-          paid = record { some = course.paid.some; looked = course.paid.looked; near = course.paid.near; scanned = course.paid.scanned; moved = omega (arith, more, read) };
+          paid = record {
+            some = course.paid.some;
+            looked = course.paid.looked;
+            near = course.paid.near;
+            scanned = course.paid.scanned;
+            moved = omega (arith, more, read);
+            unmoved = λ e. absurd (picks≢occurrences e);
+          };
         };
         begins = stands.begins;
         reads = stands.reads;
@@ -309,7 +376,6 @@ roll-right Reaches s start sid best count old new over cut is at moves paid =
         kept = stands.kept;
         told = stands.told;
         quiet = stands.quiet;
-        inverse = stands.inverse;
         live = stands.live;
         alive = stands.alive;
         goes = stands.goes;
@@ -317,8 +383,10 @@ roll-right Reaches s start sid best count old new over cut is at moves paid =
       };
       number = is.number;
       holds = record {
-        bytes = ap (λ (h : Held). h.bytes) moves ∙ (ap (drop (cut - s.from)) is.holds.bytes ∙ (drop-drop (cut - s.from) s.from (read_by s) ∙ ap (λ (n : ℕ). drop n (read_by s)) there));
-        keep = ap (λ (h : Held). h.keep) moves ∙ is.holds.keep;
+        bytes = ap (λ h. h.bytes) moves
+            ∙ (ap (drop (cut - s.from)) is.holds.bytes
+            ∙ (drop-drop (cut - s.from) s.from (read_by s) ∙ ap (λ n. drop n (read_by s)) there));
+        keep = ap (λ h. h.keep) moves ∙ is.holds.keep;
         read = read;
         moved = refl;
         paid = paid;
@@ -328,7 +396,8 @@ roll-right Reaches s start sid best count old new over cut is at moves paid =
     }
 
 -- What a search keeps after a read is right, and `over` is true exactly where there are more bytes than places.
-pub read-right : (Reaches : List ℕ → StateID → Type 0) (s : StreamProgress) (start sid : StateID) (best : Option Occurrence) (count : ℕ) (old new : Held) (was over : Bool) (piece : List ℕ)
+pub read-right : (Reaches : List ℕ → StateID → Type 0) (s : StreamProgress Picks) (start sid : StateID)
+    (best : Option Occurrence) (count : ℕ) (old new : Held) (was over : Bool) (piece : List ℕ)
     → IsStreamSearch Reaches s start sid best count old was → IsGrown old new piece
     → s.closed ≡ false
     → (over ≡ false → CanBeCounted (read_by s ++ piece)) → (over ≡ true → ¬ CanBeCounted (read_by s ++ piece))
@@ -340,21 +409,25 @@ read-right Reaches s start sid best count old new was over piece is grown open_ 
     let inside = course.ordered.1 in
     let le : s.from ≤ length (read_by s) = omega arith in
     record {
-      stands = read-stands Reaches s start sid best piece is.stands open_ (grown-fits s old new piece course is.holds grown) (piece-short s old new piece course is.holds grown);
+      stands = read-stands Reaches s start sid best piece is.stands open_
+          (grown-fits s old new piece course is.holds grown) (piece-short s old new piece course is.holds grown);
       number = is.number;
       holds = record {
-        bytes = grown.bytes ∙ ap (λ (l : List ℕ). l ++ piece) is.holds.bytes ∙ sym (drop-append-le s.from (read_by s) piece le) ∙ ap (drop s.from) (sym more);
+        bytes = grown.bytes ∙ ap (λ l. l ++ piece) is.holds.bytes ∙ sym (drop-append-le s.from (read_by s) piece le)
+            ∙ ap (drop s.from) (sym more);
         keep = grown.keep ∙ is.holds.keep;
-        read = grown.read ∙ ap (λ (n : ℕ). n + length piece) is.holds.read ∙ sym (length-append (read_by s) piece) ∙ ap length (sym more);
+        read = grown.read ∙ ap (λ n. n + length piece) is.holds.read ∙ sym (length-append (read_by s) piece)
+            ∙ ap length (sym more);
         moved = grown.moved ∙ is.holds.moved;
         paid = grown.paid;
       };
       countable = λ e. subst CanBeCounted (sym more) (few e);
-      uncountable = λ e. subst (λ (l : List ℕ). ¬ CanBeCounted l) (sym more) (many e);
+      uncountable = λ e. subst (λ l. ¬ CanBeCounted l) (sym more) (many e);
     }
 
 -- how far the search has come after a read, from what it keeps then
-pub read-view : (b : Built) (pieces after : List (List ℕ)) (count : ℕ) (p : Progress) (old new : Held) (sums : Steps) (piece : List ℕ)
+pub read-view : (b : Built) (pieces after : List (List ℕ)) (count : ℕ) (p : Progress) (old new : Held) (sums : Steps)
+    (piece : List ℕ)
     → length (take count (matches_in b (concat pieces))) ≡ count
     → IsDecided (progress_at b pieces count p old sums)
     → p.closed ≡ false
@@ -362,10 +435,12 @@ pub read-view : (b : Built) (pieces after : List (List ℕ)) (count : ℕ) (p : 
     → after ≡ pieces ++ piece ∷ []
     → progress_at b after count p new sums ≡ after_read (progress_at b pieces count p old sums) piece
 read-view b pieces after count p old new sums piece number decided open_ grown is =
-    let s : StreamProgress = progress_at b pieces count p old sums in
+    let s : StreamProgress Picks = progress_at b pieces count p old sums in
     let rest = decided piece (λ closed. absurd (false≢true (sym open_ ∙ closed))) in
-    let all : matches_in b (concat after) ≡ s.given ++ rest.0 = ap (λ (l : List (List ℕ)). matches_in b (concat l)) is ∙ ap (matches_in b) (read-more s piece) ∙ rest.1 in
-    let front : take count (matches_in b (concat after)) ≡ s.given = ap (take count) all ∙ ap (λ (n : ℕ). take n (s.given ++ rest.0)) (sym number) ∙ take-append_seam s.given rest.0 in
+    let all : matches_in b (concat after) ≡ s.given ++ rest.0 = ap (λ l. matches_in b (concat l)) is
+    ∙ ap (matches_in b) (read-more s piece) ∙ rest.1 in
+    let front : take count (matches_in b (concat after)) ≡ s.given = ap (take count) all
+    ∙ ap (λ n. take n (s.given ++ rest.0)) (sym number) ∙ take-append_seam s.given rest.0 in
     λ i. record {
       built = b;
       pieces = is i;
@@ -380,41 +455,54 @@ read-view b pieces after count p old new sums piece number decided open_ grown i
     }
 
 -- the test for more bytes than places
-pub over-test : (from held all : ℕ) → from ≤ 18446744073709551615 → held + from ≡ all → (nat_lt (18446744073709551615 - from) held ≡ false → all ≤ 18446744073709551615) × (nat_lt (18446744073709551615 - from) held ≡ true → ¬ (all ≤ 18446744073709551615))
-over-test from held all fits is =
-    (λ e. let le = ltb-false (18446744073709551615 - from) held e in omega arith, λ e few. let lt = ltb-true (18446744073709551615 - from) held e in omega arith)
+pub over-test : (from held all : ℕ) → from ≤ usize_max → held + from ≡ all
+    → (nat_lt (usize_max - from) held ≡ false → all ≤ usize_max)
+    × (nat_lt (usize_max - from) held ≡ true → ¬ (all ≤ usize_max))
+over-test from held all fits is = (
+  λ e. let le = ltb-false (usize_max - from) held e in
+      omega arith,
+  λ e few. let lt = ltb-true (usize_max - from) held e in omega arith,
+)
 
 -- the last n bytes of the buffer are the piece
-piece-behind : (held front piece : List ℕ) (n : ℕ) → held ≡ front ++ piece → length piece ≡ n → drop (length held - n) held ≡ piece
+piece-behind : (held front piece : List ℕ) (n : ℕ) → held ≡ front ++ piece → length piece ≡ n
+    → drop (length held - n) held ≡ piece
 piece-behind held front piece n is long =
     let both = length-append front piece in
     let all = ap length is in
     let k : length held - n ≡ length front = omega arith in
-    ap (λ (i : ℕ). drop i held) k ∙ ap (drop (length front)) is ∙ drop-append_seam front piece
+    ap (λ i. drop i held) k ∙ ap (drop (length front)) is ∙ drop-append_seam front piece
 
 -- After a failed read: what the search keeps is right, and the read returned an empty piece.
-read-failed : {R : Type 0} (remaining : R → Option (List ℕ)) (before after : Watched R) (b : Built) (Reaches : List ℕ → StateID → Type 0) (start : StateID) (pieces all : List (List ℕ)) (count : ℕ) (p : Progress) (old new : Held) (sums : Steps) (over : Bool)
+read-failed : {R : Type 0} (remaining : R → Option (List ℕ)) (before after : Watched R) (b : Built)
+    (Reaches : List ℕ → StateID → Type 0) (start : StateID) (pieces all : List (List ℕ)) (count : ℕ) (p : Progress)
+    (old new : Held) (sums : Steps) (over : Bool)
     → IsStreamSearch Reaches (progress_at b pieces count p old sums) start p.sid p.best count old over
     → p.closed ≡ false
     → new ≡ old → IsRollPaid new → all ≡ pieces ++ [] ∷ []
     → HasGiven remaining before after ([] ∷ []) 1
     → IsStreamSearch Reaches (progress_at b all count p new sums) start p.sid p.best count new over
-    × ((counted : Steps) → HasRead remaining (progress_at b pieces count p old counted) (progress_at b all count p new counted) before after [] 1)
-read-failed {R} remaining before after b Reaches start pieces all count p old new sums over is open_ same paid more failed =
-    let s : StreamProgress = progress_at b pieces count p old sums in
+    × ((counted : Steps) → HasRead remaining (progress_at b pieces count p old counted)
+    (progress_at b all count p new counted) before after [] 1)
+read-failed {R} remaining before after b Reaches start pieces all count p old new sums over is open_ same paid more
+    failed =
+    let s : StreamProgress Picks = progress_at b pieces count p old sums in
     let grown : IsGrown old new [] = record {
-      bytes = ap (λ (h : Held). h.bytes) same ∙ sym (append-nil old.bytes);
-      read = let e = ap (λ (h : Held). h.read) same in omega arith;
-      keep = ap (λ (h : Held). h.keep) same;
-      moved = ap (λ (h : Held). h.moved) same;
+      bytes = ap (λ h. h.bytes) same ∙ sym (append-nil old.bytes);
+      read = let e = ap (λ h. h.read) same in omega arith;
+      keep = ap (λ h. h.keep) same;
+      moved = ap (λ h. h.moved) same;
       paid = paid;
     } in
-    let view = λ (counted : Steps). read-view b pieces all count p old new counted [] is.number is.stands.course.decided open_ grown more in
+    let view = λ (counted : Steps).
+    read-view b pieces all count p old new counted [] is.number is.stands.course.decided open_ grown more in
     let none = append-nil (read_by s) in (
-      subst (λ (t : StreamProgress). IsStreamSearch Reaches t start p.sid p.best count new over) (sym (view sums))
+      subst (λ t. IsStreamSearch Reaches t start p.sid p.best count new over) (sym (view sums))
           (read-right Reaches s start p.sid p.best count old new over over [] is grown open_
-          (λ e. subst CanBeCounted (sym none) (is.countable e)) (λ e. subst (λ (l : List ℕ). ¬ CanBeCounted l) (sym none) (is.uncountable e))),
-      λ counted. subst (λ (t : StreamProgress). HasRead remaining (progress_at b pieces count p old counted) t before after [] 1) (sym (view counted))
+          (λ e. subst CanBeCounted (sym none) (is.countable e))
+          (λ e. subst (λ l. ¬ CanBeCounted l) (sym none) (is.uncountable e))),
+      λ counted. subst (λ t. HasRead remaining (progress_at b pieces count p old counted) t before after [] 1)
+          (sym (view counted))
           (record {
             built = refl;
             pieces = refl;
@@ -429,46 +517,62 @@ read-failed {R} remaining before after b Reaches start pieces all count p old ne
     )
 
 -- After a piece was taken: what the search keeps is right, and how far it has come.
-pub grown-right : (b : Built) (Reaches : List ℕ → StateID → Type 0) (start : StateID) (pieces all : List (List ℕ)) (count : ℕ) (p : Progress) (old new : Held) (sums : Steps) (was : Bool) (piece held : List ℕ)
+pub grown-right : (b : Built) (Reaches : List ℕ → StateID → Type 0) (start : StateID) (pieces all : List (List ℕ))
+    (count : ℕ) (p : Progress) (old new : Held) (sums : Steps) (was : Bool) (piece held : List ℕ)
     → IsStreamSearch Reaches (progress_at b pieces count p old sums) start p.sid p.best count old was
     → p.closed ≡ false
-    → IsGrown old new piece → held ≡ new.bytes → all ≡ pieces ++ piece ∷ [] → p.from ≤ 18446744073709551615
-    → IsStreamSearch Reaches (progress_at b all count p new sums) start p.sid p.best count new (nat_lt (18446744073709551615 - p.from) (length held))
-    × ((counted : Steps) → progress_at b all count p new counted ≡ after_read (progress_at b pieces count p old counted) piece)
+    → IsGrown old new piece → held ≡ new.bytes → all ≡ pieces ++ piece ∷ [] → p.from ≤ usize_max
+    → IsStreamSearch Reaches (progress_at b all count p new sums) start p.sid p.best count new
+    (nat_lt (usize_max - p.from) (length held))
+    × ((counted : Steps) → progress_at b all count p new counted
+    ≡ after_read (progress_at b pieces count p old counted) piece)
 grown-right b Reaches start pieces all count p old new sums was piece held is open_ grown holds joined fits =
-    let s : StreamProgress = progress_at b pieces count p old sums in
+    let s : StreamProgress Picks = progress_at b pieces count p old sums in
     let course = is.stands.course in
-    let view = λ (counted : Steps). read-view b pieces all count p old new counted piece is.number course.decided open_ grown joined in
-    let long : length held + p.from ≡ length (read_by s ++ piece) = ap (λ (l : List ℕ). length l + p.from) holds ∙ grown-long s old new piece course is.holds grown in
+    let view = λ (counted : Steps).
+    read-view b pieces all count p old new counted piece is.number course.decided open_ grown joined in
+    let long : length held + p.from ≡ length (read_by s ++ piece) = ap (λ l. length l + p.from) holds
+    ∙ grown-long s old new piece course is.holds grown in
     let test = over-test p.from (length held) (length (read_by s ++ piece)) fits long in
-    let right = read-right Reaches s start p.sid p.best count old new was (nat_lt (18446744073709551615 - p.from) (length held)) piece is grown open_ test.0 test.1 in
-    (subst (λ (t : StreamProgress). IsStreamSearch Reaches t start p.sid p.best count new (nat_lt (18446744073709551615 - p.from) (length held))) (sym (view sums)) right, view)
+    let right = read-right Reaches s start p.sid p.best count old new was (nat_lt (usize_max - p.from) (length held))
+    piece is grown open_ test.0 test.1 in (
+      subst (λ t. IsStreamSearch Reaches t start p.sid p.best count new (nat_lt (usize_max - p.from) (length held)))
+          (sym (view sums)) right,
+      view,
+    )
 
 -- After a read of some bytes: what the search keeps is right, and the read returned this piece.
-read-gave : {R : Type 0} (remaining : R → Option (List ℕ)) (before after : Watched R) (b : Built) (Reaches : List ℕ → StateID → Type 0) (start : StateID) (pieces all : List (List ℕ)) (count : ℕ) (p : Progress) (old new : Held) (sums : Steps) (was : Bool) (n : ℕ) (held : List ℕ)
+read-gave : {R : Type 0} (remaining : R → Option (List ℕ)) (before after : Watched R) (b : Built)
+    (Reaches : List ℕ → StateID → Type 0) (start : StateID) (pieces all : List (List ℕ)) (count : ℕ) (p : Progress)
+    (old new : Held) (sums : Steps) (was : Bool) (n : ℕ) (held : List ℕ)
     → IsStreamSearch Reaches (progress_at b pieces count p old sums) start p.sid p.best count old was
     → p.closed ≡ false
     → (filled : Filled remaining old new before after n) → IsRollPaid new
     → held ≡ new.bytes → all ≡ pieces ++ drop (length held - n) held ∷ []
-    → p.from ≤ 18446744073709551615
-    → IsStreamSearch Reaches (progress_at b all count p new sums) start p.sid p.best count new (nat_lt (18446744073709551615 - p.from) (length held))
-    × ((counted : Steps) → HasRead remaining (progress_at b pieces count p old counted) (progress_at b all count p new counted) before after filled.piece 0)
-read-gave {R} remaining before after b Reaches start pieces all count p old new sums was n held is open_ filled paid holds more fits =
-    let s : StreamProgress = progress_at b pieces count p old sums in
+    → p.from ≤ usize_max
+    → IsStreamSearch Reaches (progress_at b all count p new sums) start p.sid p.best count new
+    (nat_lt (usize_max - p.from) (length held))
+    × ((counted : Steps) → HasRead remaining (progress_at b pieces count p old counted)
+    (progress_at b all count p new counted) before after filled.piece 0)
+read-gave {R} remaining before after b Reaches start pieces all count p old new sums was n held is open_ filled paid
+    holds more fits =
+    let s : StreamProgress Picks = progress_at b pieces count p old sums in
     let piece : List ℕ = filled.piece in
     let grown : IsGrown old new piece = record {
-      bytes = ap (λ (h : Held). h.bytes) filled.held;
-      read = ap (λ (h : Held). h.read) filled.held ∙ ap (λ (k : ℕ). old.read + k) (sym filled.count);
-      keep = ap (λ (h : Held). h.keep) filled.held;
-      moved = ap (λ (h : Held). h.moved) filled.held;
+      bytes = ap (λ h. h.bytes) filled.held;
+      read = ap (λ h. h.read) filled.held ∙ ap (λ k. old.read + k) (sym filled.count);
+      keep = ap (λ h. h.keep) filled.held;
+      moved = ap (λ h. h.moved) filled.held;
       paid = paid;
     } in
     let course = is.stands.course in
     let last = piece-behind held old.bytes piece n (holds ∙ grown.bytes) filled.count in
-    let joined : all ≡ pieces ++ piece ∷ [] = more ∙ ap (λ (l : List ℕ). pieces ++ l ∷ []) last in
-    let right = grown-right b Reaches start pieces all count p old new sums was piece held is open_ grown holds joined fits in (
+    let joined : all ≡ pieces ++ piece ∷ [] = more ∙ ap (λ l. pieces ++ l ∷ []) last in
+    let right =
+    grown-right b Reaches start pieces all count p old new sums was piece held is open_ grown holds joined fits in (
       right.0,
-      λ counted. subst (λ (t : StreamProgress). HasRead remaining (progress_at b pieces count p old counted) t before after piece 0) (sym (right.1 counted))
+      λ counted. subst (λ t. HasRead remaining (progress_at b pieces count p old counted) t before after piece 0)
+          (sym (right.1 counted))
           (record {
             built = refl;
             pieces = refl;
@@ -485,42 +589,51 @@ read-gave {R} remaining before after b Reaches start pieces all count p old new 
 -- ---- what a read leaves, by what the search keeps
 
 -- how far a search has come, from what it keeps
-abbrev pub come_by : {S : Type 0} → Ghosts S → Inside S → StreamProgress
+abbrev pub come_by : {S : Type 0} → Ghosts S → Inside S → StreamProgress Picks
 come_by A i = progress_at (A.built i.automaton) i.pieces.items i.given.value i.progress i.buffer i.sums
 
 -- how far it has come, what was read ahead of it left aside
-abbrev pub settled_by : {S : Type 0} → Ghosts S → Inside S → StreamProgress
+abbrev pub settled_by : {S : Type 0} → Ghosts S → Inside S → StreamProgress Picks
 settled_by A i = come_by A (record i { sums = less_ahead i.sums i.ahead })
 
 -- what the search keeps is right, what was read ahead of it left aside
 abbrev pub IsSettled : {S : Type 0} → Ghosts S → Inside S → Type 0
-IsSettled A i = IsStreamSearch (A.Reaches i.automaton No) (settled_by A i) i.start i.progress.sid i.progress.best i.given.value i.buffer i.over
+IsSettled A i =
+    IsStreamSearch (A.Reaches i.automaton No) (settled_by A i) i.start i.progress.sid i.progress.best i.given.value
+    i.buffer i.over
 
 -- what a search keeps after a read or a push
 abbrev pub grown_to : {S : Type 0} → Inside S → List (List ℕ) → Held → Bool → Inside S
 grown_to i all new over = record i { pieces = record i.pieces { items = all }; buffer = new; over = over }
 
-module _ {S R : Type 0} (A : Ghosts S) (remaining : R → Option (List ℕ)) (i : Inside S) (before after : Watched R) (all : List (List ℕ)) (new : Held) (over : Bool) where
+module _ {S R : Type 0} (A : Ghosts S) (remaining : R → Option (List ℕ)) (i : Inside S) (before after : Watched R)
+    (all : List (List ℕ)) (new : Held) (over : Bool) where
   -- After a read: what the search keeps is right, and the read returned this piece.
   pub record HasFilled (piece : List ℕ) (errors : ℕ) : Type 0 where
     pub right : IsSettled A (grown_to i all new over)
     pub read : HasRead remaining (come_by A i) (come_by A (grown_to i all new over)) before after piece errors
 
 -- what a failed read leaves
-pub fill-failed : {S R : Type 0} (A : Ghosts S) (remaining : R → Option (List ℕ)) (i : Inside S) (before after : Watched R) (all : List (List ℕ)) (new : Held)
+pub fill-failed : {S R : Type 0} (A : Ghosts S) (remaining : R → Option (List ℕ)) (i : Inside S)
+    (before after : Watched R) (all : List (List ℕ)) (new : Held)
     → IsSettled A i → i.progress.closed ≡ false
-    → new ≡ i.buffer → IsRollPaid new → all ≡ i.pieces.items ++ [] ∷ [] → HasGiven remaining before after ([] ∷ []) 1 → HasFilled A remaining i before after all new i.over [] 1
+    → new ≡ i.buffer → IsRollPaid new → all ≡ i.pieces.items ++ [] ∷ [] → HasGiven remaining before after ([] ∷ []) 1
+    → HasFilled A remaining i before after all new i.over [] 1
 fill-failed A remaining i before after all new is open_ same paid more failed =
     let a = i.automaton in
-    let r = read-failed remaining before after (A.built a) (A.Reaches a No) i.start i.pieces.items all i.given.value i.progress i.buffer new (less_ahead i.sums i.ahead) i.over is open_ same paid more failed in
+    let r = read-failed remaining before after (A.built a) (A.Reaches a No) i.start i.pieces.items all i.given.value
+    i.progress i.buffer new (less_ahead i.sums i.ahead) i.over is open_ same paid more failed in
     record { right = r.0; read = r.1 i.sums }
 
 -- what a read of some bytes leaves
-pub fill-gave : {S R : Type 0} (A : Ghosts S) (remaining : R → Option (List ℕ)) (i : Inside S) (before after : Watched R) (all : List (List ℕ)) (new : Held) (n : ℕ) (held : List ℕ)
+pub fill-gave : {S R : Type 0} (A : Ghosts S) (remaining : R → Option (List ℕ)) (i : Inside S)
+    (before after : Watched R) (all : List (List ℕ)) (new : Held) (n : ℕ) (held : List ℕ)
     → IsSettled A i → i.progress.closed ≡ false
-    → (gave : Filled remaining i.buffer new before after n) → IsRollPaid new → held ≡ new.bytes → all ≡ i.pieces.items ++ drop (length held - n) held ∷ [] → i.progress.from ≤ 18446744073709551615
-    → HasFilled A remaining i before after all new (nat_lt (18446744073709551615 - i.progress.from) (length held)) gave.piece 0
+    → (gave : Filled remaining i.buffer new before after n) → IsRollPaid new → held ≡ new.bytes
+    → all ≡ i.pieces.items ++ drop (length held - n) held ∷ [] → i.progress.from ≤ usize_max
+    → HasFilled A remaining i before after all new (nat_lt (usize_max - i.progress.from) (length held)) gave.piece 0
 fill-gave A remaining i before after all new n held is open_ gave paid holds more fits =
     let a = i.automaton in
-    let r = read-gave remaining before after (A.built a) (A.Reaches a No) i.start i.pieces.items all i.given.value i.progress i.buffer new (less_ahead i.sums i.ahead) i.over n held is open_ gave paid holds more fits in
+    let r = read-gave remaining before after (A.built a) (A.Reaches a No) i.start i.pieces.items all i.given.value
+    i.progress i.buffer new (less_ahead i.sums i.ahead) i.over n held is open_ gave paid holds more fits in
     record { right = r.0; read = r.1 i.sums }

@@ -3,7 +3,8 @@ use Rattle.std.specs.Prelude.{◌≡◌, ℕ, ◌+◌, ◌-◌, ◌*◌, ◌≤�
 use Rattle.ac_automaton.specs.Devices.Moved.{HasGiven}
 use Rattle.ac_automaton.specs.declared.watched.Watched.{Watched}
 
--- What is held: some bytes, in a room that never grows; how many of them are kept at most when the room is full; how many were
+-- What is held: some bytes, in a room that never grows; how many of them are kept at most when the room is full; how
+-- many were
 -- read so far, and how many were moved within the room.
 pub record Held : Type 0 where
   pub bytes : List ℕ
@@ -24,7 +25,8 @@ room_for keep = max (keep * 8) least_room
 abbrev pub nothing_held : ℕ → Held
 nothing_held keep = record { bytes = []; room = room_for keep; keep = keep; read = 0; moved = 0 }
 
--- What holds of a buffer at any time. Seven bytes were read for each byte that was moved. Bytes held beyond those that may be kept
+-- What holds of a buffer at any time. Seven bytes were read for each byte that was moved. Bytes held beyond those that
+-- may be kept
 -- were read too, and have paid for no move yet.
 pub record IsRollPaid (h : Held) : Type 0 where
   pub keeps : 1 ≤ h.keep
@@ -33,7 +35,8 @@ pub record IsRollPaid (h : Held) : Type 0 where
   pub paid : 7 * h.moved + (length h.bytes - h.keep) ≤ h.read
 
 -- one read returned this many bytes, which are held after the others
-pub record Filled {R : Type 0} (remaining : R → Option (List ℕ)) (old new : Held) (before after : Watched R) (n : ℕ) : Type 0 where
+pub record Filled {R : Type 0} (remaining : R → Option (List ℕ)) (old new : Held) (before after : Watched R)
+    (n : ℕ) : Type 0 where
   pub piece : List ℕ
   pub count : length piece ≡ n
   pub held : new ≡ record old { bytes = old.bytes ++ piece; read = old.read + n }

@@ -74,7 +74,8 @@ pub record TookAll {T : Type 0} (old new : Watched T) (bytes : List ℕ) : Type 
   pub flushed : new.flushed.bytes ≡ old.flushed.bytes
   pub fine : NoneFailed old new
 
--- The bytes were taken up to the one call that failed, with some bytes left, and nothing was flushed. `contents` is the device's
+-- The bytes were taken up to the one call that failed, with some bytes left, and nothing was flushed. `contents` is the
+-- device's
 -- contents, if its model has them.
 pub record TookFront {T : Type 0} (contents : T → Option (List ℕ)) (old new : Watched T) (bytes : List ℕ) : Type 0 where
   pub front : List ℕ
@@ -117,7 +118,10 @@ abbrev pub AnswersFlush : {T E : Type 0} → Watched T → Watched T → Result 
 AnswersFlush old new (Ok done) = HasFlushed old new
 AnswersFlush old new (Err error) = TookNone old new
 
--- All the bytes were taken, and the device's contents grew by them; or only those before the failed write, whose error this is.
-abbrev pub WritesWhole : {T : Type 0} → (T → Option (List ℕ)) → Watched T → Watched T → List ℕ → Result (Unit {0}) StreamError → Type 0
-WritesWhole contents old new bytes (Ok done) = TookAll old new bytes × Appends (contents old.inner) (contents new.inner) bytes
+-- All the bytes were taken, and the device's contents grew by them; or only those before the failed write, whose error
+-- this is.
+abbrev pub WritesWhole : {T : Type 0} → (T → Option (List ℕ)) → Watched T → Watched T → List ℕ
+    → Result (Unit {0}) StreamError → Type 0
+WritesWhole contents old new bytes (Ok done) =
+    TookAll old new bytes × Appends (contents old.inner) (contents new.inner) bytes
 WritesWhole contents old new bytes (Err error) = TookFront contents old new bytes × IsOfWrite old new error

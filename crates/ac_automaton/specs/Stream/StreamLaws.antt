@@ -2,7 +2,7 @@
 use Rattle.std.specs.Prelude.{◌≤◌, List, ℕ, [], ◌∷◌, ◌++◌, drop, false, None, Some}
 use Rattle.ac_input.specs.Best.{IsBest}
 use Rattle.ac_input.specs.Dictionary.{Dictionary, IsLive, whole}
-use Rattle.ac_input.specs.Laws.LiveLaws.{IsOwnInverse, shifted}
+use Rattle.ac_input.specs.Laws.LiveLaws.{shifted}
 use Rattle.ac_input.specs.Occurrence.{Occurrence}
 use Rattle.ac_input.specs.Work.{shortest}
 use Rattle.ac_automaton.specs.Stream.{end_of}
@@ -12,7 +12,7 @@ use Rattle.ac_input.specs.Laws.BeginningLaws.{IsBeginning}
 -- if some matches of a text are decided and the text after them is dead, the best match in the latter is decided too
 abbrev pub DeathDecides : Type 0
 DeathDecides =
-    (m : Dictionary) (x : List ℕ) (os : List Occurrence) (o : Occurrence) → IsOwnInverse m.pairing → 1 ≤ shortest m.patterns
+    (m : Dictionary) (x : List ℕ) (os : List Occurrence) (o : Occurrence) → 1 ≤ shortest m.patterns
     → ((more : List ℕ) → IsBeginning os (walk_of m.kind (whole m (x ++ more) false)))
     → IsLive m false (drop (end_of os) x) None
     → IsBest m.kind (whole m (drop (end_of os) x) false) (Some o)

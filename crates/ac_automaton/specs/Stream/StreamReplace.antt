@@ -10,7 +10,7 @@ use Rattle.ac_automaton.specs.Automaton.{Built}
 use Rattle.ac_automaton.specs.Devices.Moved.{AllFit, HasMoved, Moved, NoneTouched}
 use Rattle.ac_automaton.specs.Devices.Output.{Sent, Stopped}
 use Rattle.ac_automaton.specs.Replace.{LieInOrder, matches_in}
-use Rattle.ac_automaton.specs.Stream.{AreAllGiven, CanBeCounted, CanStream, IsConfigRefusal, IsFront, IsOnCourse, IsSearched, ReadsNothing, StreamCounts, StreamProgress, cut_of, read_again, read_by, room_of}
+use Rattle.ac_automaton.specs.Stream.{AreAllGiven, CanBeCounted, CanStream, IsConfigRefusal, IsFront, IsOnCourse, IsSearched, ReadsNothing, StreamCounts, StreamProgress, cut_of, read_again, read_by, room_of, Picks}
 use Rattle.ac_automaton.specs.Stream.StreamAnswer.{AnswersWriting}
 use Rattle.ac_automaton.specs.Devices.Watched.{IsOfWrite}
 use Rattle.ac_automaton.specs.declared.error.StreamError.{StreamError}
@@ -30,11 +30,15 @@ IsBegun (Config error) = ⊥
 IsBegun Memory = ⊥
 IsBegun other = Unit {0}
 
--- What a replacement over a stream read, no piece longer than the buffer, what it wrote, and what it returned. An error before the
+-- What a replacement over a stream read, no piece longer than the buffer, what it wrote, and what it returned. An error
+-- before the
 -- first read leaves both devices unchanged.
-abbrev pub ReplacesStream : {R W : Type 0} → (R → Option (List ℕ)) → (W → Option (List ℕ)) → Built → List (List ℕ) → Watched R → Watched R → Watched W → Watched W → Result (Unit {0}) StreamError → Type 0
+abbrev pub ReplacesStream : {R W : Type 0} → (R → Option (List ℕ)) → (W → Option (List ℕ)) → Built → List (List ℕ)
+    → Watched R → Watched R → Watched W → Watched W → Result (Unit {0}) StreamError → Type 0
 ReplacesStream remaining contents b replacements reader_before reader_after writer_before writer_after result =
-    (m : Moved) × HasMoved remaining contents reader_before reader_after writer_before writer_after m × AllFit (room_of b) m.pieces × AnswersWriting (replaced_in b replacements) (IsFront b.dictionary (replaced_in b replacements)) m result
+    (m : Moved) × HasMoved remaining contents reader_before reader_after writer_before writer_after m
+    × AllFit (room_of Picks b) m.pieces
+    × AnswersWriting (replaced_in b replacements) (IsFront b.dictionary (replaced_in b replacements)) m result
     × IfErr result (λ error. IsBegun error ⊎ NoneTouched reader_before reader_after writer_before writer_after)
 
 -- an error of the search says why the stream can't be searched; any other result means that it can be
@@ -44,15 +48,18 @@ AcceptsStream kinds b supports result = CanStream kinds b supports
 
 -- ---- what a replacement costs
 
--- What a search of this many bytes of a stream, with so many matches, may cost. Under standard no byte is looked at again.
+-- What a search of this many bytes of a stream, with so many matches, may cost. Under standard no byte is looked at
+-- again.
 pub record IsStreamCost (b : Built) (n matches : ℕ) (before after : Steps) : Type 0 where
-  pub looked : after.looked.value ≤ before.looked.value + lookups_per_byte b.deterministic * (n + read_again b.dictionary n matches)
+  pub looked : after.looked.value
+      ≤ before.looked.value + lookups_per_byte b.deterministic * (n + read_again b.dictionary n matches)
   pub scanned : after.scanned.value ≡ before.scanned.value
   pub moved : 7 * after.moved.value ≤ 7 * before.moved.value + n
 
 -- The cost of a call that searches a stream, by the bytes that it read and by their matches. If it reached the end,
 -- each of these bytes was looked at. An error before the first read cost nothing.
-abbrev pub CostsStream : {R : Type 0} → Built → Watched R → Watched R → Steps → Steps → Result (Unit {0}) StreamError → Type 0
+abbrev pub CostsStream : {R : Type 0} → Built → Watched R → Watched R → Steps → Steps → Result (Unit {0}) StreamError
+    → Type 0
 CostsStream b reader_before reader_after before after result =
     (pieces : List (List ℕ)) × (reader_after.pieces.items ≡ reader_before.pieces.items ++ pieces)
     × IsStreamCost b (length (concat pieces)) (length (matches_in b (concat pieces))) before after
@@ -62,12 +69,13 @@ CostsStream b reader_before reader_after before after result =
 -- ---- what holds at each point of a replacement
 
 -- the text up to a place, with each returned match replaced
-abbrev pub text_to : StreamProgress → List (List ℕ) → ℕ → List ℕ
+abbrev pub text_to : StreamProgress Picks → List (List ℕ) → ℕ → List ℕ
 text_to s replacements at = replaced_from 0 (take at (read_by s)) replacements s.given
 
--- The text may be written up to this place: the returned matches lie before it, all others begin after it, and the bytes after it
+-- The text may be written up to this place: the returned matches lie before it, all others begin after it, and the
+-- bytes after it
 -- are held.
-pub record IsPlaced (s : StreamProgress) (at : ℕ) : Type 0 where
+pub record IsPlaced (s : StreamProgress Picks) (at : ℕ) : Type 0 where
   pub course : IsOnCourse s
   pub countable : CanBeCounted (read_by s)
   pub held : s.from ≤ at
@@ -75,43 +83,56 @@ pub record IsPlaced (s : StreamProgress) (at : ℕ) : Type 0 where
   pub lies : LieInOrder (length s.built.dictionary.patterns) at 0 s.given
 
 -- Every decided match was returned, and this place is the cut.
-pub record IsAtCut (s : StreamProgress) (at : ℕ) : Type 0 where
+pub record IsAtCut (s : StreamProgress Picks) (at : ℕ) : Type 0 where
   pub placed : IsPlaced s at
   pub cut : at ≡ cut_of s
   pub all : AreAllGiven s
 
 -- In between nothing was read, and the text was sent from one place to another.
-pub record SendsTo {W : Type 0} (contents : W → Option (List ℕ)) (replacements : List (List ℕ)) (s t : StreamProgress) (from to : ℕ) (old new : Watched W) (held_before held_after : List ℕ) : Type 0 where
+pub record SendsTo {W : Type 0} (contents : W → Option (List ℕ)) (replacements : List (List ℕ))
+    (s t : StreamProgress Picks) (from to : ℕ) (old new : Watched W) (held_before held_after : List ℕ) : Type 0 where
   pub same : ReadsNothing s t
   pub placed : IsPlaced t to
   pub bytes : List ℕ
   pub text : text_to t replacements to ≡ text_to s replacements from ++ bytes
   pub sent : Sent contents old new held_before held_after bytes
 
--- The next match was found and the text sent up to its end; or there is no further match of what was read, and nothing was sent.
-abbrev pub SendsMatch : {W : Type 0} → (W → Option (List ℕ)) → List (List ℕ) → StreamProgress → StreamProgress → ℕ → Watched W → Watched W → List ℕ → List ℕ → Option ℕ → Type 0
-SendsMatch contents replacements s t from old new held_before held_after None = SendsTo contents replacements s t from from old new held_before held_after × AreAllGiven t
-SendsMatch contents replacements s t from old new held_before held_after (Some to) = SendsTo contents replacements s t from to old new held_before held_after × (s.last < t.last)
+-- The next match was found and the text sent up to its end; or there is no further match of what was read, and nothing
+-- was sent.
+abbrev pub SendsMatch : {W : Type 0} → (W → Option (List ℕ)) → List (List ℕ) → StreamProgress Picks
+    → StreamProgress Picks → ℕ → Watched W → Watched W → List ℕ → List ℕ → Option ℕ → Type 0
+SendsMatch contents replacements s t from old new held_before held_after None =
+    SendsTo contents replacements s t from from old new held_before held_after × AreAllGiven t
+SendsMatch contents replacements s t from old new held_before held_after (Some to) =
+    SendsTo contents replacements s t from to old new held_before held_after × (s.last < t.last)
 
 -- In between nothing was read, and the send of the text from a place on stopped at a write.
-pub record StopsSending {W : Type 0} (contents : W → Option (List ℕ)) (replacements : List (List ℕ)) (s t : StreamProgress) (from : ℕ) (old new : Watched W) (held_before : List ℕ) : Type 0 where
+pub record StopsSending {W : Type 0} (contents : W → Option (List ℕ)) (replacements : List (List ℕ))
+    (s t : StreamProgress Picks) (from : ℕ) (old new : Watched W) (held_before : List ℕ) : Type 0 where
   pub same : ReadsNothing s t
   pub bytes : List ℕ
   pub text : IsBeginning (text_to s replacements from ++ bytes) (replaced_in s.built replacements (read_by s))
   pub stopped : Stopped contents old new held_before bytes
 
 -- The next match was sent, or there is none; or the send stopped at a failed write, whose error this is.
-abbrev pub AnswersMatch : {W : Type 0} → (W → Option (List ℕ)) → List (List ℕ) → StreamProgress → StreamProgress → ℕ → Watched W → Watched W → List ℕ → List ℕ → Result (Option ℕ) StreamError → Type 0
-AnswersMatch contents replacements s t from old new held_before held_after (Ok to) = SendsMatch contents replacements s t from old new held_before held_after to
-AnswersMatch contents replacements s t from old new held_before held_after (Err error) = StopsSending contents replacements s t from old new held_before × IsOfWrite old new error
+abbrev pub AnswersMatch : {W : Type 0} → (W → Option (List ℕ)) → List (List ℕ) → StreamProgress Picks
+    → StreamProgress Picks → ℕ → Watched W → Watched W → List ℕ → List ℕ → Result (Option ℕ) StreamError → Type 0
+AnswersMatch contents replacements s t from old new held_before held_after (Ok to) =
+    SendsMatch contents replacements s t from old new held_before held_after to
+AnswersMatch contents replacements s t from old new held_before held_after (Err error) =
+    StopsSending contents replacements s t from old new held_before × IsOfWrite old new error
 
 -- the text was sent up to the cut, and nothing is held back; or the send stopped at a failed write, whose error this is
-abbrev pub AnswersDecided : {W : Type 0} → (W → Option (List ℕ)) → List (List ℕ) → StreamProgress → StreamProgress → ℕ → Watched W → Watched W → List ℕ → List ℕ → Result ℕ StreamError → Type 0
-AnswersDecided contents replacements s t from old new held_before held_after (Ok to) = SendsTo contents replacements s t from to old new held_before [] × IsAtCut t to × (held_after ≡ [])
-AnswersDecided contents replacements s t from old new held_before held_after (Err error) = StopsSending contents replacements s t from old new held_before × IsOfWrite old new error
+abbrev pub AnswersDecided : {W : Type 0} → (W → Option (List ℕ)) → List (List ℕ) → StreamProgress Picks
+    → StreamProgress Picks → ℕ → Watched W → Watched W → List ℕ → List ℕ → Result ℕ StreamError → Type 0
+AnswersDecided contents replacements s t from old new held_before held_after (Ok to) =
+    SendsTo contents replacements s t from to old new held_before [] × IsAtCut t to × (held_after ≡ [])
+AnswersDecided contents replacements s t from old new held_before held_after (Err error) =
+    StopsSending contents replacements s t from old new held_before × IsOfWrite old new error
 
 -- What a search read and counted in between. If it reached the end, all that was read was searched.
-pub record HasSearched {R : Type 0} (s t : StreamProgress) (reader_before reader_after : Watched R) (before after : Steps) (result : Result (Unit {0}) StreamError) : Type 0 where
+pub record HasSearched {R : Type 0} (s t : StreamProgress Picks) (reader_before reader_after : Watched R)
+    (before after : Steps) (result : Result (Unit {0}) StreamError) : Type 0 where
   pub built : t.built ≡ s.built
   pub read : reader_after.pieces.items ≡ reader_before.pieces.items ++ t.pieces
   pub counts : StreamCounts s t before after

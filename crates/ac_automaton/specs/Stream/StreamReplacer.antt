@@ -5,7 +5,7 @@ use Rattle.ac_input.specs.Occurrence.{Occurrence}
 use Rattle.ac_input.specs.Text.{replaced_from}
 use Rattle.ac_automaton.specs.Automaton.{Built}
 use Rattle.ac_automaton.specs.Replace.{LieInOrder}
-use Rattle.ac_automaton.specs.Stream.{AreAllGiven, CanBeCounted, CanStream, IsStreamRefusal, IsOnCourse, IsSearched, ReadsNothing, StreamProgress, cut_of, fresh_progress, may_wait, read_by, IsFront}
+use Rattle.ac_automaton.specs.Stream.{AreAllGiven, CanBeCounted, CanStream, IsStreamRefusal, IsOnCourse, IsSearched, ReadsNothing, StreamProgress, cut_of, fresh_progress, may_wait, read_by, IsFront, Picks}
 use Rattle.ac_automaton.specs.Stream.StreamPush.{Pushes}
 use Rattle.ac_automaton.specs.Stream.StreamReplace.{IsPlaced, replaced_in}
 use Rattle.ac_automaton.specs.declared.error.StreamError.{StreamError}
@@ -13,10 +13,11 @@ use Rattle.ac_automaton.specs.declared.stream.replacer.Part.{Part}
 use Rattle.ac_automaton.specs.declared.stream.replacer.Part.TheVariants.{Text, Replacement}
 use Rattle.ac_automaton.specs.declared.stream.StreamKinds.TheVariants.{AnyKind}
 
--- How far a replacement has come: its search; up to which place of the stream its text was handed out; the match that was found and
+-- How far a replacement has come: its search; up to which place of the stream its text was handed out; the match that
+-- was found and
 -- isn't replaced yet; whether it was told that no more comes; and whether the whole text was handed out after that.
 pub record ReplacerProgress : Type 0 where
-  pub search : StreamProgress
+  pub search : StreamProgress Picks
   pub at : ℕ
   pub met : Option Occurrence
   pub finished : Bool
@@ -27,7 +28,7 @@ abbrev pub fresh_replacer : Built → ReplacerProgress
 fresh_replacer b = record { search = fresh_progress b; at = 0; met = None; finished = false; over = false }
 
 -- the matches whose replacements were handed out: all that were found, except one that is met and not replaced yet
-abbrev pub replaced_by : StreamProgress → Option Occurrence → List Occurrence
+abbrev pub replaced_by : StreamProgress Picks → Option Occurrence → List Occurrence
 replaced_by s None = s.given
 replaced_by s (Some o) = take (length s.given - 1) s.given
 
@@ -35,8 +36,9 @@ replaced_by s (Some o) = take (length s.given - 1) s.given
 abbrev pub handed_out : ReplacerProgress → List (List ℕ) → List ℕ
 handed_out r replacements = replaced_from 0 (take r.at (read_by r.search)) replacements (replaced_by r.search r.met)
 
--- the place up to which the text is decided: the start of the match that was met; or the cut; or the end, where no more comes
-abbrev pub decided_to : StreamProgress → Option Occurrence → Bool → ℕ
+-- the place up to which the text is decided: the start of the match that was met; or the cut; or the end, where no more
+-- comes
+abbrev pub decided_to : StreamProgress Picks → Option Occurrence → Bool → ℕ
 decided_to s (Some o) finished = o.start
 decided_to s None finished = if finished then length (read_by s) else cut_of s
 
@@ -60,7 +62,7 @@ pub record IsReady (r : ReplacerProgress) : Type 0 where
 -- ---- what holds wherever a replacement stands
 
 -- The match that was met is the last one that was found; the text was handed out up to a place before it.
-pub record IsMatchMet (s : StreamProgress) (at : ℕ) (o : Occurrence) : Type 0 where
+pub record IsMatchMet (s : StreamProgress Picks) (at : ℕ) (o : Occurrence) : Type 0 where
   pub given : s.given ≡ replaced_by s (Some o) ++ o ∷ []
   pub placed : IsPlaced s o.end
   pub pattern : o.pattern < length s.built.dictionary.patterns
@@ -71,7 +73,7 @@ pub record IsMatchMet (s : StreamProgress) (at : ℕ) (o : Occurrence) : Type 0 
   pub lies : LieInOrder (length s.built.dictionary.patterns) at 0 (replaced_by s (Some o))
 
 -- the text may be handed out from this place on
-abbrev pub IsPlacedAt : StreamProgress → ℕ → Option Occurrence → Type 0
+abbrev pub IsPlacedAt : StreamProgress Picks → ℕ → Option Occurrence → Type 0
 IsPlacedAt s at None = IsPlaced s at
 IsPlacedAt s at (Some o) = IsMatchMet s at o
 
@@ -111,18 +113,25 @@ pub record HandsOut (r t : ReplacerProgress) (replacements : List (List ℕ)) (b
 -- All that is decided was handed out: the front of what was pushed, replaced; or all of it, where no more comes.
 pub record IsAllOut (t : ReplacerProgress) (replacements : List (List ℕ)) : Type 0 where
   pub out : IsHandedOut t
-  pub front : t.finished ≡ false → IsFront t.search.built.dictionary (replaced_in t.search.built replacements) (read_by t.search) (handed_out t replacements)
+  pub front : t.finished ≡ false
+      → IsFront t.search.built.dictionary (replaced_in t.search.built replacements) (read_by t.search)
+      (handed_out t replacements)
   pub whole : t.finished ≡ true → handed_out t replacements ≡ replaced_in t.search.built replacements (read_by t.search)
 
--- This is the next slice of the text, after which the replacement has come further; or there is none, and all that is decided was
+-- This is the next slice of the text, after which the replacement has come further; or there is none, and all that is
+-- decided was
 -- handed out if places can be counted.
 abbrev pub GivesText : ReplacerProgress → ReplacerProgress → List (List ℕ) → Option (List ℕ) → Type 0
-GivesText r t replacements None = HandsOut r t replacements [] × (CanBeCounted (read_by r.search) → IsAllOut t replacements)
-GivesText r t replacements (Some bytes) = HandsOut r t replacements bytes × (r.at < t.at) × (t.at ≤ length (read_by t.search))
+GivesText r t replacements None =
+    HandsOut r t replacements [] × (CanBeCounted (read_by r.search) → IsAllOut t replacements)
+GivesText r t replacements (Some bytes) =
+    HandsOut r t replacements bytes × (r.at < t.at) × (t.at ≤ length (read_by t.search))
 
 -- Two replacements of one text by equal automata, however it is cut into pieces, hand out the same text.
 abbrev pub PiecesChangeNoText : Type 0
-PiecesChangeNoText = (r t : ReplacerProgress) (replacements : List (List ℕ)) → r.search.built ≡ t.search.built → read_by r.search ≡ read_by t.search → r.finished ≡ true → t.finished ≡ true
+PiecesChangeNoText =
+    (r t : ReplacerProgress) (replacements : List (List ℕ)) → r.search.built ≡ t.search.built
+    → read_by r.search ≡ read_by t.search → r.finished ≡ true → t.finished ≡ true
     → IsAllOut r replacements → IsAllOut t replacements → handed_out r replacements ≡ handed_out t replacements
 
 -- ---- how the next slice is found
@@ -133,7 +142,7 @@ part_bytes x replacements (Text start end) = slice_range x start end
 part_bytes x replacements (Replacement pattern) = get_or replacements pattern []
 
 -- a slice can be lent: its bytes are held, or it is the replacement of one of the patterns
-abbrev pub CanBeLent : StreamProgress → Part → Type 0
+abbrev pub CanBeLent : StreamProgress Picks → Part → Type 0
 CanBeLent s (Text start end) = (s.from ≤ start) × (start ≤ end) × (end ≤ length (read_by s))
 CanBeLent s (Replacement pattern) = pattern < length s.built.dictionary.patterns
 
@@ -148,11 +157,22 @@ pub record LooksForMatch (r t : ReplacerProgress) : Type 0 where
 
 -- the next slice is this one; or there is none, and all that is decided was handed out
 abbrev pub TakesPart : ReplacerProgress → ReplacerProgress → Option Part → Type 0
-TakesPart r t None = (t.search ≡ r.search) × (t.finished ≡ r.finished) × (t.at ≡ r.at) × (t.met ≡ r.met) × ((replacements : List (List ℕ)) → IsAllOut t replacements)
-TakesPart r t (Some part) = (t.search ≡ r.search) × (t.finished ≡ r.finished) × (r.at < t.at) × (t.at ≤ length (read_by t.search)) × CanBeLent t.search part × ((replacements : List (List ℕ)) → handed_out t replacements ≡ handed_out r replacements ++ part_bytes (read_by t.search) replacements part)
+TakesPart r t None =
+    (t.search ≡ r.search) × (t.finished ≡ r.finished) × (t.at ≡ r.at) × (t.met ≡ r.met)
+    × ((replacements : List (List ℕ)) → IsAllOut t replacements)
+TakesPart r t (Some part) =
+    (t.search ≡ r.search) × (t.finished ≡ r.finished) × (r.at < t.at) × (t.at ≤ length (read_by t.search))
+    × CanBeLent t.search part
+    × ((replacements : List (List ℕ))
+    → handed_out t replacements ≡ handed_out r replacements ++ part_bytes (read_by t.search) replacements part)
 
--- This is the next slice, which was handed out and can be lent; or there is none, and all that is decided was handed out if places
+-- This is the next slice, which was handed out and can be lent; or there is none, and all that is decided was handed
+-- out if places
 -- can be counted.
 abbrev pub FindsPart : ReplacerProgress → ReplacerProgress → Option Part → Type 0
-FindsPart r t None = (replacements : List (List ℕ)) → HandsOut r t replacements [] × (CanBeCounted (read_by r.search) → IsAllOut t replacements)
-FindsPart r t (Some part) = ((replacements : List (List ℕ)) → HandsOut r t replacements (part_bytes (read_by t.search) replacements part)) × (r.at < t.at) × (t.at ≤ length (read_by t.search)) × CanBeLent t.search part
+FindsPart r t None =
+    (replacements : List (List ℕ))
+    → HandsOut r t replacements [] × (CanBeCounted (read_by r.search) → IsAllOut t replacements)
+FindsPart r t (Some part) =
+    ((replacements : List (List ℕ)) → HandsOut r t replacements (part_bytes (read_by t.search) replacements part))
+    × (r.at < t.at) × (t.at ≤ length (read_by t.search)) × CanBeLent t.search part

@@ -121,9 +121,5 @@ impl<'a, A: Automaton> Automaton for &'a A {
 
     ghost tells = { λ a anchored text sid reads. A.tells a.now anchored text sid reads };
 
-    ghost lives = { λ a anchored text sid reads. A.lives a.now anchored text sid reads };
-
-    ghost pairs = { λ a anchored text sid reads. A.pairs a.now anchored text sid reads };
-
     ghost stops = { λ a anchored text sid reads. A.stops a.now anchored text sid reads };
 }

@@ -21,7 +21,7 @@ ghost use Rattle.ac_automaton.specs.Stream.StreamPush.{Pushes};
 ghost use Rattle.ac_automaton.specs.Stream.StreamSearch.{searched_anew, some_of};
 ghost use Rattle.ac_automaton.specs.Stream.StreamWalk.{IsAheadBy, MayWalk, WalksOn};
 ghost use Rattle.ac_input.specs.Work.{shortest};
-ghost use Rattle.ac_automaton.specs.Stream.{AnswersNew, CanBeCounted, IsOutOfMemory, closed_by, fresh_progress, may_wait, CanStream, CountsNothing, FindsHeld, GoesOn, IsConfigRefusal, IsOnCourse, IsRolled, IsSearched, ReadsMore, StreamCounts, StreamProgress, cut_of, read_by, room_of};
+ghost use Rattle.ac_automaton.specs.Stream.{AnswersNew, CanBeCounted, IsOutOfMemory, closed_by, fresh_progress, may_wait, CanStream, CountsNothing, FindsHeld, GoesOn, IsConfigRefusal, IsOnCourse, IsRolled, IsSearched, ReadsMore, StreamCounts, StreamProgress, cut_of, read_by, room_of, Picks};
 ghost use Rattle.ac_automaton.specs.declared.stream.StreamKinds.TheVariants.{AnyKind};
 
 mod decide;
@@ -32,7 +32,7 @@ use crate::buffer::Buffer;
 use crate::error::{MatchError, StreamError};
 use crate::find::first_match;
 use crate::search::Search;
-use crate::stream::StreamKinds;
+use crate::stream::{ItemSearch, StreamKinds};
 use crate::watched::Watched;
 use ac_input::history::{Count, Pieces};
 use ac_input::primitives::StateID;
@@ -99,9 +99,9 @@ pub struct StreamSearch<A: Search> {
 
 impl<A: Search> Model for StreamSearch<A> {
     ghost use Rattle.ac_input.specs.declared.search.Anchored.TheVariants.{No};
-    ghost use Rattle.ac_automaton.specs.Stream.{StreamProgress};
+    ghost use Rattle.ac_automaton.specs.Stream.{Picks, StreamProgress};
 
-    ghost Value = { StreamProgress };
+    ghost Value = { StreamProgress Picks };
 
     ghost use Rattle.std.specs.Prelude.{◌-◌, ◌≤◌, Some};
     ghost use Rattle.ac_automaton.specs.Ahead.{IsAhead, IsReadOnce, bytes_ahead, less_ahead};
@@ -254,8 +254,8 @@ fn search_first<A: Automaton>(
     }
 }
 
-/// How many matches were returned after this one, or none.
-fn given_then(given: &Count, found: &Option<Match>) -> Count
+/// How many items were returned after this one, or none.
+pub(crate) fn given_then(given: &Count, found: &Option<Match>) -> Count
     ensures { result.value ≡ given.now.value + length (some_of found.now) }
 {
     match found {
@@ -430,7 +430,7 @@ impl<A: Search> StreamSearch<A> {
     /// Moves the bytes after the cut to the front of the buffer, if no room is left.
     fn make_room(&mut self, steps: &mut Steps)
         requires { IsSearched self.old }
-        ensures room { length (read_by self.new) < self.new.from + room_of self.new.built }
+        ensures room { length (read_by self.new) < self.new.from + room_of Picks self.new.built }
         ensures same { IsRolled self.old self.new }
         ensures counts { StreamCounts self.old self.new steps.old steps.new }
         ensures kept { IsOnCourse self.new }
@@ -483,7 +483,7 @@ impl<A: Search> StreamSearch<A> {
         requires some { piece.now ≢ [] }
         requires unclosed { self.old.closed ≡ false }
         requires searched { IsSearched self.old }
-        requires room { length (read_by self.old) < self.old.from + room_of self.old.built }
+        requires room { length (read_by self.old) < self.old.from + room_of Picks self.old.built }
         ensures pushes { Pushes (IsSearched self.old) self.old self.new piece.now result }
         ensures steps { CountsNothing self.old self.new }
         ensures kept { IsOnCourse self.new }
@@ -524,7 +524,7 @@ impl<A: Search> StreamSearch<A> {
         requires open { reader.old.ended ≡ false }
         requires unclosed { self.old.closed ≡ false }
         requires searched { IsSearched self.old }
-        requires room { length (read_by self.old) < self.old.from + room_of self.old.built }
+        requires room { length (read_by self.old) < self.old.from + room_of Picks self.old.built }
         ensures read { ReadsMore R.remaining self.old self.new reader.old reader.new result }
         ensures steps { CountsNothing self.old self.new }
         ensures from { self.new.from ≡ self.old.from }
@@ -545,5 +545,37 @@ impl<A: Search> StreamSearch<A> {
             return Err(StreamError::Position);
         }
         Ok(n)
+    }
+}
+
+impl<A: Search> ItemSearch for StreamSearch<A> {
+    ghost use Rattle.ac_automaton.specs.Stream.{Picks};
+
+    ghost sequence = { Picks };
+
+    ghost progress = { λ s. s };
+
+    fn next_held(&mut self, steps: &mut Steps) -> Option<Match> {
+        self.next_counted(steps)
+    }
+
+    fn is_past_places(&self) -> bool {
+        self.is_over()
+    }
+
+    fn has_closed(&self) -> bool {
+        self.is_closed()
+    }
+
+    fn read_on<R: Read>(
+        &mut self,
+        reader: &mut Watched<R>,
+        steps: &mut Steps,
+    ) -> Result<usize, StreamError> {
+        self.read_more(reader, steps)
+    }
+
+    fn close(&mut self) {
+        self.finish();
     }
 }

@@ -11,12 +11,42 @@ use Rattle.ac_c.proofs.dado_raw_find.Statement.{statement}
 use Rattle.ac_c.proofs.dado_raw_find.Code as code
 
 pub dado_raw_find_spec : {M : Type 1} → statement M
-dado_raw_find_spec 𝓤 𝓛 𝓜 𝓡 wired = lends f.signature.lifetimes f.signature.outlives (rest f.signature.params) f.ended.kept.1 Out 𝓛 𝓜 𝓡 (λ κs a ac r end. AnswersFindIn ac a.1.0.now (bounds a.1.1.0 a.1.1.1.0 a.1.1.1.1.0 a.1.1.1.1.1.0) r)
-    (triple_of 𝓛 g.signature (g.spec 𝓛 𝓜.mem 𝓡.returns)) (λ κs qs ok a us l p. (((l.life, κs), (l.share, qs), tt, (lent_to l p, a), (shr_vals (lent_to l p), us)), tt)) (layout Out)
-    f.Key.name code.function _ (code.unfolded 𝓤 𝓛.H 𝓜 𝓡 wired) (met 𝓤 𝓛 𝓜 𝓡 (code.calls-ac_c::find::find 𝓡.env wired)) (λ κs qs ok a us l p. refl)
-    (λ κs. (shr_slice_vals, (uint_vals w64, (uint_vals w64, (uint_vals w32, (uint_vals w32, tt)))))) (λ κs. (shr_slice_Tells (named 0) κs.0 u8, (uint_Tells w64, (uint_Tells w64, (uint_Tells w32, (uint_Tells w32, tt))))))
-    (λ κs qs ok a l p. (id⊢ 𝓤 _, λ v. id⊢ 𝓤 _)) (λ r v is. ((laws.the_row_laws.lawful 𝓛).typed r _ is).0) (λ κs a p are P Q Post asks ends.
-    qed 𝓛 (raw P ∷ []) ∵ enter ! _ _ _ _ _ $ alloc_all ! (λ ls. pass_all ! refl ((tt, tt), (((shr_slice_Lawful 𝓛 (named 0) κs.0 u8).typed a.0 _ are.0).0, ((tt, record { fits = are.1.0.1 }), ((tt, record { fits = are.1.1.0.1 }), ((tt, record { fits = are.1.1.1.0.1 }), ((tt, record { fits = are.1.1.1.1.0.1 }), tt)))))) $
+dado_raw_find_spec 𝓤 𝓛 𝓜 𝓡 wired =
+    lends f.signature.lifetimes f.signature.outlives (rest f.signature.params) f.ended.kept.1 Out 𝓛 𝓜 𝓡
+    (λ κs a ac r end. AnswersFindIn ac a.1.0.now (bounds a.1.1.0 a.1.1.1.0 a.1.1.1.1.0 a.1.1.1.1.1.0) r)
+    (triple_of 𝓛 g.signature (g.spec 𝓛 𝓜.mem 𝓡.returns))
+    (λ κs qs ok a us l p. (((l.life, κs), (l.share, qs), tt, (lent_to l p, a), (shr_vals (lent_to l p), us)), tt))
+    (layout Out)
+    f.Key.name code.function _ (code.unfolded 𝓤 𝓛.H 𝓜 𝓡 wired) (met 𝓤 𝓛 𝓜 𝓡 (code.calls-ac_c::find::find 𝓡.env wired))
+    (λ κs qs ok a us l p. refl)
+    (λ κs. (shr_slice_vals, (uint_vals w64, (uint_vals w64, (uint_vals w32, (uint_vals w32, tt))))))
+    (λ κs. (
+      shr_slice_Tells (named 0) κs.0 u8,
+      (uint_Tells w64, (uint_Tells w64, (uint_Tells w32, (uint_Tells w32, tt)))),
+    ))
+    (λ κs qs ok a l p. (id⊢ 𝓤 _, λ v. id⊢ 𝓤 _)) (λ r v is. ((laws.the_row_laws.lawful 𝓛).typed r _ is).0)
+    (λ κs a p are P Q Post asks ends.
+    qed 𝓛 (raw P ∷ []) ∵ enter ! _ _ _ _ _
+    $ alloc_all !
+    (λ ls. pass_all ! refl (
+      (tt, tt),
+      (
+        ((shr_slice_Lawful 𝓛 (named 0) κs.0 u8).typed a.0 _ are.0).0,
+        (
+          (tt, record { fits = are.1.0.1 }),
+          (
+            (tt, record { fits = are.1.1.0.1 }),
+            ((tt, record { fits = are.1.1.1.0.1 }), ((tt, record { fits = are.1.1.1.1.0.1 }), tt)),
+          ),
+        ),
+      ),
+    ) $
     sets ! (of_opd ! (get ! refl)) refl (tt, tt) $ sets ! (addr ! (through ! refl (stop !))) refl (tt, tt) $
-    calls_from ! (framed 𝓤 𝓛.H 𝓜 (tables 𝓤 𝓛.H 𝓜 𝓡 𝓡.env)) (raw P) _ Q asks (and_then ! (get ! refl) (and_then ! (get ! refl) (and_then ! (get ! refl) (and_then ! (get ! refl) (and_then ! (get ! refl) (and_then ! (get ! refl) (no_more !))))))) (λ v.
-    use1 𝓛 (later (raw (Post v) ⊛ raw (fact 𝓤 (Good (layout Out) v)))) (ends v) $ await ! tt $ split ! $ move ! (1 ∷ []) $ heard ! (Good (layout Out) v) (λ fits. lands_as ! refl refl fits $ returns ! (look_at ! 0 refl) $ free_all ! refl $ done !))))
+    calls_from ! (framed 𝓤 𝓛.H 𝓜 (tables 𝓤 𝓛.H 𝓜 𝓡 𝓡.env)) (raw P) _ Q asks
+    (and_then ! (get ! refl)
+    (and_then ! (get ! refl)
+    (and_then ! (get ! refl)
+    (and_then ! (get ! refl) (and_then ! (get ! refl) (and_then ! (get ! refl) (no_more !))))))) (λ v.
+    use1 𝓛 (later (raw (Post v) ⊛ raw (fact 𝓤 (Good (layout Out) v)))) (ends v) $ await ! tt $ split ! $ move ! (1 ∷ [])
+    $ heard ! (Good (layout Out) v)
+    (λ fits. lands_as ! refl refl fits $ returns ! (look_at ! 0 refl) $ free_all ! refl $ done !))))

@@ -11,16 +11,28 @@ use Rattle.ac_c.specs.List.{RunsTo, before_of, place_after}
 
 -- a run that takes no step counts nothing
 pub runs-none : (run : Run) (steps : Steps) → IsWithinOneWalk run → RunsTo run run steps steps
-runs-none run steps paid = record { built = refl; asked = refl; counts = record { looked = omega arith; scanned = omega arith; moved = omega arith }; paid = paid }
+runs-none run steps paid =
+    record {
+      built = refl;
+      asked = refl;
+      counts =
+          record { looked = omega arith; scanned = omega arith; moved = omega arith };
+      paid = paid;
+    }
 
 -- an occurrence that was just written is the one that was given last
-pub last-written : (p : Place) (out : List Found) (at : ℕ) (o : Occurrence) → at < length out → before_of (place_after p (set out at (shown o)) (at + 1)) ≡ Some o
+pub last-written : (p : Place) (out : List Found) (at : ℕ) (o : Occurrence) → at < length out
+    → before_of (place_after p (set out at (shown o)) (at + 1)) ≡ Some o
 last-written p out at o room =
-    ap (λ (n : ℕ). before_of (place_after p (set out at (shown o)) n)) (add-one at)
-    ∙ ap (λ (f : Option Found). before_of (elim f as (λ _. Place) [ None ↦ p | Some g ↦ record p { last = g; begun = 1 } ])) (slice_get_read (set out at (shown o)) (length out) at (shown o) (sym (length-set out at (shown o))) room (sym (get_or-set_same out at (shown o) (shown o) room)))
+    ap (λ n. before_of (place_after p (set out at (shown o)) n)) (add-one at)
+    ∙ ap (λ f. before_of
+    (elim f as (λ _. Place) [ None ↦ p | Some g ↦ record p { last = g; begun = 1 } ]))
+    (slice_get_read (set out at (shown o)) (length out) at (shown o) (sym (length-set out at (shown o))) room
+    (sym (get_or-set_same out at (shown o) (shown o) room)))
 
 -- a run that goes on in two parts counts both
-pub runs-on : (run mid later : Run) (before between after : Steps) → RunsTo run mid before between → RunsTo mid later between after → RunsTo run later before after
+pub runs-on : (run mid later : Run) (before between after : Steps) → RunsTo run mid before between
+    → RunsTo mid later between after → RunsTo run later before after
 runs-on run mid later before between after a b = record {
   built = b.built ∙ a.built;
   asked = b.asked ∙ a.asked;

@@ -8,23 +8,25 @@ use Rattle.ac_input.specs.declared.search.MatchKind.{MatchKind}
 use Rattle.ac_input.specs.declared.search.MatchKind.TheVariants.{Standard}
 use Rattle.ac_input.specs.Occurrence.{Occurrence}
 use Rattle.ac_automaton.specs.Automaton.{Built}
-use Rattle.ac_automaton.specs.Stream.{AreAllGiven, CanBeCounted, IsHeldMatch, ReadsNothing, StreamProgress, read_by}
+use Rattle.ac_automaton.specs.Stream.{AreAllGiven, CanBeCounted, IsHeldItem, ReadsNothing, StreamProgress, read_by, Picks}
 use Rattle.ac_c.specs.declared.found.Found.{Found}
 use Rattle.ac_c.specs.Found.{shown}
 use Rattle.ac_c.specs.Searching.{AreShown, Returns}
+use Rattle.ac_automaton.proofs.stream.SequenceLemmas.{picks≢occurrences}
 
 -- the kind of a search's automaton
-abbrev kind_in : StreamProgress → MatchKind
+abbrev kind_in : StreamProgress Picks → MatchKind
 kind_in s = s.built.dictionary.kind
 
-same-kind : (s t : StreamProgress) → ReadsNothing s t → kind_in s ≡ Standard → kind_in t ≡ Standard
-same-kind s t a e = ap (λ (b : Built). b.dictionary.kind) a.built ∙ e
+same-kind : (s t : StreamProgress Picks) → ReadsNothing s t → kind_in s ≡ Standard → kind_in t ≡ Standard
+same-kind s t a e = ap (λ b. b.dictionary.kind) a.built ∙ e
 
-pub reads-itself : (s : StreamProgress) → ReadsNothing s s
-reads-itself s = record { on = λ e. omega arith; last = omega arith; closed = refl; built = refl; pieces = refl; from = refl }
+pub reads-itself : (s : StreamProgress Picks) → ReadsNothing s s
+reads-itself s =
+    record { on = λ e. omega arith; last = omega arith; closed = refl; built = refl; pieces = refl; from = refl }
 
 -- if nothing is read in each of two steps, nothing is read over both
-pub reads-on : (s t u : StreamProgress) → ReadsNothing s t → ReadsNothing t u → ReadsNothing s u
+pub reads-on : (s t u : StreamProgress Picks) → ReadsNothing s t → ReadsNothing t u → ReadsNothing s u
 reads-on s t u a b = record {
   on = λ e. let x : s.at ≤ t.at = a.on e in let y : t.at ≤ u.at = b.on (same-kind s t a e) in omega arith;
   last = let x : s.last ≤ t.last = a.last in let y : t.last ≤ u.last = b.last in omega arith;
@@ -34,35 +36,46 @@ reads-on s t u a b = record {
   from = b.from ∙ a.from;
 }
 
-same-read : (s t : StreamProgress) → ReadsNothing s t → read_by t ≡ read_by s
+same-read : (s t : StreamProgress Picks) → ReadsNothing s t → read_by t ≡ read_by s
 same-read s t a = ap concat a.pieces
 
 -- if nothing is read in between, bytes that could be counted before can be counted after
-pub same-counted : (s t : StreamProgress) → ReadsNothing s t → CanBeCounted (read_by s) → CanBeCounted (read_by t)
+pub same-counted : (s t : StreamProgress Picks) → ReadsNothing s t → CanBeCounted (read_by s) → CanBeCounted (read_by t)
 same-counted s t a counted = subst CanBeCounted (sym (same-read s t a)) counted
 
 -- if nothing is read in between, a match among the held bytes was among them before
-held-before : (s t : StreamProgress) (o : Occurrence) → ReadsNothing s t → IsHeldMatch t o → IsHeldMatch s o
+held-before : (s t : StreamProgress Picks) (o : Occurrence) → ReadsNothing s t → IsHeldItem t o → IsHeldItem s o
 held-before s t o a h = record {
-  pattern = subst (λ (b : Built). o.pattern < length b.dictionary.patterns) a.built h.pattern;
-  held = subst (λ (n : ℕ). n ≤ o.start) a.from h.held;
+  pattern = subst (λ b. o.pattern < length b.dictionary.patterns) a.built h.pattern;
+  held = λ e. subst (λ n. n ≤ o.start) a.from (h.held e);
   behind = let x : s.last ≤ t.last = a.last in let y : t.last ≤ o.start = h.behind in omega arith;
   some = h.some;
-  new = λ e. let x : s.at ≤ t.at = a.on e in let y : t.at < o.end = h.new (same-kind s t a e) in omega arith;
-  within = subst (λ (xs : List ℕ). o.end ≤ length xs) (same-read s t a) h.within;
+  new = λ picks e. let x : s.at ≤ t.at = a.on e in let y : t.at < o.end = h.new picks (same-kind s t a e) in
+      omega arith;
+  past = λ e. absurd (picks≢occurrences e);
+  within = subst (λ xs. o.end ≤ length xs) (same-read s t a) h.within;
 }
 
 -- no step returns no match
-pub returns-none : (s : StreamProgress) → Returns s s []
-returns-none s = record { nothing = reads-itself s; given = search rules; held = All-nil (IsHeldMatch s); some = λ some. absurd (some refl) }
+pub returns-none : (s : StreamProgress Picks) → Returns s s []
+returns-none s =
+    record {
+      nothing = reads-itself s;
+      given = search rules;
+      held = All-nil (IsHeldItem s);
+      some = λ some. absurd (some refl);
+    }
 
 -- a further step that returns no match leaves the matches returned as they are
-pub returns-rest : (s t u : StreamProgress) (os : List Occurrence) → Returns s t os → ReadsNothing t u → u.given ≡ t.given → Returns s u os
-returns-rest s t u os h b given = record { nothing = reads-on s t u h.nothing b; given = given ∙ h.given; held = h.held; some = h.some }
+pub returns-rest : (s t u : StreamProgress Picks) (os : List Occurrence) → Returns s t os → ReadsNothing t u
+    → u.given ≡ t.given → Returns s u os
+returns-rest s t u os h b given =
+    record { nothing = reads-on s t u h.nothing b; given = given ∙ h.given; held = h.held; some = h.some }
 
 -- if matches of what was read are left now, some were left before
-left-before : (s t : StreamProgress) (os : List Occurrence) → (os ≡ [] → t ≡ s) → ((os ≢ []) → ¬ AreAllGiven s) → ¬ AreAllGiven t → ¬ AreAllGiven s
-left-before s t [] same some left = subst (λ (z : StreamProgress). ¬ AreAllGiven z) (same refl) left
+left-before : (s t : StreamProgress Picks) (os : List Occurrence) → (os ≡ [] → t ≡ s) → ((os ≢ []) → ¬ AreAllGiven s)
+    → ¬ AreAllGiven t → ¬ AreAllGiven s
+left-before s t [] same some left = subst (λ z. ¬ AreAllGiven z) (same refl) left
 left-before s t (o ∷ os) same some left = some (λ e. cc)
 
 pub more-than-none : (os : List Occurrence) (o : Occurrence) → os ++ o ∷ [] ≢ []
@@ -70,21 +83,25 @@ more-than-none [] o e = cc
 more-than-none (x ∷ os) o e = cc
 
 -- one more match was returned
-pub returns-more : (s t u : StreamProgress) (os : List Occurrence) (o : Occurrence) → Returns s t os → (os ≡ [] → t ≡ s) → ReadsNothing t u → u.given ≡ t.given ++ o ∷ []
-    → IsHeldMatch t o → CanBeCounted (read_by t) → ¬ AreAllGiven t → Returns s u (os ++ o ∷ [])
+pub returns-more : (s t u : StreamProgress Picks) (os : List Occurrence) (o : Occurrence) → Returns s t os
+    → (os ≡ [] → t ≡ s) → ReadsNothing t u → u.given ≡ t.given ++ o ∷ []
+    → IsHeldItem t o → CanBeCounted (read_by t) → ¬ AreAllGiven t → Returns s u (os ++ o ∷ [])
 returns-more s t u os o h same b given held counted left = record {
   nothing = reads-on s t u h.nothing b;
-  given = given ∙ (ap (λ (xs : List Occurrence). xs ++ o ∷ []) h.given ∙ append_assoc s.given os (o ∷ []));
-  held = All-push (IsHeldMatch s) os o h.held (held-before s t o h.nothing held);
-  some = λ some. (subst CanBeCounted (same-read s t h.nothing) counted, left-before s t os same (λ e. (h.some e).1) left);
+  given = given ∙ (ap (λ xs. xs ++ o ∷ []) h.given ∙ append_assoc s.given os (o ∷ []));
+  held = All-push (IsHeldItem s) os o h.held (held-before s t o h.nothing held);
+  some = λ some.
+      (subst CanBeCounted (same-read s t h.nothing) counted, left-before s t os same (λ e. (h.some e).1) left);
 }
 
 -- the buffer shows one more match
-pub shown-more : (os : List Occurrence) (o : Occurrence) (old out : List Found) (at : ℕ) → at < length out → length out ≡ length old → AreShown os old out at
+pub shown-more : (os : List Occurrence) (o : Occurrence) (old out : List Found) (at : ℕ) → at < length out
+    → length out ≡ length old → AreShown os old out at
     → AreShown (os ++ o ∷ []) old (set out at (shown o)) (at + 1)
 shown-more os o old out at lt same h = record {
   count = omega (arith, h.count, length-append os (o ∷ []));
   room = omega arith;
-  shown = let e : take (at + 1) (set out at (shown o)) ≡ take at out ++ shown o ∷ [] = take_more_set out at (shown o) lt in
-      e ∙ (ap (λ (fs : List Found). fs ++ shown o ∷ []) h.shown ∙ sym (map-append shown os (o ∷ [])));
+  shown = let e : take (at + 1) (set out at (shown o)) ≡ take at out ++ shown o ∷ [] =
+      take_more_set out at (shown o) lt in
+      e ∙ (ap (λ fs. fs ++ shown o ∷ []) h.shown ∙ sym (map-append shown os (o ∷ [])));
 }

@@ -12,6 +12,7 @@ use Rattle.std.specs.declared.option.Option.TheVariants.{None, Some}
 use Rattle.std_alloc.proofs.SendSync.{lies}
 use Rattle.ac_c.specs.Slot.{slot_owns}
 
-pub slot-keyless : (R : RattleType) → IsSend R → (a : Global) (at : Ptr) (held : Option R.Denot) → Keyless (slot_owns R a at held)
+pub slot-keyless : (R : RattleType) → IsSend R → (a : Global) (at : Ptr) (held : Option R.Denot)
+    → Keyless (slot_owns R a at held)
 slot-keyless R sends a at None = tt
 slot-keyless R sends a at (Some x) = (lies R sends at x, heap.frees.frees a (raw (lone R.mir)) at)

@@ -7,24 +7,28 @@ use Rattle.ac_input.proofs.lemmas.ContainsLemmas.{Contains-nil, Contains-head, C
 
 -- a list is split at an element that stands in it
 parts_of : {X : Type 0} (xs : List X) (y : X) → Contains xs y → (front back : List X) × (xs ≡ front ++ y ∷ back)
-parts_of [] y c = absurd (Contains-nil y c)
+parts_of [] y c = absurd (Contains-nil c)
 parts_of {X} (x ∷ xs) y c =
     let inner = parts_of xs y in
     ⊎_elim
-    (λ (same : x ≡ y). ([], xs, ap (λ (z : X). z ∷ xs) same))
-    (λ later. let r = inner later in (x ∷ r.0, r.1, ap (λ (zs : List X). x ∷ zs) r.2))
-    (Contains-cases x xs y c)
+    (λ (same : x ≡ y). ([], xs, ap (λ z. z ∷ xs) same))
+    (λ later. let r = inner later in (x ∷ r.0, r.1, ap (λ zs. x ∷ zs) r.2))
+    (Contains-cases xs c)
 
 -- a list without repeats is no longer than a list that has all its elements
-pub distinct-shorter : {X : Type 0} (xs ys : List X) → IsDistinct xs → ((x : X) → Contains xs x → Contains ys x) → length xs ≤ length ys
+pub distinct-shorter : {X : Type 0} (xs ys : List X) → IsDistinct xs → ((x : X) → Contains xs x → Contains ys x)
+    → length xs ≤ length ys
 distinct-shorter [] ys d among = omega arith
 distinct-shorter {X} (x ∷ xs) ys d among =
-    let parts = parts_of ys x (among x (Contains-head x xs)) in
+    let parts = parts_of ys x (among x (Contains-head xs)) in
     let rest = distinct-shorter xs (parts.0 ++ parts.1) d.1
     (λ z c. ⊎_elim
     (λ first. Contains-append_left parts.0 parts.1 z first)
-    (λ second. ⊎_elim (λ (same : x ≡ z). absurd (d.0 (subst (λ (y : X). Contains xs y) (sym same) c))) (λ later. Contains-append_right parts.0 parts.1 z later) (Contains-cases x parts.1 z second))
-    (Contains-append_cases parts.0 (x ∷ parts.1) z (subst (λ (zs : List X). Contains zs z) parts.2 (among z (Contains-tail x xs z c))))) in
+    (λ second. ⊎_elim (λ (same : x ≡ z). absurd (d.0 (subst (λ y. Contains xs y) (sym same) c)))
+    (λ later. Contains-append_right parts.0 parts.1 z later) (Contains-cases parts.1 second))
+    (Contains-append_cases parts.0 (x ∷ parts.1) z
+    (subst (λ zs. Contains zs z) parts.2 (among z (Contains-tail xs c))))) in
     let long = length-append parts.0 parts.1 in
-    let whole : length ys ≡ length parts.0 + length (x ∷ parts.1) = ap length parts.2 ∙ length-append parts.0 (x ∷ parts.1) in
+    let whole : length ys ≡ length parts.0 + length (x ∷ parts.1) = ap length parts.2
+    ∙ length-append parts.0 (x ∷ parts.1) in
     omega arith

@@ -1,5 +1,7 @@
--- A function that makes a struct which only contracts see. Beside its ghost fields the struct has one field, and that is empty. The
--- function returns the empty struct, whatever it is given, and its proof chooses the values of the ghost fields. A proof calls the
+-- A function that makes a struct which only contracts see. Beside its ghost fields the struct has one field, and that
+-- is empty. The
+-- function returns the empty struct, whatever it is given, and its proof chooses the values of the ghost fields. A
+-- proof calls the
 -- lemma for its function's parameters:
 --     ghost_of_none      no parameter
 --     ghost_of_one       `&Q`
@@ -57,38 +59,67 @@ making n σs name mark = record {
   givens = 0;
   params = length σs;
   locals = typed (ty_struct name (tcons (ty_struct mark tnil) tnil)) ∷ locals_of σs (typed (ty_struct mark tnil));
-  body = seq (assign (place (length σs + 1) []) (aggregate [])) (seq (assign (place 0 []) (aggregate (copy (place (length σs + 1) []) ∷ []))) return);
+  body = seq (assign (place (length σs + 1) []) (aggregate []))
+      (seq (assign (place 0 []) (aggregate (copy (place (length σs + 1) []) ∷ []))) return);
 }
 
-module _ {M : Type 1} {𝓤 : Ura M} (𝓛 : Logic 𝓤) (C : Calls 𝓤 𝓛.H) (Λ : Loops 𝓤 𝓛.H) (n : ℕ) (name mark : Sym) (Post : Val → SProp 𝓤) where
+module _ {M : Type 1} {𝓤 : Ura M} (𝓛 : Logic 𝓤) (C : Calls 𝓤 𝓛.H) (Λ : Loops 𝓤 𝓛.H) (n : ℕ) (name mark : Sym)
+    (Post : Val → SProp 𝓤) where
   abbrev Runs : List Ty → List Val → Type 1
   Runs σs us = ent 𝓤 (Post (one none)) (WpFn 𝓤 𝓛.H C Λ (making n σs name mark) us Post)
 
   runs_none : Runs [] []
   runs_none =
-      qed 𝓛 (raw (Post (one none)) ∷ []) ∵ enter ! C Λ (making n [] name mark) [] Post $ alloc_all ! (λ l. pass_all ! refl tt $
-      sets ! (agg ! (no_more !)) refl (tt, tt) $ sets ! (agg ! (and_then ! (get ! refl) (no_more !))) refl (tt, (tt, tt)) $ returns ! (look_at ! 0 refl) $ free_all ! refl $ done !)
+      qed 𝓛 (raw (Post (one none)) ∷ []) ∵ enter ! C Λ (making n [] name mark) [] Post
+      $ alloc_all ! (λ l. pass_all ! refl tt $
+      sets ! (agg ! (no_more !)) refl (tt, tt)
+      $ sets ! (agg ! (and_then ! (get ! refl) (no_more !))) refl (tt, (tt, tt)) $ returns ! (look_at ! 0 refl)
+      $ free_all ! refl $ done !)
 
   runs_one : (σ : Ty) (u : Val) → True (has_ty σ u) × WT u → Runs (σ ∷ []) (u ∷ [])
   runs_one σ u fits =
-      qed 𝓛 (raw (Post (one none)) ∷ []) ∵ enter ! C Λ (making n (σ ∷ []) name mark) (u ∷ []) Post $ alloc_all ! (λ l. pass_all ! refl (fits, tt) $
-      sets ! (agg ! (no_more !)) refl (tt, tt) $ sets ! (agg ! (and_then ! (get ! refl) (no_more !))) refl (tt, (tt, tt)) $ returns ! (look_at ! 0 refl) $ free_all ! refl $ done !)
+      qed 𝓛 (raw (Post (one none)) ∷ []) ∵ enter ! C Λ (making n (σ ∷ []) name mark) (u ∷ []) Post
+      $ alloc_all ! (λ l. pass_all ! refl (fits, tt) $
+      sets ! (agg ! (no_more !)) refl (tt, tt)
+      $ sets ! (agg ! (and_then ! (get ! refl) (no_more !))) refl (tt, (tt, tt)) $ returns ! (look_at ! 0 refl)
+      $ free_all ! refl $ done !)
 
-  runs_two : (σ τ : Ty) (u v : Val) → True (has_ty σ u) × WT u → True (has_ty τ v) × WT v → Runs (σ ∷ τ ∷ []) (u ∷ v ∷ [])
+  runs_two : (σ τ : Ty) (u v : Val) → True (has_ty σ u) × WT u → True (has_ty τ v) × WT v
+      → Runs (σ ∷ τ ∷ []) (u ∷ v ∷ [])
   runs_two σ τ u v fits ok =
-      qed 𝓛 (raw (Post (one none)) ∷ []) ∵ enter ! C Λ (making n (σ ∷ τ ∷ []) name mark) (u ∷ v ∷ []) Post $ alloc_all ! (λ l. pass_all ! refl (fits, (ok, tt)) $
-      sets ! (agg ! (no_more !)) refl (tt, tt) $ sets ! (agg ! (and_then ! (get ! refl) (no_more !))) refl (tt, (tt, tt)) $ returns ! (look_at ! 0 refl) $ free_all ! refl $ done !)
+      qed 𝓛 (raw (Post (one none)) ∷ []) ∵ enter ! C Λ (making n (σ ∷ τ ∷ []) name mark) (u ∷ v ∷ []) Post
+      $ alloc_all ! (λ l. pass_all ! refl (fits, (ok, tt)) $
+      sets ! (agg ! (no_more !)) refl (tt, tt)
+      $ sets ! (agg ! (and_then ! (get ! refl) (no_more !))) refl (tt, (tt, tt)) $ returns ! (look_at ! 0 refl)
+      $ free_all ! refl $ done !)
 
 -- ---- contracts, by the parameters and the type R of the result
 abbrev pub none_to : RattleType → Ended
-none_to R = record { signature = record { lifetimes = 0; outlives = []; params = []; result = plain (λ _. R) }; kept = tt }
+none_to R =
+    record { signature = record { lifetimes = 0; outlives = []; params = []; result = plain (λ _. R) }; kept = tt }
 
 abbrev pub one_to : RattleType → RattleType → Ended
-one_to Q R = record { signature = record { lifetimes = 1; outlives = []; params = shr_ref_to (0 ∷ []) tt (plain (λ _. Q)) ∷ []; result = plain (λ _. R) }; kept = (yes, tt) }
+one_to Q R =
+    record {
+      signature =
+          record {
+            lifetimes = 1;
+            outlives = [];
+            params = shr_ref_to (0 ∷ []) tt (plain (λ _. Q)) ∷ [];
+            result = plain (λ _. R);
+          };
+      kept = (yes, tt);
+    }
 
 abbrev after_one : RattleType → Slot 2 → RattleType → Ended
 after_one Q s R = record {
-  signature = record { lifetimes = 2; outlives = []; params = shr_ref_to (0 ∷ []) tt (plain (λ _. Q)) ∷ s ∷ []; result = plain (λ _. R) };
+  signature =
+      record {
+        lifetimes = 2;
+        outlives = [];
+        params = shr_ref_to (0 ∷ []) tt (plain (λ _. Q)) ∷ s ∷ [];
+        result = plain (λ _. R);
+      };
   kept = (yes, (yes, tt));
 }
 
@@ -112,10 +143,12 @@ marked = fsep ((plainly (Mark.the_row unit ∷ [])).own_val (record {}, tt) (one
 abbrev pub IsMark : RattleType → Type 1
 IsMark R = (r : R.Denot) → R.own_val r (one none ∷ []) ≡ marked
 
-mark_made : {M : Type 1} {𝓤 : Ura M} (𝓛 : Logic 𝓤) (R : RattleType) → IsMark R → (r : R.Denot) → ent 𝓤 (emp 𝓤) (sem 𝓛 (R.own_val r (one none ∷ [])))
+mark_made : {M : Type 1} {𝓤 : Ura M} (𝓛 : Logic 𝓤) (R : RattleType) → IsMark R → (r : R.Denot)
+    → ent 𝓤 (emp 𝓤) (sem 𝓛 (R.own_val r (one none ∷ [])))
 mark_made {𝓤 = 𝓤} 𝓛 R is r =
-    subst (λ (P : Fml). ent 𝓤 (emp 𝓤) (sem 𝓛 P)) (sym (is r)) (qed 𝓛 [] ∵
-    nothing ! $ owned ! (Mark.the_row unit) (Is (Mark.the_row unit)) (makes (Mark.the_type unit) tt 𝓛) (record {}) (none ∷ []) (tt, (refl, tt)) $
+    subst (λ P. ent 𝓤 (emp 𝓤) (sem 𝓛 P)) (sym (is r)) (qed 𝓛 [] ∵
+    nothing ! $ owned ! (Mark.the_row unit) (Is (Mark.the_row unit)) (makes (Mark.the_type unit) tt 𝓛) (record {})
+    (none ∷ []) (tt, (refl, tt)) $
     one_made ! (Mark.the_row unit) (record {}) none $ fjoin ! $ done !)
 
 -- ---- the function, by its code, its parameters and its result
@@ -134,49 +167,81 @@ module _ {M : Type 1} {𝓤 : Ura M} (𝓛 : Logic 𝓤) (𝓜 : Model 𝓤 𝓛
     hs = all_passed S.params T.kept
 
     ghost_of : AllSilent 𝓛 S.params T.kept → (k : Callee) (e : Fn) → Code k e
-        → (sp : (κs : Lfts S.lifetimes) → Spells (types_at S.params κs)) → ((κs : Lfts S.lifetimes) → Tellss (types_at S.params κs) (Ises (types_at S.params κs)) (sp κs))
-        → ((κs : Lfts S.lifetimes) (a : Args S κs) → Are (types_at S.params κs) (Ises (types_at S.params κs)) a (valss (types_at S.params κs) (sp κs) a) → (Post : Val → SProp 𝓤)
-        → ent 𝓤 (Post (one none)) (WpFn 𝓤 𝓛.H 𝓣.C 𝓣.Λ e (flat (types_at S.params κs) (valss (types_at S.params κs) (sp κs) a)) Post))
-        → ((κs : Lfts S.lifetimes) → IsMark (type_at S.result κs)) → (ws : (κs : Lfts S.lifetimes) (a : Args S κs) → Lasts T κs a) (made : (κs : Lfts S.lifetimes) → Args S κs → Res S κs)
-        → ((κs : Lfts S.lifetimes) (a : Args S κs) (g : (c κs a).ghost) → ent 𝓤 (emp 𝓤) ((c κs a).ensures g (made κs a) (at_exit T κs a (ws κs a))))
+        → (sp : (κs : Lfts S.lifetimes) → Spells (types_at S.params κs))
+        → ((κs : Lfts S.lifetimes) → Tellss (types_at S.params κs) (Ises (types_at S.params κs)) (sp κs))
+        → ((κs : Lfts S.lifetimes) (a : Args S κs)
+        → Are (types_at S.params κs) (Ises (types_at S.params κs)) a (valss (types_at S.params κs) (sp κs) a)
+        → (Post : Val → SProp 𝓤)
+        → ent 𝓤 (Post (one none))
+        (WpFn 𝓤 𝓛.H 𝓣.C 𝓣.Λ e (flat (types_at S.params κs) (valss (types_at S.params κs) (sp κs) a)) Post))
+        → ((κs : Lfts S.lifetimes) → IsMark (type_at S.result κs))
+        → (ws : (κs : Lfts S.lifetimes) (a : Args S κs) → Lasts T κs a)
+        (made : (κs : Lfts S.lifetimes) → Args S κs → Res S κs)
+        → ((κs : Lfts S.lifetimes) (a : Args S κs) (g : (c κs a).ghost)
+        → ent 𝓤 (emp 𝓤) ((c κs a).ensures g (made κs a) (at_exit T κs a (ws κs a))))
         → Meets 𝓛 S (𝓣.C k) (closing 𝓛 T c)
-    ghost_of silent k e closed sp tells runs is ws made holds = proved 𝓛 T hs c 𝓜 𝓡 (passed_go 𝓛 S.params T.kept) k e closed sp tells (λ κs qs bounds a g are.
+    ghost_of silent k e closed sp tells runs is ws made holds =
+        proved 𝓛 T hs c 𝓜 𝓡 (passed_go 𝓛 S.params T.kept) k e closed sp tells (λ κs qs bounds a g are.
         let vss : Valss (types_at S.params κs) = valss (types_at S.params κs) (sp κs) a in
-        let y : (walk_of 𝓛 T hs c).Ghost = ((κs, qs, bounds, a, vss), g) in let r : Res S κs = made κs a in let w : Lasts T κs a = ws κs a in
-        via 𝓤 ((walk_of 𝓛 T hs c).post y (one none)) (qed 𝓛 ((raw (alive 𝓛 S κs qs) ⊛ ‵ (owns (types_at S.params κs) a vss)) ∷ raw ((c κs a).requires g) ∷ []) ∵
-        keep ! (0 ∷ []) $ split ! $ keep ! (0 ∷ []) $ suffices ! _ (leaves 𝓛 T hs c y (one none) r w (passed_fit κs S.params T.kept a w)) $
-        use0 𝓛 (raw ((c κs a).ensures g r (at_exit T κs a w))) (holds κs a g) $ use0 𝓛 (‵ ((type_at S.result κs).own_val r (one none ∷ []))) (mark_made 𝓛 (type_at S.result κs) (is κs) r) $
-        use0 𝓛 (‵ (has_of κs S.params T.kept hs a w vss)) (via 𝓤 (sem 𝓛 (lasts T κs a w)) (silent_lasts 𝓛 κs S.params T.kept silent a w) (passed_has 𝓛 κs S.params T.kept a w vss)) $ move ! (3 ∷ 0 ∷ 1 ∷ 2 ∷ []) $ done !)
+        let y : (walk_of 𝓛 T hs c).Ghost = ((κs, qs, bounds, a, vss), g) in let r : Res S κs = made κs a in
+        let w : Lasts T κs a = ws κs a in
+        via 𝓤 ((walk_of 𝓛 T hs c).post y (one none))
+        (qed 𝓛 ((raw (alive 𝓛 S κs qs) ⊛ ‵ (owns (types_at S.params κs) a vss)) ∷ raw ((c κs a).requires g) ∷ []) ∵
+        keep ! (0 ∷ []) $ split ! $ keep ! (0 ∷ [])
+        $ suffices ! _ (leaves 𝓛 T hs c y (one none) r w (passed_fit κs S.params T.kept a w)) $
+        use0 𝓛 (raw ((c κs a).ensures g r (at_exit T κs a w))) (holds κs a g)
+        $ use0 𝓛 (‵ ((type_at S.result κs).own_val r (one none ∷ []))) (mark_made 𝓛 (type_at S.result κs) (is κs) r) $
+        use0 𝓛 (‵ (has_of κs S.params T.kept hs a w vss))
+        (via 𝓤 (sem 𝓛 (lasts T κs a w)) (silent_lasts 𝓛 κs S.params T.kept silent a w)
+        (passed_has 𝓛 κs S.params T.kept a w vss)) $ move ! (3 ∷ 0 ∷ 1 ∷ 2 ∷ []) $ done !)
         (runs κs a are ((walk_of 𝓛 T hs c).post y)))
 
   -- ---- the function, by its contract, its code, and what the proof chooses
-  pub ghost_of_none : (R : RattleType) (c : Clauses 𝓤 (none_to R)) (k : Callee) (name mark : Sym) → Code k (making 0 [] name mark) → IsMark R → (made : R.Denot)
-      → ((κs : Lfts 0) (a : Unit {0}) (g : (c κs a).ghost) → ent 𝓤 (emp 𝓤) ((c κs a).ensures g made tt)) → Meets 𝓛 (none_to R).signature (𝓣.C k) (closing 𝓛 (none_to R) c)
-  ghost_of_none R c k name mark closed is made holds = ghost_of (none_to R) c tt k (making 0 [] name mark) closed (λ κs. tt) (λ κs. tt)
+  pub ghost_of_none : (R : RattleType) (c : Clauses 𝓤 (none_to R)) (k : Callee) (name mark : Sym)
+      → Code k (making 0 [] name mark) → IsMark R → (made : R.Denot)
+      → ((κs : Lfts 0) (a : Unit {0}) (g : (c κs a).ghost) → ent 𝓤 (emp 𝓤) ((c κs a).ensures g made tt))
+      → Meets 𝓛 (none_to R).signature (𝓣.C k) (closing 𝓛 (none_to R) c)
+  ghost_of_none R c k name mark closed is made holds =
+      ghost_of (none_to R) c tt k (making 0 [] name mark) closed (λ κs. tt) (λ κs. tt)
       (λ κs a are Post. runs_none 𝓛 𝓣.C 𝓣.Λ 0 name mark Post) (λ κs. is) (λ κs a. tt) (λ κs a. made) holds
 
-  pub ghost_of_one : (Q R : RattleType) (c : Clauses 𝓤 (one_to Q R)) (k : Callee) (name mark : Sym) → Code k (making 1 (seen 0 Q ∷ []) name mark) → IsMark R → (made : Q.Denot → R.Denot)
-      → ((κs : Lfts 1) (a : Args (one_to Q R).signature κs) (g : (c κs a).ghost) → ent 𝓤 (emp 𝓤) ((c κs a).ensures g (made a.0.now) (a.0, tt)))
+  pub ghost_of_one : (Q R : RattleType) (c : Clauses 𝓤 (one_to Q R)) (k : Callee) (name mark : Sym)
+      → Code k (making 1 (seen 0 Q ∷ []) name mark) → IsMark R → (made : Q.Denot → R.Denot)
+      → ((κs : Lfts 1) (a : Args (one_to Q R).signature κs) (g : (c κs a).ghost)
+      → ent 𝓤 (emp 𝓤) ((c κs a).ensures g (made a.0.now) (a.0, tt)))
       → Meets 𝓛 (one_to Q R).signature (𝓣.C k) (closing 𝓛 (one_to Q R) c)
-  ghost_of_one Q R c k name mark closed is made holds = ghost_of (one_to Q R) c ((λ κs x f. refl), tt) k (making 1 (seen 0 Q ∷ []) name mark) closed
+  ghost_of_one Q R c k name mark closed is made holds =
+      ghost_of (one_to Q R) c ((λ κs x f. refl), tt) k (making 1 (seen 0 Q ∷ []) name mark) closed
       (λ κs. (shr_vals, tt)) (λ κs. (shr_Tells (named 0) κs.0 Q, tt))
-      (λ κs a are Post. runs_one 𝓛 𝓣.C 𝓣.Λ 1 name mark Post (seen 0 Q) (vptr a.0.ref_ptr.0 a.0.ref_ptr.1) (tt, tt)) (λ κs. is) (λ κs a. (tt, tt)) (λ κs a. made a.0.now) holds
+      (λ κs a are Post. runs_one 𝓛 𝓣.C 𝓣.Λ 1 name mark Post (seen 0 Q) (vptr a.0.ref_ptr.0 a.0.ref_ptr.1) (tt, tt))
+      (λ κs. is) (λ κs a. (tt, tt)) (λ κs a. made a.0.now) holds
 
-  pub ghost_of_two : (Q P R : RattleType) (c : Clauses 𝓤 (two_to Q P R)) (k : Callee) (name mark : Sym) → Code k (making 2 (seen 0 Q ∷ seen 1 P ∷ []) name mark) → IsMark R
+  pub ghost_of_two : (Q P R : RattleType) (c : Clauses 𝓤 (two_to Q P R)) (k : Callee) (name mark : Sym)
+      → Code k (making 2 (seen 0 Q ∷ seen 1 P ∷ []) name mark) → IsMark R
       → (made : Q.Denot → P.Denot → R.Denot)
-      → ((κs : Lfts 2) (a : Args (two_to Q P R).signature κs) (g : (c κs a).ghost) → ent 𝓤 (emp 𝓤) ((c κs a).ensures g (made a.0.now a.1.0.now) (a.0, (a.1.0, tt))))
+      → ((κs : Lfts 2) (a : Args (two_to Q P R).signature κs) (g : (c κs a).ghost)
+      → ent 𝓤 (emp 𝓤) ((c κs a).ensures g (made a.0.now a.1.0.now) (a.0, (a.1.0, tt))))
       → Meets 𝓛 (two_to Q P R).signature (𝓣.C k) (closing 𝓛 (two_to Q P R) c)
-  ghost_of_two Q P R c k name mark closed is made holds = ghost_of (two_to Q P R) c ((λ κs x f. refl), ((λ κs x f. refl), tt)) k (making 2 (seen 0 Q ∷ seen 1 P ∷ []) name mark) closed
+  ghost_of_two Q P R c k name mark closed is made holds =
+      ghost_of (two_to Q P R) c ((λ κs x f. refl), ((λ κs x f. refl), tt)) k
+      (making 2 (seen 0 Q ∷ seen 1 P ∷ []) name mark) closed
       (λ κs. (shr_vals, (shr_vals, tt))) (λ κs. (shr_Tells (named 0) κs.0 Q, (shr_Tells (named 1) κs.1.0 P, tt)))
-      (λ κs a are Post. runs_two 𝓛 𝓣.C 𝓣.Λ 2 name mark Post (seen 0 Q) (seen 1 P) (vptr a.0.ref_ptr.0 a.0.ref_ptr.1) (vptr a.1.0.ref_ptr.0 a.1.0.ref_ptr.1) (tt, tt) (tt, tt))
+      (λ κs a are Post. runs_two 𝓛 𝓣.C 𝓣.Λ 2 name mark Post (seen 0 Q) (seen 1 P) (vptr a.0.ref_ptr.0 a.0.ref_ptr.1)
+      (vptr a.1.0.ref_ptr.0 a.1.0.ref_ptr.1) (tt, tt) (tt, tt))
       (λ κs. is) (λ κs a. (tt, (tt, tt))) (λ κs a. made a.0.now a.1.0.now) holds
 
-  pub ghost_of_bytes : (Q R : RattleType) (c : Clauses 𝓤 (bytes_to Q R)) (k : Callee) (name mark : Sym) → Code k (making 2 (seen 0 Q ∷ seen_bytes ∷ []) name mark) → IsMark R
+  pub ghost_of_bytes : (Q R : RattleType) (c : Clauses 𝓤 (bytes_to Q R)) (k : Callee) (name mark : Sym)
+      → Code k (making 2 (seen 0 Q ∷ seen_bytes ∷ []) name mark) → IsMark R
       → (made : Q.Denot → List ℕ → R.Denot)
-      → ((κs : Lfts 2) (a : Args (bytes_to Q R).signature κs) (g : (c κs a).ghost) → ent 𝓤 (emp 𝓤) ((c κs a).ensures g (made a.0.now a.1.0.now) (a.0, (a.1.0, tt))))
+      → ((κs : Lfts 2) (a : Args (bytes_to Q R).signature κs) (g : (c κs a).ghost)
+      → ent 𝓤 (emp 𝓤) ((c κs a).ensures g (made a.0.now a.1.0.now) (a.0, (a.1.0, tt))))
       → Meets 𝓛 (bytes_to Q R).signature (𝓣.C k) (closing 𝓛 (bytes_to Q R) c)
-  ghost_of_bytes Q R c k name mark closed is made holds = ghost_of (bytes_to Q R) c ((λ κs x f. refl), ((λ κs x f. refl), tt)) k (making 2 (seen 0 Q ∷ seen_bytes ∷ []) name mark) closed
-      (λ κs. (shr_vals, (shr_slice_vals, tt))) (λ κs. (shr_Tells (named 0) κs.0 Q, (shr_slice_Tells (named 1) κs.1.0 u8, tt)))
-      (λ κs a are Post. runs_two 𝓛 𝓣.C 𝓣.Λ 2 name mark Post (seen 0 Q) seen_bytes (vptr a.0.ref_ptr.0 a.0.ref_ptr.1) (slice_val a.1.0.ref_ptr (length a.1.0.now)) (tt, tt)
+  ghost_of_bytes Q R c k name mark closed is made holds =
+      ghost_of (bytes_to Q R) c ((λ κs x f. refl), ((λ κs x f. refl), tt)) k
+      (making 2 (seen 0 Q ∷ seen_bytes ∷ []) name mark) closed
+      (λ κs. (shr_vals, (shr_slice_vals, tt)))
+      (λ κs. (shr_Tells (named 0) κs.0 Q, (shr_slice_Tells (named 1) κs.1.0 u8, tt)))
+      (λ κs a are Post. runs_two 𝓛 𝓣.C 𝓣.Λ 2 name mark Post (seen 0 Q) seen_bytes (vptr a.0.ref_ptr.0 a.0.ref_ptr.1)
+      (slice_val a.1.0.ref_ptr (length a.1.0.now)) (tt, tt)
       (((shr_slice_Lawful 𝓛 (named 1) κs.1.0 u8).typed a.1.0 _ are.1.0).0))
       (λ κs. is) (λ κs a. (tt, (tt, tt))) (λ κs a. made a.0.now a.1.0.now) holds

@@ -11,45 +11,54 @@ Without b [] = Unit {0}
 Without b (x ∷ xs) = (x ≢ b) × Without b xs
 
 -- a text is split in only one way at the first place of a byte
-pub split_one : (b : ℕ) (p q r s : List ℕ) → Without b p → Without b r → p ++ b ∷ q ≡ r ++ b ∷ s → (p ≡ r) × (q ≡ s)
-split_one b [] q [] s hp hr e = (refl, cc)
-split_one b [] q (y ∷ r) s hp hr e = absurd (hr.0 (cc))
-split_one b (x ∷ p) q [] s hp hr e = absurd (hp.0 (cc))
-split_one b (x ∷ p) q (y ∷ r) s hp hr e =
-    let ih = split_one b p q r s hp.1 hr.1 (cc) in (cc, ih.1)
+pub split_one : (b : ℕ) (p : List ℕ) {q : List ℕ} (r : List ℕ) {s : List ℕ} → Without b p → Without b r
+    → p ++ b ∷ q ≡ r ++ b ∷ s → (p ≡ r) × (q ≡ s)
+split_one b [] [] hp hr e = (refl, cc)
+split_one b [] (y ∷ r) hp hr e = absurd (hr.0 (cc))
+split_one b (x ∷ p) [] hp hr e = absurd (hp.0 (cc))
+split_one b (x ∷ p) {q} (y ∷ r) {s} hp hr e =
+    let ih = split_one b p {q = q} r {s = s} hp.1 hr.1 (cc) in (cc, ih.1)
 
 -- a byte that isn't found in a list differs from each of its bytes
-pub Without-from_missing : (b : ℕ) (xs : List ℕ) → ¬ Contains xs b → Without b xs
-Without-from_missing b [] p = tt
-Without-from_missing b (x ∷ xs) p =
-    (λ e. p (0, omega arith, e), Without-from_missing b xs (λ q. p (suc q.0, omega arith, q.2)))
+pub Without-from_missing : {b : ℕ} (xs : List ℕ) → ¬ Contains xs b → Without b xs
+Without-from_missing [] p = tt
+Without-from_missing (x ∷ xs) p =
+    (λ e. p (0, omega arith, e), Without-from_missing xs (λ q. p (suc q.0, omega arith, q.2)))
 
 -- the byte between two lists is found in them
-pub Contains-between : (b : ℕ) (front after : List ℕ) → Contains (front ++ b ∷ after) b
-Contains-between b front after = Contains-append_right front (b ∷ after) b (0, omega arith, refl)
+pub Contains-between : {b : ℕ} (front after : List ℕ) → Contains (front ++ b ∷ after) b
+Contains-between {b} front after = Contains-append_right front (b ∷ after) b (0, omega arith, refl)
 
 -- ---- rules one after another
 
 module _ (begins : List ℕ → Rule → List ℕ → Type 0) where
   -- one more rule at the end
-  pub all-push : (text : List ℕ) (rules : List Rule) (more : List ℕ) (rule : Rule) (rest : List ℕ) → BeginsWithAll begins text rules more → begins more rule rest → BeginsWithAll begins text (rules ++ rule ∷ []) rest
-  all-push text [] more rule rest p q = (rest, rw p q, refl)
-  all-push text (r ∷ rules) more rule rest p q = (p.0, p.1, all-push p.0 rules more rule rest p.2 q)
+  pub all-push : (text : List ℕ) (rules : List Rule) {more : List ℕ} {rule : Rule} {rest : List ℕ}
+      → BeginsWithAll begins text rules more → begins more rule rest
+      → BeginsWithAll begins text (rules ++ rule ∷ []) rest
+  all-push text [] {rest} p q = (rest, rw p q, refl)
+  all-push text (r ∷ rules) p q = (p.0, p.1, all-push p.0 rules p.2 q)
 
   -- where a rule always takes bytes, there are no more rules than bytes
   pub all-length : ((text : List ℕ) (rule : Rule) (more : List ℕ) → begins text rule more → length more < length text)
-      → (text : List ℕ) (rules : List Rule) (more : List ℕ) → BeginsWithAll begins text rules more → length more + length rules ≤ length text
+      → (text : List ℕ) (rules : List Rule) (more : List ℕ) → BeginsWithAll begins text rules more
+      → length more + length rules ≤ length text
   all-length shorter text [] more p = omega (arith, ap length p)
-  all-length shorter text (r ∷ rules) more p = omega (arith, shorter text r p.0 p.1, all-length shorter p.0 rules more p.2)
+  all-length shorter text (r ∷ rules) more p =
+      omega (arith, shorter text r p.0 p.1, all-length shorter p.0 rules more p.2)
 
-  -- Where a text begins with at most one rule and rest, it has at most one list of rules up to a rest that begins with none.
-  pub all-one_until : ((text : List ℕ) (one other : Rule) (m n : List ℕ) → begins text one m → begins text other n → (one ≡ other) × (m ≡ n))
-      → (text : List ℕ) (one other : List Rule) (m n : List ℕ) → BeginsWithAll begins text one m → BeginsWithAll begins text other n
-      → ((rule : Rule) (rest : List ℕ) → ¬ begins m rule rest) → ((rule : Rule) (rest : List ℕ) → ¬ begins n rule rest) → (one ≡ other) × (m ≡ n)
-  all-one_until once text [] [] m n p q x y = (refl, sym p ∙ q)
-  all-one_until once text [] (s ∷ other) m n p q x y = absurd (x s q.0 (rw p at q.1))
-  all-one_until once text (r ∷ one) [] m n p q x y = absurd (y r p.0 (rw q at p.1))
-  all-one_until once text (r ∷ one) (s ∷ other) m n p q x y =
+  -- Where a text begins with at most one rule and rest, it has at most one list of rules up to a rest that begins with
+  -- none.
+  pub all-one_until : ((text : List ℕ) (one other : Rule) (m n : List ℕ) → begins text one m → begins text other n
+      → (one ≡ other) × (m ≡ n))
+      → (text : List ℕ) (one other : List Rule) {m n : List ℕ} → BeginsWithAll begins text one m
+      → BeginsWithAll begins text other n
+      → ((rule : Rule) (rest : List ℕ) → ¬ begins m rule rest) → ((rule : Rule) (rest : List ℕ) → ¬ begins n rule rest)
+      → (one ≡ other) × (m ≡ n)
+  all-one_until once text [] [] p q x y = (refl, sym p ∙ q)
+  all-one_until once text [] (s ∷ other) p q x y = absurd (x s q.0 (rw p at q.1))
+  all-one_until once text (r ∷ one) [] p q x y = absurd (y r p.0 (rw q at p.1))
+  all-one_until once text (r ∷ one) (s ∷ other) p q x y =
       let same = once text r s p.0 q.0 p.1 q.1 in
-      let ih = all-one_until once p.0 one other m n p.2 (rw (← same.1) at q.2) x y in
+      let ih = all-one_until once p.0 one other p.2 (rw (← same.1) at q.2) x y in
       (cc, ih.1)

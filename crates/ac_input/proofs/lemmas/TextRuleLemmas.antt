@@ -7,11 +7,15 @@ use Rattle.ac_input.proofs.lemmas.RuleOrderLemmas.{Contains-between, Without-fro
 -- ---- one rule
 
 -- a text has at most one first line, as it is written, and one rest
-pub BeginsWithWritten-one : (text one other m n : List ℕ) → BeginsWithWritten text one m → BeginsWithWritten text other n → (one ≡ other) × (m ≡ n)
-BeginsWithWritten-one text one other m n (p, inl e) (q, inl f) = split_one 10 one m other n (Without-from_missing 10 one p) (Without-from_missing 10 other q) (sym e ∙ f)
-BeginsWithWritten-one text one other m n (p, inl e) (q, inr f) = absurd (q (subst (λ (t : List ℕ). Contains t 10) (sym e ∙ f.0) (Contains-between 10 one m)))
-BeginsWithWritten-one text one other m n (p, inr e) (q, inl f) = absurd (p (subst (λ (t : List ℕ). Contains t 10) (sym f ∙ e.0) (Contains-between 10 other n)))
-BeginsWithWritten-one text one other m n (p, inr e) (q, inr f) = (sym e.0 ∙ f.0, e.1 ∙ sym f.1)
+pub BeginsWithWritten-one : {text one other m n : List ℕ} → BeginsWithWritten text one m
+    → BeginsWithWritten text other n → (one ≡ other) × (m ≡ n)
+BeginsWithWritten-one {one} {other} (p, inl e) (q, inl f) =
+    split_one 10 one other (Without-from_missing one p) (Without-from_missing other q) (sym e ∙ f)
+BeginsWithWritten-one {one} {m} (p, inl e) (q, inr f) =
+    absurd (q (subst (λ t. Contains t 10) (sym e ∙ f.0) (Contains-between one m)))
+BeginsWithWritten-one {other} {n} (p, inr e) (q, inl f) =
+    absurd (p (subst (λ t. Contains t 10) (sym f ∙ e.0) (Contains-between other n)))
+BeginsWithWritten-one (p, inr e) (q, inr f) = (sym e.0 ∙ f.0, e.1 ∙ sym f.1)
 
 -- lists that are equal with one byte appended are equal
 before_last : (b : ℕ) (p q : List ℕ) → p ++ b ∷ [] ≡ q ++ b ∷ [] → p ≡ q
@@ -23,78 +27,96 @@ before_last b (x ∷ z ∷ p) [] e = cc
 before_last b (x ∷ p) (y ∷ q) e = let ih = before_last b p q (cc) in cc
 
 -- the written bytes are those of at most one line
-pub IsWrittenAs-one : (written one other : List ℕ) → IsWrittenAs one written → IsWrittenAs other written → one ≡ other
-IsWrittenAs-one written one other (inl e) (inl f) = before_last 13 one other (sym e ∙ f)
-IsWrittenAs-one written one other (inl e) (inr f) = absurd (f.1 one e)
-IsWrittenAs-one written one other (inr e) (inl f) = absurd (e.1 other f)
-IsWrittenAs-one written one other (inr e) (inr f) = sym e.0 ∙ f.0
+pub IsWrittenAs-one : {written one other : List ℕ} → IsWrittenAs one written → IsWrittenAs other written → one ≡ other
+IsWrittenAs-one {one} {other} (inl e) (inl f) = before_last 13 one other (sym e ∙ f)
+IsWrittenAs-one {one} (inl e) (inr f) = absurd (f.1 one e)
+IsWrittenAs-one {other} (inr e) (inl f) = absurd (e.1 other f)
+IsWrittenAs-one (inr e) (inr f) = sym e.0 ∙ f.0
 
 -- rules with the same sides are equal
-pair_one : (one other : Rule) → one.0 ≡ other.0 → one.1 ≡ other.1 → one ≡ other
-pair_one one other p q = ap (λ (x : List ℕ). let r : Rule = (x, one.1) in r) p ∙ ap (λ (x : List ℕ). let r : Rule = (other.0, x) in r) q
+pair_one : {one other : Rule} → one.0 ≡ other.0 → one.1 ≡ other.1 → one ≡ other
+pair_one {one} {other} p q = ap (λ x. let r : Rule = (x, one.1) in r) p ∙ ap (λ x. let r : Rule = (other.0, x) in r) q
 
 -- a line has only one pair of sides
-pub AreSidesOf-one : (line : List ℕ) (one other : Rule) → AreSidesOf line one → AreSidesOf line other → one ≡ other
-AreSidesOf-one line one other (p, inl e) (q, inl f) =
-    let sides = split_one 9 one.0 one.1 other.0 other.1 (Without-from_missing 9 one.0 p) (Without-from_missing 9 other.0 q) (sym e ∙ f) in
-    pair_one one other sides.0 sides.1
-AreSidesOf-one line one other (p, inl e) (q, inr f) = absurd (q (subst (λ (t : List ℕ). Contains t 9) (sym e ∙ f.0) (Contains-between 9 one.0 one.1)))
-AreSidesOf-one line one other (p, inr e) (q, inl f) = absurd (p (subst (λ (t : List ℕ). Contains t 9) (sym f ∙ e.0) (Contains-between 9 other.0 other.1)))
-AreSidesOf-one line one other (p, inr e) (q, inr f) = pair_one one other (sym e.0 ∙ f.0) (e.1 ∙ sym f.1)
+pub AreSidesOf-one : {line : List ℕ} {one other : Rule} → AreSidesOf line one → AreSidesOf line other → one ≡ other
+AreSidesOf-one {one} {other} (p, inl e) (q, inl f) =
+    let sides = split_one 9 one.0 other.0 (Without-from_missing one.0 p) (Without-from_missing other.0 q) (sym e ∙ f) in
+    pair_one sides.0 sides.1
+AreSidesOf-one {one} (p, inl e) (q, inr f) =
+    absurd (q (subst (λ t. Contains t 9) (sym e ∙ f.0) (Contains-between one.0 one.1)))
+AreSidesOf-one {other} (p, inr e) (q, inl f) =
+    absurd (p (subst (λ t. Contains t 9) (sym f ∙ e.0) (Contains-between other.0 other.1)))
+AreSidesOf-one (p, inr e) (q, inr f) = pair_one (sym e.0 ∙ f.0) (e.1 ∙ sym f.1)
 
 -- a text has at most one pair of sides of its first line, and one rest
-first_one : (text : List ℕ) (one other : Rule) (m n written line written' line' : List ℕ) → BeginsWithWritten text written m → IsWrittenAs line written → AreSidesOf line one
+first_one : {text : List ℕ} {one other : Rule} {m n written line written' line' : List ℕ}
+    → BeginsWithWritten text written m → IsWrittenAs line written → AreSidesOf line one
     → BeginsWithWritten text written' n → IsWrittenAs line' written' → AreSidesOf line' other → (one ≡ other) × (m ≡ n)
-first_one text one other m n written line written' line' p q r x y z =
-    let cut = BeginsWithWritten-one text written written' m n p x in
-    let same = IsWrittenAs-one written' line line' (subst (IsWrittenAs line) cut.0 q) y in
-    (AreSidesOf-one line' one other (subst (λ (t : List ℕ). AreSidesOf t one) same r) z, cut.1)
+first_one {one} {line} p q r x y z =
+    let cut = BeginsWithWritten-one p x in
+    let same = IsWrittenAs-one (subst (IsWrittenAs line) cut.0 q) y in
+    (AreSidesOf-one (subst (λ t. AreSidesOf t one) same r) z, cut.1)
 
 -- a text begins with at most one rule and one rest
-pub BeginsWithTextRule-one : (text : List ℕ) (one other : Rule) (m n : List ℕ) → BeginsWithTextRule text one m → BeginsWithTextRule text other n → (one ≡ other) × (m ≡ n)
-BeginsWithTextRule-one text one other m n p q = first_one text one other m n p.0 p.1 q.0 q.1 p.2 p.3 p.4.0 q.2 q.3 q.4.0
+pub BeginsWithTextRule-one : (text : List ℕ) (one other : Rule) (m n : List ℕ) → BeginsWithTextRule text one m
+    → BeginsWithTextRule text other n → (one ≡ other) × (m ≡ n)
+BeginsWithTextRule-one text one other m n p q = first_one p.2 p.3 p.4.0 q.2 q.3 q.4.0
 
 -- a text whose first line has sides that are no rule begins with none
-pub BeginsWithNoTextRule-from_sides : (text written line more : List ℕ) (sides : Rule) → BeginsWithWritten text written more → IsWrittenAs line written → AreSidesOf line sides → ¬ ((sides.0 ≢ []) × ¬ Contains sides.1 9) → BeginsWithNoTextRule text
-BeginsWithNoTextRule-from_sides text written line more sides p q r none rule rest begins =
-    let same = first_one text rule sides rest more begins.0 begins.1 written line begins.2 begins.3 begins.4.0 p q r in
-    none (subst (λ (s : Rule). (s.0 ≢ []) × ¬ Contains s.1 9) same.0 (begins.4.1, begins.4.2))
+pub BeginsWithNoTextRule-from_sides : {text written line more : List ℕ} {sides : Rule}
+    → BeginsWithWritten text written more → IsWrittenAs line written → AreSidesOf line sides
+    → ¬ ((sides.0 ≢ []) × ¬ Contains sides.1 9) → BeginsWithNoTextRule text
+BeginsWithNoTextRule-from_sides p q r none rule rest begins =
+    let same = first_one begins.2 begins.3 begins.4.0 p q r in
+    none (subst (λ s. (s.0 ≢ []) × ¬ Contains s.1 9) same.0 (begins.4.1, begins.4.2))
 
 -- the line of a rule is not empty
-line_filled : (line : List ℕ) (rule : Rule) → (AreSidesOf line rule × (rule.0 ≢ []) × ¬ Contains rule.1 9) → length line ≢ 0
-line_filled line rule ((tab, inl e), some, c) none = omega (arith, simp length-append at (ap length e))
-line_filled line rule ((tab, inr e), some, c) none = some (sym e.0 ∙ nil_from_length line none)
+line_filled : {line : List ℕ} {rule : Rule} → (AreSidesOf line rule × (rule.0 ≢ []) × ¬ Contains rule.1 9)
+    → length line ≢ 0
+line_filled ((tab, inl e), some, c) none = omega (arith, simp length-append at (ap length e))
+line_filled {line} ((tab, inr e), some, c) none = some (sym e.0 ∙ nil_from_length line none)
 
 -- the rest after a rule is shorter than the text
-pub BeginsWithTextRule-length : (text : List ℕ) (rule : Rule) (more : List ℕ) → BeginsWithTextRule text rule more → length more < length text
-BeginsWithTextRule-length text rule more (written, line, (feed, inl e), whole, is) = omega (arith, simp length-append at (ap length e))
-BeginsWithTextRule-length text rule more (written, line, (feed, inr e), inl cr, is) = omega (arith, ap length e.0, ap length e.1, simp length-append at (ap length cr))
-BeginsWithTextRule-length text rule more (written, line, (feed, inr e), inr whole, is) = omega (arith, ap length e.0, ap length e.1, ap length whole.0, line_filled line rule is)
+pub BeginsWithTextRule-length : {text : List ℕ} {rule : Rule} {more : List ℕ} → BeginsWithTextRule text rule more
+    → length more < length text
+BeginsWithTextRule-length (written, line, (feed, inl e), whole, is) = omega (arith, simp length-append at (ap length e))
+BeginsWithTextRule-length (written, line, (feed, inr e), inl cr, is) =
+    omega (arith, ap length e.0, ap length e.1, simp length-append at (ap length cr))
+BeginsWithTextRule-length (written, line, (feed, inr e), inr whole, is) =
+    omega (arith, ap length e.0, ap length e.1, ap length whole.0, line_filled is)
 
 -- the empty text begins with no rule
 pub BeginsWithNoTextRule-nil : BeginsWithNoTextRule []
-BeginsWithNoTextRule-nil rule rest p = let short = BeginsWithTextRule-length [] rule rest p in omega (arith, short)
+BeginsWithNoTextRule-nil rule rest p = let short = BeginsWithTextRule-length p in omega (arith, short)
 
 -- ---- whole files
 
 -- a text is a rule file in at most one way
-pub IsTextRuleFile-one : (text : List ℕ) (one other : List Rule) → IsTextRuleFile text one → IsTextRuleFile text other → one ≡ other
-IsTextRuleFile-one text one other p q = (all-one_until BeginsWithTextRule BeginsWithTextRule-one text one other [] [] p q BeginsWithNoTextRule-nil BeginsWithNoTextRule-nil).0
+pub IsTextRuleFile-one : (text : List ℕ) (one other : List Rule) → IsTextRuleFile text one → IsTextRuleFile text other
+    → one ≡ other
+IsTextRuleFile-one text one other p q =
+    (all-one_until BeginsWithTextRule BeginsWithTextRule-one text one other p q BeginsWithNoTextRule-nil
+    BeginsWithNoTextRule-nil).0
 
 -- a text has at most one first bad line
-pub FirstBadTextLine-one : (text : List ℕ) (one other : ℕ) → FirstBadTextLine text one → FirstBadTextLine text other → one ≡ other
+pub FirstBadTextLine-one : (text : List ℕ) (one other : ℕ) → FirstBadTextLine text one → FirstBadTextLine text other
+    → one ≡ other
 FirstBadTextLine-one text one other p q =
-    let same = all-one_until BeginsWithTextRule BeginsWithTextRule-one text p.0 q.0 p.1 q.1 p.2 q.2 p.5 q.5 in
-    p.3 ∙ ap (λ (rules : List Rule). length rules + 1) same.0 ∙ sym q.3
+    let same = all-one_until BeginsWithTextRule BeginsWithTextRule-one text p.0 q.0 p.2 q.2 p.5 q.5 in
+    p.3 ∙ ap (λ rules. length rules + 1) same.0 ∙ sym q.3
 
 -- a rule file has no bad line
-pub FirstBadTextLine-none : (text : List ℕ) (n : ℕ) (rules : List Rule) → IsTextRuleFile text rules → ¬ FirstBadTextLine text n
+pub FirstBadTextLine-none : (text : List ℕ) (n : ℕ) (rules : List Rule) → IsTextRuleFile text rules
+    → ¬ FirstBadTextLine text n
 FirstBadTextLine-none text n rules p q =
-    let same = all-one_until BeginsWithTextRule BeginsWithTextRule-one text rules q.0 [] q.1 p q.2 BeginsWithNoTextRule-nil q.5 in
+    let same =
+    all-one_until BeginsWithTextRule BeginsWithTextRule-one text rules q.0 p q.2 BeginsWithNoTextRule-nil q.5 in
     q.4 (sym same.1)
 
 -- in a rule file, rules up to a rest that begins with none are all its rules
-pub IsTextRuleFile-from_none : (text : List ℕ) (all rules : List Rule) (more : List ℕ) → IsTextRuleFile text all → BeginsWithAll BeginsWithTextRule text rules more → BeginsWithNoTextRule more → IsTextRuleFile text rules
+pub IsTextRuleFile-from_none : (text : List ℕ) (all rules : List Rule) (more : List ℕ) → IsTextRuleFile text all
+    → BeginsWithAll BeginsWithTextRule text rules more → BeginsWithNoTextRule more → IsTextRuleFile text rules
 IsTextRuleFile-from_none text all rules more p q none =
-    let same = all-one_until BeginsWithTextRule BeginsWithTextRule-one text all rules [] more p q BeginsWithNoTextRule-nil none in
-    subst (λ (rs : List Rule). IsTextRuleFile text rs) same.0 p
+    let same =
+    all-one_until BeginsWithTextRule BeginsWithTextRule-one text all rules p q BeginsWithNoTextRule-nil none in
+    subst (λ rs. IsTextRuleFile text rs) same.0 p

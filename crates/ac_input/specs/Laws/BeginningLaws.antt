@@ -22,7 +22,9 @@ longer s more end = record s { haystack = s.haystack ++ more; end = end }
 
 -- The occurrences of the shorter search are exactly those of the longer one that end within the shorter span.
 abbrev pub BeginningHasWhatEndsInIt : Type 0
-BeginningHasWhatEndsInIt = (s : Search) (more : List ℕ) (end : ℕ) (o : Occurrence) → IsInside s → s.end ≤ end → Occurs s o ↔ (Occurs (longer s more end) o × (o.end ≤ s.end))
+BeginningHasWhatEndsInIt =
+    (s : Search) (more : List ℕ) (end : ℕ) (o : Occurrence) → IsInside s → s.end ≤ end
+    → Occurs s o ↔ (Occurs (longer s more end) o × (o.end ≤ s.end))
 
 -- under standard a pick stays the pick, however the haystack goes on
 abbrev pub PickOfBeginningStays : Type 0
@@ -33,14 +35,16 @@ PickOfBeginningStays =
 -- under standard the walk of a beginning is a beginning of the walk
 abbrev pub WalkOfBeginningBegins : Type 0
 WalkOfBeginningBegins =
-    (s : Search) (more : List ℕ) (end at : ℕ) (last : Option ℕ) (fewer picks : List Occurrence) → IsInside s → s.end ≤ end
+    (s : Search) (more : List ℕ) (end at : ℕ) (last : Option ℕ) (fewer picks : List Occurrence) → IsInside s
+    → s.end ≤ end
     → IsWalk Standard s at last fewer → IsWalk Standard (longer s more end) at last picks → IsBeginning fewer picks
 
 -- under standard the list of the matches of a beginning of the text is a beginning of the list of the text
 abbrev pub ListOfBeginningBegins : Type 0
 ListOfBeginningBegins =
     (m : Dictionary) (text more : List ℕ) (anchored : Bool)
-    → IsBeginning (listed (walk_of Standard (whole m text anchored))) (listed (walk_of Standard (whole m (text ++ more) anchored)))
+    → IsBeginning (listed (walk_of Standard (whole m text anchored)))
+    (listed (walk_of Standard (whole m (text ++ more) anchored)))
 
 -- whatever the kind, the overlapping listing of a beginning is a beginning of the overlapping listing
 abbrev pub ListingOfBeginningBegins : Type 0
@@ -55,16 +59,20 @@ OverlappingListOfBeginningBegins =
     → IsBeginning (listing_of (whole m text anchored)) (listing_of (whole m (text ++ more) anchored))
     × IsBeginning (listed (listing_of (whole m text anchored))) (listed (listing_of (whole m (text ++ more) anchored)))
 
--- Under standard the text before a cut is final: with its matches replaced, it is a beginning of the whole text with its matches
+-- Under standard the text before a cut is final: with its matches replaced, it is a beginning of the whole text with
+-- its matches
 -- replaced. Its list of matches is a beginning of the whole text's list.
 abbrev pub FrontOfCutIsFinal : Type 0
 FrontOfCutIsFinal =
     (m : Dictionary) (text : List ℕ) (cut : ℕ) (replacements : List (List ℕ)) → m.kind ≡ Standard → IsCut m text cut
-    → IsBeginning (replaced_from 0 (take cut text) replacements (walk_of m.kind (whole m (take cut text) false))) (replaced_from 0 text replacements (walk_of m.kind (whole m text false)))
-    × IsBeginning (listed (walk_of m.kind (whole m (take cut text) false))) (listed (walk_of m.kind (whole m text false)))
+    → IsBeginning (replaced_from 0 (take cut text) replacements (walk_of m.kind (whole m (take cut text) false)))
+    (replaced_from 0 text replacements (walk_of m.kind (whole m text false)))
+    × IsBeginning (listed (walk_of m.kind (whole m (take cut text) false)))
+    (listed (walk_of m.kind (whole m text false)))
 
 -- An earliest search takes the standard best whatever the kind, and under standard each search is an earliest one.
 abbrev pub EarliestIsStandard : Type 0
 EarliestIsStandard =
     (kind : MatchKind) (earliest : Bool) (s : Search) (r : Option Occurrence)
-    → (IsBest (asked_kind kind true) s r ↔ IsBest Standard s r) × (IsBest (asked_kind Standard earliest) s r ↔ IsBest Standard s r)
+    → (IsBest (asked_kind kind true) s r ↔ IsBest Standard s r)
+    × (IsBest (asked_kind Standard earliest) s r ↔ IsBest Standard s r)

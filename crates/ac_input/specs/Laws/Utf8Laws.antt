@@ -26,4 +26,6 @@ pub record IsTextSearch (s : Search) : Type 0 where
 
 -- an occurrence of a text in a text begins and ends between characters
 abbrev pub TextOccursBetweenChars : Type 0
-TextOccursBetweenChars = (s : Search) (o : Occurrence) → IsTextSearch s → Occurs s o → IsCharBoundary s.haystack o.start × IsCharBoundary s.haystack o.end
+TextOccursBetweenChars =
+    (s : Search) (o : Occurrence) → IsTextSearch s → Occurs s o
+    → IsCharBoundary s.haystack o.start × IsCharBoundary s.haystack o.end

@@ -1,15 +1,13 @@
 -- Where a pattern opens, its bucket is left. Where no mark is passed, no opening is.
-use Rattle.std.proofs.Common.{◌≡◌, ◌≢◌, ◌⊎◌, ⊎_elim, ℕ, zero, suc, ◌+◌, ◌-◌, ◌/◌, ◌%◌, ◌<◌, ◌≤◌, inl, inr, List, [], ◌∷◌, length, take, drop, get_or, map, IsTrue, refl, sym, ap, subst, ◌∙◌, arith, get_or-take, length-take-le}
+use Rattle.std.proofs.Common.{◌≡◌, ◌≢◌, ⊎_elim, ℕ, zero, suc, ◌+◌, ◌-◌, ◌/◌, ◌%◌, ◌<◌, ◌≤◌, inl, inr, List, [], ◌∷◌, length, take, drop, get_or, map, IsTrue, refl, sym, ap, subst, ◌∙◌, arith, get_or-take, length-take-le}
 use Rattle.std.specs.Int.{bit_at}
-use Rattle.std.specs.Prelude.{◌==◌}
 use Rattle.std.specs.Borrow.{Bor}
-use Rattle.std.proofs.lemmas.Bool.{cases_eq, cases_lt, and_parts, or_cases, eqb-true}
+use Rattle.std.proofs.lemmas.Bool.{cases_eq, cases_lt, and_parts}
 use Rattle.std.proofs.lemmas.List.{get_or-drop, get_or-map}
 use Rattle.std.proofs.lemmas.Option.{get_or_from_slice_get, slice_get_within}
 use Rattle.ac_input.specs.declared.search.MatchKind.{MatchKind}
 use Rattle.ac_input.specs.Dictionary.{Dictionary, dictionary_of, IsPattern}
 use Rattle.ac_input.specs.Opening.{IsOpening}
-use Rattle.ac_input.specs.Laws.LiveLaws.{IsOwnInverse}
 use Rattle.ac_input.specs.Same.{other, same, same_text}
 use Rattle.ac_literal.specs.declared.openings.Openings.{Openings}
 use Rattle.ac_literal.specs.declared.packed.teddy.Probe.{Probe}
@@ -22,109 +20,147 @@ use Rattle.ac_literal.specs.Packed.{bytes_of, AreAsLong}
 use Rattle.ac_literal.specs.Packed.Teddy.{HasBucket, KeepsBuckets, KeepsPatterns, LooksBefore, HasPattern, IsNextMarks, low_at, marked_at}
 use Rattle.ac_literal.proofs.openings.FingerprintLemmas.{same-print}
 use Rattle.ac_literal.proofs.packed.TeddyLemmas.{all-leave, keeps-pattern}
+use Rattle.ac_input.proofs.lemmas.SameLemmas.{same-cases}
 
 -- ---- bytes that are the same
 
 -- texts that are the same have the same byte at each place
-same_text-byte : (pairing xs ys : List ℕ) (k : ℕ) → k < length xs → IsTrue (same_text pairing xs ys) → IsTrue (same pairing (get_or xs k 0) (get_or ys k 0))
+same_text-byte : (pairing xs ys : List ℕ) (k : ℕ) → k < length xs → IsTrue (same_text pairing xs ys)
+    → IsTrue (same pairing (get_or xs k 0) (get_or ys k 0))
 same_text-byte pairing [] ys k within h = absurd (omega (arith, within))
 same_text-byte pairing (x ∷ xs) [] k within h = cc
 same_text-byte pairing (x ∷ xs) (y ∷ ys) zero within h = (and_parts (same pairing x y) (same_text pairing xs ys) h).0
-same_text-byte pairing (x ∷ xs) (y ∷ ys) (suc k) within h = same_text-byte pairing xs ys k (omega (arith, within)) (and_parts (same pairing x y) (same_text pairing xs ys) h).1
-
--- two bytes that are the same are equal, or partners
-same-cases : (pairing : List ℕ) (a b : ℕ) → IsTrue (same pairing a b) → (a ≡ b) ⊎ (other pairing a ≡ b)
-same-cases pairing a b h = ⊎_elim (λ e. inl (eqb-true a b e)) (λ e. inr (eqb-true (other pairing a) b e)) (or_cases (a == b) (other pairing a == b) h)
+same_text-byte pairing (x ∷ xs) (y ∷ ys) (suc k) within h =
+    same_text-byte pairing xs ys k (omega (arith, within)) (and_parts (same pairing x y) (same_text pairing xs ys) h).1
 
 -- ---- what a bucket has
 
 -- a bucket keeps a pattern and its partners
-pub keeps-partners : (pairing : List ℕ) (len : ℕ) (old new : Teddy) (pattern : List ℕ) (bucket : ℕ) → KeepsPatterns old new → HasPartners pairing len old pattern bucket → HasPartners pairing len new pattern bucket
-keeps-partners pairing len old new pattern bucket keeps has = record {
-  own = keeps-pattern old new pattern bucket keeps has.own;
-  paired = keeps-pattern old new (map (other pairing) (take len pattern)) bucket keeps has.paired;
+pub keeps-partners : {pairing : List ℕ} {len : ℕ} {old new : Teddy} {pattern : List ℕ} {bucket : ℕ}
+    → KeepsPatterns old new → HasPartners pairing len old pattern bucket → HasPartners pairing len new pattern bucket
+keeps-partners keeps has = record {
+  own = keeps-pattern keeps has.own;
+  paired = keeps-pattern keeps has.paired;
 }
 
 -- one more pattern is in a bucket, with its partners
-pub opened-more : (pairing : List ℕ) (len : ℕ) (patterns : List (List ℕ)) (count bucket : ℕ) (old new : Teddy) (pattern : List ℕ) → get_or patterns count [] ≡ pattern → HaveOpened pairing len patterns count old → KeepsPatterns old new → HasPartners pairing len new pattern bucket → HaveOpened pairing len patterns (count + 1) new
-opened-more pairing len patterns count bucket old new pattern is so_far keeps own number within = elim (cases_eq number count) [
-  | inl here ↦ (bucket, subst (λ (p : List ℕ). HasPartners pairing len new p bucket) (sym (ap (λ number. get_or patterns number []) here ∙ is)) own)
-  | inr apart ↦
-      let had = so_far number (omega (arith, within, apart)) in
-      (had.0, keeps-partners pairing len old new (get_or patterns number []) had.0 keeps had.1)
-]
+pub opened-more : {pairing : List ℕ} {len : ℕ} (patterns : List (List ℕ)) {count bucket : ℕ} {old new : Teddy}
+    {pattern : List ℕ} → get_or patterns count [] ≡ pattern → HaveOpened pairing len patterns count old
+    → KeepsPatterns old new → HasPartners pairing len new pattern bucket
+    → HaveOpened pairing len patterns (count + 1) new
+opened-more {pairing} {len} patterns {count} {bucket} {new} is so_far keeps own number within =
+    elim (cases_eq number count) [
+      | inl here ↦ (
+        bucket,
+        subst (λ p. HasPartners pairing len new p bucket) (sym (ap (λ number. get_or patterns number []) here ∙ is))
+            own,
+      )
+      | inr apart ↦
+          let had = so_far number (omega (arith, within, apart)) in
+          (had.0, keeps-partners keeps had.1)
+    ]
 
 -- ---- marks
 
 -- the byte that a probe looks at is in the bucket, as the pattern's byte or as its partner
-opened-left : (pairing : List ℕ) (len : ℕ) (p text : List ℕ) (at bucket : ℕ) (probe : Probe) → probe.offset < len → len ≤ length p
-    → HasBucket probe (get_or p probe.offset 0) bucket → HasBucket probe (get_or (map (other pairing) (take len p)) probe.offset 0) bucket
-    → IsTrue (same_text pairing (take len p) (take len (drop at text))) → HasBucket probe (get_or text (at + probe.offset) 0) bucket
+opened-left : (pairing : List ℕ) (len : ℕ) (p text : List ℕ) (at bucket : ℕ) (probe : Probe) → probe.offset < len
+    → len ≤ length p
+    → HasBucket probe (get_or p probe.offset 0) bucket
+    → HasBucket probe (get_or (map (other pairing) (take len p)) probe.offset 0) bucket
+    → IsTrue (same_text pairing (take len p) (take len (drop at text)))
+    → HasBucket probe (get_or text (at + probe.offset) 0) bucket
 opened-left pairing len p text at bucket probe near long own paired h =
     let k = probe.offset in
     let size : length (take len p) ≡ len = length-take-le len p long in
-    let byte : IsTrue (same pairing (get_or (take len p) k 0) (get_or (take len (drop at text)) k 0)) = same_text-byte pairing (take len p) (take len (drop at text)) k (omega (arith, size, near)) h in
+    let byte : IsTrue (same pairing (get_or (take len p) k 0) (get_or (take len (drop at text)) k 0)) =
+    same_text-byte pairing (take len p) (take len (drop at text)) k (omega (arith, size, near)) h in
     let mine : get_or (take len p) k 0 ≡ get_or p k 0 = get_or-take len p k 0 near in
-    let there : get_or (take len (drop at text)) k 0 ≡ get_or text (at + k) 0 = get_or-take len (drop at text) k 0 near ∙ get_or-drop at text k 0 in
-    let partner : get_or (map (other pairing) (take len p)) k 0 ≡ other pairing (get_or (take len p) k 0) = get_or-map (other pairing) (take len p) k 0 0 (omega (arith, size, near)) in
+    let there : get_or (take len (drop at text)) k 0 ≡ get_or text (at + k) 0 = get_or-take len (drop at text) k 0 near
+    ∙ get_or-drop at text k 0 in
+    let partner : get_or (map (other pairing) (take len p)) k 0 ≡ other pairing (get_or (take len p) k 0) =
+    get_or-map (other pairing) (take len p) k 0 0 (omega (arith, size, near)) in
     ⊎_elim
-    (λ (e : get_or (take len p) k 0 ≡ get_or (take len (drop at text)) k 0). subst (λ b. HasBucket probe b bucket) (sym mine ∙ e ∙ there) own)
-    (λ (e : other pairing (get_or (take len p) k 0) ≡ get_or (take len (drop at text)) k 0). subst (λ b. HasBucket probe b bucket) (partner ∙ e ∙ there) paired)
-    (same-cases pairing (get_or (take len p) k 0) (get_or (take len (drop at text)) k 0) byte)
+    (λ (e : get_or (take len p) k 0 ≡ get_or (take len (drop at text)) k 0).
+    subst (λ b. HasBucket probe b bucket) (sym mine ∙ e ∙ there) own)
+    (λ (e : other pairing (get_or (take len p) k 0) ≡ get_or (take len (drop at text)) k 0).
+    subst (λ b. HasBucket probe b bucket) (partner ∙ e ∙ there) paired)
+    (same-cases pairing byte)
 
 -- a place where a pattern opens is marked by the bucket that has the pattern
-had-marked : (pairing : List ℕ) (len : ℕ) (t : Teddy) (p text : List ℕ) (at bucket : ℕ) → LooksBefore len t → len ≤ length p → HasPartners pairing len t p bucket → IsTrue (same_text pairing (take len p) (take len (drop at text))) → marked_at t text at ≢ 0
-had-marked pairing len t p text at bucket near enough has here =
-    let left = λ (probe : Probe) (near : probe.offset < len) (own : HasBucket probe (get_or p probe.offset 0) bucket) (paired : HasBucket probe (get_or (map (other pairing) (take len p)) probe.offset 0) bucket). opened-left pairing len p text at bucket probe near enough own paired here in
+had-marked : {pairing : List ℕ} {len : ℕ} {t : Teddy} {p : List ℕ} (text : List ℕ) (at : ℕ) {bucket : ℕ}
+    → LooksBefore len t → len ≤ length p → HasPartners pairing len t p bucket
+    → IsTrue (same_text pairing (take len p) (take len (drop at text))) → marked_at t text at ≢ 0
+had-marked {pairing} {len} {t} {p} text at {bucket} near enough has here =
+    let left = λ (probe : Probe) (near : probe.offset < len) (own : HasBucket probe (get_or p probe.offset 0) bucket)
+    (paired : HasBucket probe (get_or (map (other pairing) (take len p)) probe.offset 0) bucket).
+    opened-left pairing len p text at bucket probe near enough own paired here in
     let high = λ (probe : Probe). get_or probe.high (get_or text (at + probe.offset) 0 / 16) 0 in
-    all-leave t.is_whole t.is_few (low_at t.first text at) (low_at t.second text at) (low_at t.third text at) (low_at t.fourth text at) (high t.first) (high t.second) (high t.third) (high t.fourth) bucket
-    (left t.first near.first has.own.first has.paired.first) (left t.second near.second has.own.second has.paired.second) (left t.third near.third has.own.third has.paired.third) (left t.fourth near.fourth has.own.fourth has.paired.fourth)
+    all-leave t.is_whole t.is_few (low_at t.first text at) (low_at t.second text at) (low_at t.third text at)
+    (low_at t.fourth text at) (high t.first) (high t.second) (high t.third) (high t.fourth) bucket
+    (left t.first near.first has.own.first has.paired.first)
+    (left t.second near.second has.own.second has.paired.second)
+    (left t.third near.third has.own.third has.paired.third)
+    (left t.fourth near.fourth has.own.fourth has.paired.fourth)
 
 -- each place where a pattern of the dictionary opens is marked
-pub opening-marked : (patterns : List (List ℕ)) (pairing : List ℕ) (kind : MatchKind) (len : ℕ) (t : Teddy) (text : List ℕ) (at : ℕ) → LooksBefore len t → AreAsLong len patterns → HaveOpened pairing len patterns (length patterns) t → IsOpening (dictionary_of patterns pairing kind) len text at → marked_at t text at ≢ 0
-opening-marked patterns pairing kind len t text at near long all h =
+pub opening-marked : (patterns : List (List ℕ)) {pairing : List ℕ} (kind : MatchKind) {len : ℕ} {t : Teddy}
+    (text : List ℕ) (at : ℕ) → LooksBefore len t → AreAsLong len patterns
+    → HaveOpened pairing len patterns (length patterns) t → IsOpening (dictionary_of patterns pairing kind) len text at
+    → marked_at t text at ≢ 0
+opening-marked patterns {pairing} kind {len} text at near long all h =
     let within = slice_get_within patterns h.0 h.1 h.2 in
     let pattern : get_or patterns h.0 [] ≡ h.1 = get_or_from_slice_get patterns h.0 h.1 [] h.2 in
     let has = all h.0 within in
-    had-marked pairing len t (get_or patterns h.0 []) text at has.0 near (long h.0 within) has.1
+    had-marked text at near (long h.0 within) has.1
     (subst (λ xs. IsTrue (same_text pairing (take len xs) (take len (drop at text)))) (sym pattern) h.3)
 
 -- where a pattern opens, the fingerprint of its first bytes is in the set
-pub opening-printed : (patterns : List (List ℕ)) (pairing : List ℕ) (kind : MatchKind) (len : ℕ) (f : Fingerprints) (text : List ℕ) (at : ℕ) → IsOwnInverse pairing → ArePrinted pairing len patterns (length patterns) f → IsOpening (dictionary_of patterns pairing kind) len text at → IsPrinted f (take len (drop at text))
-opening-printed patterns pairing kind len f text at inverse are h =
+pub opening-printed : (patterns : List (List ℕ)) {pairing : List ℕ} (kind : MatchKind) (len : ℕ) (f : Fingerprints)
+    (text : List ℕ) (at : ℕ) → ArePrinted pairing len patterns (length patterns) f
+    → IsOpening (dictionary_of patterns pairing kind) len text at → IsPrinted f (take len (drop at text))
+opening-printed patterns {pairing} kind len f text at are h =
     let within = slice_get_within patterns h.0 h.1 h.2 in
     let pattern : get_or patterns h.0 [] ≡ h.1 = get_or_from_slice_get patterns h.0 h.1 [] h.2 in
-    let same : IsTrue (same_text pairing (take len (get_or patterns h.0 [])) (take len (drop at text))) = subst (λ xs. IsTrue (same_text pairing (take len xs) (take len (drop at text)))) (sym pattern) h.3 in
+    let same : IsTrue (same_text pairing (take len (get_or patterns h.0 [])) (take len (drop at text))) =
+    subst (λ xs. IsTrue (same_text pairing (take len xs) (take len (drop at text)))) (sym pattern) h.3 in
     let print : print_of f.pairing (take len (get_or patterns h.0 [])) ≡ print_of f.pairing (take len (drop at text)) =
-    subst (λ (p : List ℕ). print_of p (take len (get_or patterns h.0 [])) ≡ print_of p (take len (drop at text))) (sym are.0) (same-print pairing (take len (get_or patterns h.0 [])) (take len (drop at text)) inverse same) in
+    subst (λ p. print_of p (take len (get_or patterns h.0 [])) ≡ print_of p (take len (drop at text))) (sym are.0)
+    (same-print pairing (take len (get_or patterns h.0 [])) (take len (drop at text)) same) in
     subst (λ k. bit_at (get_or f.bits (k / 8) 0) (k % 8) ≡ 1) print (are.1 h.0 within)
 
 -- ---- buckets, while patterns come
 
 -- what two steps keep, both together keep
-kept-twice : (a b c : Probe) → KeepsBuckets a b → KeepsBuckets b c → KeepsBuckets a c
-kept-twice a b c first second = record { offset = second.offset ∙ first.offset; has = λ byte bucket h. second.has byte bucket (first.has byte bucket h) }
+kept-twice : {a b c : Probe} → KeepsBuckets a b → KeepsBuckets b c → KeepsBuckets a c
+kept-twice first second =
+    record {
+      offset = second.offset ∙ first.offset;
+      has = λ byte bucket h. second.has byte bucket (first.has byte bucket h);
+    }
 
-pub keeps-twice : (a b c : Teddy) → KeepsPatterns a b → KeepsPatterns b c → KeepsPatterns a c
-keeps-twice a b c one two = record {
-  first = kept-twice a.first b.first c.first one.first two.first;
-  second = kept-twice a.second b.second c.second one.second two.second;
-  third = kept-twice a.third b.third c.third one.third two.third;
-  fourth = kept-twice a.fourth b.fourth c.fourth one.fourth two.fourth;
+pub keeps-twice : {a b c : Teddy} → KeepsPatterns a b → KeepsPatterns b c → KeepsPatterns a c
+keeps-twice one two = record {
+  first = kept-twice one.first two.first;
+  second = kept-twice one.second two.second;
+  third = kept-twice one.third two.third;
+  fourth = kept-twice one.fourth two.fourth;
 }
 
 -- the set has the fingerprints of the patterns so far, and of one more
-pub printed-more : (pairing : List ℕ) (len : ℕ) (patterns : List (List ℕ)) (count : ℕ) (old new : Fingerprints) (pattern : List ℕ) → get_or patterns count [] ≡ pattern → ArePrinted pairing len patterns count old → KeepsPrints old new → IsPrinted new (take len pattern) → ArePrinted pairing len patterns (count + 1) new
-printed-more pairing len patterns count old new pattern is so_far keeps own = (
+pub printed-more : {pairing : List ℕ} (len : ℕ) (patterns : List (List ℕ)) {count : ℕ} {old new : Fingerprints}
+    {pattern : List ℕ} → get_or patterns count [] ≡ pattern → ArePrinted pairing len patterns count old
+    → KeepsPrints old new → IsPrinted new (take len pattern) → ArePrinted pairing len patterns (count + 1) new
+printed-more {pairing} len patterns {count} {new} is so_far keeps own = (
   keeps.pairing ∙ so_far.0,
   λ number within. elim (cases_eq number count) [
-    | inl here ↦ subst (λ (p : List ℕ). IsPrinted new (take len p)) (sym (ap (λ number. get_or patterns number []) here ∙ is)) own
+    | inl here ↦ subst (λ p. IsPrinted new (take len p)) (sym (ap (λ number. get_or patterns number []) here ∙ is)) own
     | inr apart ↦ keeps.has (take len (get_or patterns number [])) (so_far.1 number (omega (arith, within, apart)))
   ],
 )
 
 -- no pattern is shorter than the length that all have
-pub none-shorter : (patterns : List (List ℕ)) (pairing : List ℕ) (kind : MatchKind) (len : ℕ) → AreAsLong len patterns → ((n : ℕ) (p : List ℕ) → IsPattern (dictionary_of patterns pairing kind) n p → len ≤ length p)
+pub none-shorter : (patterns : List (List ℕ)) (pairing : List ℕ) (kind : MatchKind) (len : ℕ) → AreAsLong len patterns
+    → ((n : ℕ) (p : List ℕ) → IsPattern (dictionary_of patterns pairing kind) n p → len ≤ length p)
 none-shorter patterns pairing kind len long n p is =
     let within = slice_get_within patterns n p is in
     let pattern : get_or patterns n [] ≡ p = get_or_from_slice_get patterns n p [] is in
@@ -133,10 +169,13 @@ none-shorter patterns pairing kind len long n p is =
 -- ---- what is passed
 
 -- no pattern opens at places that are passed
-pub passed-none : (openings : Openings) (text : List ℕ) (count : ℕ) → ((place : ℕ) → place < count → ¬ MayOpen openings text place) → (m : Dictionary) → AreOpenings m openings → ((at : ℕ) → at < count → ¬ IsOpening m openings.len text at)
-passed-none openings text count none m are at within opens = none at within (are.marks text at opens)
+pub passed-none : {openings : Openings} {text : List ℕ} {count : ℕ}
+    → ((place : ℕ) → place < count → ¬ MayOpen openings text place) → (m : Dictionary) → AreOpenings m openings
+    → ((at : ℕ) → at < count → ¬ IsOpening m openings.len text at)
+passed-none {text} none m are at within opens = none at within (are.marks text at opens)
 
-module _ (o : Openings) (text : List ℕ) (from to block marks : ℕ) (next : IsNextMarks o.teddy text from to block marks) (before : (place : ℕ) → place < from → ¬ MayOpen o text place) where
+module _ {o : Openings} {text : List ℕ} {from to block marks : ℕ} (next : IsNextMarks o.teddy text from to block marks)
+    (before : (place : ℕ) → place < from → ¬ MayOpen o text place) where
   -- no place before the next block with a mark may open
   pub block-before : (place : ℕ) → place < block → ¬ MayOpen o text place
   block-before place within is = elim (cases_lt place from) [
@@ -145,38 +184,49 @@ module _ (o : Openings) (text : List ℕ) (from to block marks : ℕ) (next : Is
   ]
 
   -- within the block, no place may open before the first mark whose fingerprint is in the set
-  pub block-passed : (count : ℕ) → count ≤ 32 → marks ≢ 0 → ((k : ℕ) → k < count → bit_at marks k ≡ 1 → ¬ IsPrinted o.prints (take o.len (drop (block + k) text))) → (place : ℕ) → place < block + count → ¬ MayOpen o text place
-  block-passed count few some unprinted place within is = elim (cases_lt place block) [
+  pub block-passed : {count : ℕ} → count ≤ 32 → marks ≢ 0
+      → ((k : ℕ) → k < count → bit_at marks k ≡ 1 → ¬ IsPrinted o.prints (take o.len (drop (block + k) text)))
+      → (place : ℕ) → place < block + count → ¬ MayOpen o text place
+  block-passed few some unprinted place within is = elim (cases_lt place block) [
     | inl early ↦ block-before place early is
     | inr late ↦
         let k : ℕ = place - block in
         let here : place ≡ block + k = omega (arith, late) in
         let there : MayOpen o text (block + k) = subst (MayOpen o text) here is in
-        unprinted k (omega (arith, late, within)) (next.set some k (omega (arith, late, within, few)) there.left) there.printed
+        unprinted k (omega (arith, late, within)) (next.set some k (omega (arith, late, within, few)) there.left)
+        there.printed
   ]
 
 -- ---- patterns that are lent
 
 -- the bytes of pattern `number`, as they are lent
-pub pattern-lent : (patterns : List (Bor (List ℕ))) (d : Bor (List ℕ)) (number : ℕ) → number < length patterns → get_or (bytes_of patterns) number [] ≡ (get_or patterns number d).now
+pub pattern-lent : (patterns : List (Bor (List ℕ))) (d : Bor (List ℕ)) (number : ℕ) → number < length patterns
+    → get_or (bytes_of patterns) number [] ≡ (get_or patterns number d).now
 pattern-lent [] d number within = absurd (omega (arith, within))
 pattern-lent (p ∷ ps) d zero within = refl
 pattern-lent (p ∷ ps) d (suc number) within = pattern-lent ps d number (omega (arith, within))
 
 -- a length that no pattern so far, and not the next one, falls below
-pub short-more : (patterns : List (List ℕ)) (count len less : ℕ) → ((number : ℕ) → number < count → len ≤ length (get_or patterns number [])) → less ≤ len → less ≤ length (get_or patterns count []) → (number : ℕ) → number < count + 1 → less ≤ length (get_or patterns number [])
-short-more patterns count len less so_far le own number within = elim (cases_eq number count) [
+pub short-more : (patterns : List (List ℕ)) {count len less : ℕ}
+    → ((number : ℕ) → number < count → len ≤ length (get_or patterns number [])) → less ≤ len
+    → less ≤ length (get_or patterns count []) → (number : ℕ) → number < count + 1
+    → less ≤ length (get_or patterns number [])
+short-more patterns {count} {less} so_far le own number within = elim (cases_eq number count) [
   | inl here ↦ subst (λ k. less ≤ length (get_or patterns k [])) (sym here) own
   | inr apart ↦ let had = so_far number (omega (arith, within, apart)) in omega (arith, had, le)
 ]
 
 -- a probe's bucket for one list is its bucket for another that has an equal byte at the offset
-moved-byte : (probe : Probe) (xs ys : List ℕ) (bucket : ℕ) → get_or xs probe.offset 0 ≡ get_or ys probe.offset 0 → HasBucket probe (get_or xs probe.offset 0) bucket → HasBucket probe (get_or ys probe.offset 0) bucket
+moved-byte : (probe : Probe) (xs ys : List ℕ) (bucket : ℕ) → get_or xs probe.offset 0 ≡ get_or ys probe.offset 0
+    → HasBucket probe (get_or xs probe.offset 0) bucket → HasBucket probe (get_or ys probe.offset 0) bucket
 moved-byte probe xs ys bucket e has = subst (λ b. HasBucket probe b bucket) e has
 
 -- a bucket that has a pattern's partners, byte by byte, has them as one list
-pub partners-had : (pairing : List ℕ) (len : ℕ) (t : Teddy) (pattern bytes : List ℕ) (bucket : ℕ) → LooksBefore len t → len ≤ length pattern → ((k : ℕ) → k < len → get_or bytes k 0 ≡ other pairing (get_or pattern k 0)) → HasPattern t bytes bucket → HasPattern t (map (other pairing) (take len pattern)) bucket
-partners-had pairing len t pattern bytes bucket near long are has = record {
+pub partners-had : (pairing : List ℕ) {len : ℕ} {t : Teddy} (pattern : List ℕ) {bytes : List ℕ} {bucket : ℕ}
+    → LooksBefore len t → len ≤ length pattern
+    → ((k : ℕ) → k < len → get_or bytes k 0 ≡ other pairing (get_or pattern k 0)) → HasPattern t bytes bucket
+    → HasPattern t (map (other pairing) (take len pattern)) bucket
+partners-had pairing {len} {t} pattern {bytes} {bucket} near long are has = record {
   first = moved-byte t.first bytes partners bucket (same_at t.first.offset near.first) has.first;
   second = moved-byte t.second bytes partners bucket (same_at t.second.offset near.second) has.second;
   third = moved-byte t.third bytes partners bucket (same_at t.third.offset near.third) has.third;
@@ -189,11 +239,16 @@ partners-had pairing len t pattern bytes bucket near long are has = record {
     same_at : (k : ℕ) → k < len → get_or bytes k 0 ≡ get_or partners k 0
     same_at k within =
         let size : length (take len pattern) ≡ len = length-take-le len pattern long in
-        are k within ∙ ap (other pairing) (sym (get_or-take len pattern k 0 within)) ∙ sym (get_or-map (other pairing) (take len pattern) k 0 0 (omega (arith, size, within)))
+        are k within ∙ ap (other pairing) (sym (get_or-take len pattern k 0 within))
+        ∙ sym (get_or-map (other pairing) (take len pattern) k 0 0 (omega (arith, size, within)))
 
 -- a bucket has a pattern and its partners, if both were put into it one after the other
-pub has-both : (pairing : List ℕ) (len : ℕ) (once new : Teddy) (named pattern bytes : List ℕ) (bucket : ℕ) → named ≡ pattern → LooksBefore len new → len ≤ length pattern → ((k : ℕ) → k < len → get_or bytes k 0 ≡ other pairing (get_or pattern k 0)) → HasPattern once pattern bucket → KeepsPatterns once new → HasPattern new bytes bucket → HasPartners pairing len new named bucket
-has-both pairing len once new named pattern bytes bucket is near long are own keeps paired = subst (λ (p : List ℕ). HasPartners pairing len new p bucket) (sym is) (record {
-  own = keeps-pattern once new pattern bucket keeps own;
-  paired = partners-had pairing len new pattern bytes bucket near long are paired;
-})
+pub has-both : {pairing : List ℕ} {len : ℕ} {once new : Teddy} {named pattern bytes : List ℕ} {bucket : ℕ}
+    → named ≡ pattern → LooksBefore len new → len ≤ length pattern
+    → ((k : ℕ) → k < len → get_or bytes k 0 ≡ other pairing (get_or pattern k 0)) → HasPattern once pattern bucket
+    → KeepsPatterns once new → HasPattern new bytes bucket → HasPartners pairing len new named bucket
+has-both {pairing} {len} {new} {pattern} {bucket} is near long are own keeps paired =
+    subst (λ p. HasPartners pairing len new p bucket) (sym is) (record {
+      own = keeps-pattern keeps own;
+      paired = partners-had pairing pattern near long are paired;
+    })

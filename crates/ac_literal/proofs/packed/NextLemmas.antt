@@ -10,8 +10,9 @@ use Rattle.ac_literal.specs.Packed.{part_search, AreServed}
 use Rattle.ac_literal.proofs.packed.TextLemmas.{starts-lying}
 
 -- where no pick came before, the best is the next pick
-pub pick-best : (kind : MatchKind) (s : Search) (at : ℕ) (r : Option Occurrence) → IsBest kind (starting_at s at) r → IsPick kind s at None r
-pick-best kind s at r h = Here h (λ n. n)
+pub pick-best : {kind : MatchKind} {s : Search} {at : ℕ} {r : Option Occurrence} → IsBest kind (starting_at s at) r
+    → IsPick kind s at None r
+pick-best h = Here h (λ n. n)
 
 module _ (kind : MatchKind) (patterns : List (List ℕ)) (haystack : List ℕ) (served : AreServed patterns) where
   abbrev s : Search
@@ -20,29 +21,31 @@ module _ (kind : MatchKind) (patterns : List (List ℕ)) (haystack : List ℕ) (
   -- no occurrence is empty
   occurs-some : (start : ℕ) (o : Occurrence) → Occurs (starting_at s start) o → o.start < o.end
   occurs-some start o h =
-      let own = starts-lying patterns haystack start (length haystack) o.start o (omega arith) (h, refl) in
+      let own = starts-lying (omega arith) (h, refl) in
       let some = served.full o.pattern own.0 in
-      let long = ap (λ (q : Occurrence). q.end) own.1 in
+      let long = ap (λ q. q.end) own.1 in
       omega arith
 
   -- a pick stays the pick, wherever the last one ended
-  pick-last : (at last : ℕ) (r : Option Occurrence) → IsPick kind s at None r → IsPick kind s at (Some last) r
-  pick-last at last None (Here h n) = Here h (λ m. m)
-  pick-last at last (Some o) (Here h n) = Here h (λ m. let some = occurs-some at o h.0 in omega (arith, m.0, m.1))
-  pick-last at last r (Further b h rep k) = absurd rep
+  pick-last : {at last : ℕ} (r : Option Occurrence) → IsPick kind s at None r → IsPick kind s at (Some last) r
+  pick-last None (Here h n) = Here h (λ m. m)
+  pick-last {at} (Some o) (Here h n) = Here h (λ m. let some = occurs-some at o h.0 in omega (arith, m.0, m.1))
+  pick-last r (Further b h rep k) = absurd rep
 
   -- the walk doesn't depend on where the last pick ended
   pub walk-last : (at last : ℕ) → walk_after kind s at (Some last) ≡ walk_after kind s at None
-  walk-last at last = by (pick_of kind s at None) (pick_of-pick kind s at None (omega arith))
+  walk-last at last = by (pick_of kind s at None) (pick_of-pick (omega arith))
     where
-      by : (r : Option Occurrence) → IsPick kind s at None r → walk_after kind s at (Some last) ≡ walk_after kind s at None
-      by None h = walk_after-none kind s at (Some last) (omega arith) (pick-last at last None h) ∙ sym (walk_after-none kind s at None (omega arith) h)
-      by (Some o) h = walk_after-some kind s at (Some last) o (omega arith) (pick-last at last (Some o) h) ∙ sym (walk_after-some kind s at None o (omega arith) h)
+      by : (r : Option Occurrence) → IsPick kind s at None r
+          → walk_after kind s at (Some last) ≡ walk_after kind s at None
+      by None h = walk_after-none (omega arith) (pick-last None h) ∙ sym (walk_after-none (omega arith) h)
+      by (Some o) h = walk_after-some (omega arith) (pick-last (Some o) h) ∙ sym (walk_after-some (omega arith) h)
 
   -- the walk takes the best from its place, and goes on after it
-  pub walk-some : (at : ℕ) (o : Occurrence) → IsBest kind (starting_at s at) (Some o) → walk_after kind s at None ≡ o ∷ walk_after kind s o.end None
-  walk-some at o h = walk_after-some kind s at None o (omega arith) (pick-best kind s at (Some o) h) ∙ ap (λ (os : List Occurrence). o ∷ os) (walk-last o.end o.end)
+  pub walk-some : {at : ℕ} {o : Occurrence} → IsBest kind (starting_at s at) (Some o)
+      → walk_after kind s at None ≡ o ∷ walk_after kind s o.end None
+  walk-some {o} h = walk_after-some (omega arith) (pick-best h) ∙ ap (λ os. o ∷ os) (walk-last o.end o.end)
 
   -- where there is no best the walk is over
   pub walk-none : (at : ℕ) → IsBest kind (starting_at s at) None → walk_after kind s at None ≡ []
-  walk-none at h = walk_after-none kind s at None (omega arith) (pick-best kind s at None h)
+  walk-none at h = walk_after-none (omega arith) (pick-best h)

@@ -13,13 +13,17 @@ use Rattle.ac_literal.specs.Packed.{search_kind, part_search}
 use Rattle.ac_literal.specs.Packed.RabinKarp.{hash_of, bucket_of, lying, entry_at, IsLink, AreEntries, IsTable, IsSameTable}
 use Rattle.ac_literal.proofs.packed.TextLemmas.{lies-bytes, starts-lying}
 
--- The search of a bucket at a place. The link is still to be followed, and no entry after it has a pattern that lies at the place.
-pub record IsOpen (patterns : List (List ℕ)) (haystack : List ℕ) (start end at : ℕ) (entries : List Entry) (bucket link : ℕ) : Type 0 where
+-- The search of a bucket at a place. The link is still to be followed, and no entry after it has a pattern that lies at
+-- the place.
+pub record IsOpen (patterns : List (List ℕ)) (haystack : List ℕ) (start end at : ℕ) (entries : List Entry)
+    (bucket link : ℕ) : Type 0 where
   pub within : link ≤ length entries
   pub here : 0 < link → bucket_of (entry_at entries (link - 1)).hash ≡ bucket
-  pub none : (i : ℕ) → link ≤ i → i < length entries → Occurs (part_search patterns haystack start end) (lying patterns at (entry_at entries i).pattern) → ⊥
+  pub none : (i : ℕ) → link ≤ i → i < length entries
+      → Occurs (part_search patterns haystack start end) (lying patterns at (entry_at entries i).pattern) → ⊥
 
-module _ (patterns : List (List ℕ)) (haystack : List ℕ) (start end at hash : ℕ) (table : RabinKarp) (is : IsTable patterns table)
+module _ (patterns : List (List ℕ)) (haystack : List ℕ) (start end at hash : ℕ) (table : RabinKarp)
+    (is : IsTable patterns table)
     (is_hash : hash ≡ hash_of (slice_range haystack at (at + table.hash_len))) where
   abbrev entries : List Entry
   entries = table.entries.items
@@ -28,36 +32,43 @@ module _ (patterns : List (List ℕ)) (haystack : List ℕ) (start end at hash :
   Lies number = Occurs (part_search patterns haystack start end) (lying patterns at number)
 
   -- a pattern that lies at the place has the hash of the place
-  hash-lying : (number : ℕ) → number < length patterns → Lies number → hash_of (take table.hash_len (get_or patterns number [])) ≡ hash
-  hash-lying number inside h =
-      let there = lies-bytes patterns haystack start end at number h in
+  hash-lying : {number : ℕ} → number < length patterns → Lies number
+      → hash_of (take table.hash_len (get_or patterns number [])) ≡ hash
+  hash-lying {number} inside h =
+      let there = lies-bytes h in
       let short = is.short number inside in
       let m = table.hash_len in
       let n = length (get_or patterns number []) in
       let counts : at + m - at ≡ m = omega arith in
       let rest : at + n - at ≡ n = omega arith in
       let front : take m (get_or patterns number []) ≡ slice_range haystack at (at + m) =
-      ap (take m) (sym there.1) ∙ ap (λ (k : ℕ). take m (take k (drop at haystack))) rest ∙ take-take m n (drop at haystack) short ∙ ap (λ (k : ℕ). take k (drop at haystack)) (sym counts) in
+      ap (take m) (sym there.1) ∙ ap (λ k. take m (take k (drop at haystack))) rest
+      ∙ take-take m n (drop at haystack) short ∙ ap (λ k. take k (drop at haystack)) (sym counts) in
       ap hash_of front ∙ sym is_hash
 
   -- the entry of a pattern that lies at the place has the hash of the place
-  pub entry-hash : (i : ℕ) → i < length entries → Lies (entry_at entries i).pattern → (entry_at entries i).hash ≡ hash
-  entry-hash i inside h =
+  pub entry-hash : {i : ℕ} → i < length entries → Lies (entry_at entries i).pattern → (entry_at entries i).hash ≡ hash
+  entry-hash {i} inside h =
       let pattern = is.entries.pattern i inside in
       let number = is.ordered.below i (omega (arith, is.count)) in
-      is.entries.hash i inside ∙ hash-lying (get_or is.order i 0) number (subst Lies pattern h)
+      is.entries.hash i inside ∙ hash-lying number (subst Lies pattern h)
 
   -- the search of the bucket of the hash begins at its head
-  pub search-head : IsOpen patterns haystack start end at entries (bucket_of hash) (get_or table.heads (bucket_of hash) 0)
+  pub search-head : IsOpen patterns haystack start end at entries (bucket_of hash)
+      (get_or table.heads (bucket_of hash) 0)
   search-head =
       let head = is.entries.head (bucket_of hash) (omega arith) in
-      record { within = head.within; here = head.here; none = λ i from inside h. head.after i from inside (ap bucket_of (entry-hash i inside h)) }
+      record {
+        within = head.within;
+        here = head.here;
+        none = λ i from inside h. head.after i from inside (ap bucket_of (entry-hash inside h));
+      }
 
   -- where an entry's pattern does not lie there, the search goes on with the entry before it in its bucket
-  pub search-next : (link : ℕ) → IsOpen patterns haystack start end at entries (bucket_of hash) link → 0 < link
+  pub search-next : {link : ℕ} → IsOpen patterns haystack start end at entries (bucket_of hash) link → 0 < link
       → ((entry_at entries (link - 1)).hash ≡ hash → Lies (entry_at entries (link - 1)).pattern → ⊥)
       → IsOpen patterns haystack start end at entries (bucket_of hash) (entry_at entries (link - 1)).next
-  search-next link so_far pos absent =
+  search-next {link} so_far pos absent =
       let inside : link - 1 < length entries = omega (arith, so_far.within) in
       let next = is.entries.next (link - 1) inside in
       let bucket = so_far.here pos in
@@ -65,31 +76,42 @@ module _ (patterns : List (List ℕ)) (haystack : List ℕ) (start end at hash :
         within = omega (arith, next.within);
         here = λ p. next.here p ∙ bucket;
         none = λ i from below h. elim (cases_lt i (link - 1)) [
-          | inl before ↦ next.after i from before (ap bucket_of (entry-hash i below h) ∙ sym bucket)
+          | inl before ↦ next.after i from before (ap bucket_of (entry-hash below h) ∙ sym bucket)
           | inr behind ↦ elim (cases_eq i (link - 1)) [
-            | inl same ↦ let there : Lies (entry_at entries (link - 1)).pattern = subst (λ (k : ℕ). Lies (entry_at entries k).pattern) same h in absent (entry-hash (link - 1) inside there) there
+            | inl same ↦
+                let there : Lies (entry_at entries (link - 1)).pattern =
+                subst (λ k. Lies (entry_at entries k).pattern) same h in
+                absent (entry-hash inside there) there
             | inr other ↦ so_far.none i (omega arith) below h
           ]
         ];
       }
 
   -- the first pattern of the bucket that lies there is the one that the kind prefers
-  pub search-found : (link : ℕ) → end ≤ length haystack → IsOpen patterns haystack start end at entries (bucket_of hash) link → 0 < link → Lies (entry_at entries (link - 1)).pattern
-      → IsLeast (search_kind table.kind) (StartsAt (part_search patterns haystack start end) at) (Some (lying patterns at (entry_at entries (link - 1)).pattern))
-  search-found link fits so_far pos h = (
+  pub search-found : {link : ℕ} → end ≤ length haystack
+      → IsOpen patterns haystack start end at entries (bucket_of hash) link → 0 < link
+      → Lies (entry_at entries (link - 1)).pattern
+      → IsLeast (search_kind table.kind) (StartsAt (part_search patterns haystack start end) at)
+      (Some (lying patterns at (entry_at entries (link - 1)).pattern))
+  search-found {link} fits so_far pos h = (
     (h, refl),
     λ o starts.
-        let own = starts-lying patterns haystack start end at o fits starts in
+        let own = starts-lying fits starts in
         let there = is.ordered.all o.pattern own.0 in
         let i = there.0 in
         let inside : i < length entries = omega (arith, there.1, is.count) in
         let pattern = is.entries.pattern i inside ∙ there.2 in
         let mine = is.entries.pattern (link - 1) (omega (arith, so_far.within)) in
         rw own.1 (elim (cases_lt i (link - 1)) [
-          | inl before ↦ rw (mine, ← there.2) (is.ordered.sorted i (link - 1) before (omega (arith, so_far.within, is.count)) at)
+          | inl before ↦
+              rw (mine, ← there.2) (is.ordered.sorted i (link - 1) before (omega (arith, so_far.within, is.count)) at)
           | inr behind ↦ elim (cases_eq i (link - 1)) [
-            | inl same ↦ rw (ap (λ (k : ℕ). (entry_at entries k).pattern) (sym same) ∙ pattern) (preference-itself (search_kind table.kind) (lying patterns at o.pattern))
-            | inr other ↦ absurd (so_far.none i (omega arith) inside (subst Lies (sym pattern) (subst (Occurs (part_search patterns haystack start end)) own.1 starts.0)))
+            | inl same ↦
+                rw (ap (λ k. (entry_at entries k).pattern) (sym same) ∙ pattern)
+                (preference-itself (search_kind table.kind) (lying patterns at o.pattern))
+            | inr other ↦
+                absurd (so_far.none i (omega arith) inside
+                (subst Lies (sym pattern) (subst (Occurs (part_search patterns haystack start end)) own.1 starts.0)))
           ]
         ]),
   )
@@ -98,24 +120,30 @@ module _ (patterns : List (List ℕ)) (haystack : List ℕ) (start end at hash :
   pub search-none : end ≤ length haystack → IsOpen patterns haystack start end at entries (bucket_of hash) 0
       → IsLeast (search_kind table.kind) (StartsAt (part_search patterns haystack start end) at) None
   search-none fits so_far = λ o starts.
-      let own = starts-lying patterns haystack start end at o fits starts in
+      let own = starts-lying fits starts in
       let there = is.ordered.all o.pattern own.0 in
       let inside : there.0 < length entries = omega (arith, there.1, is.count) in
       let pattern = is.entries.pattern there.0 inside ∙ there.2 in
-      so_far.none there.0 (omega arith) inside (subst Lies (sym pattern) (subst (Occurs (part_search patterns haystack start end)) own.1 starts.0))
+      so_far.none there.0 (omega arith) inside
+      (subst Lies (sym pattern) (subst (Occurs (part_search patterns haystack start end)) own.1 starts.0))
 
 -- what is found is the occurrence that the entry gives
-pub when_found : (P : Option Occurrence → Type 0) (absent : Type 0) (it : Occurrence) {occurs : Type 0} (r : Option Occurrence) → is_some r ≡ true → MatchOption r absent (λ found. (found ≡ it) × occurs) → (occurs → P (Some it)) → P r
-when_found P absent it None some m h = absurd (false≢true some)
-when_found P absent it (Some o) some m h = subst (λ q. P (Some q)) (sym m.0) (h m.1)
+pub when_found : (P : Option Occurrence → Type 0) (absent : Type 0) {it : Occurrence} {occurs : Type 0}
+    (r : Option Occurrence) → is_some r ≡ true → MatchOption r absent (λ found. (found ≡ it) × occurs)
+    → (occurs → P (Some it)) → P r
+when_found P absent None some m h = absurd (false≢true some)
+when_found P absent (Some o) some m h = subst (λ q. P (Some q)) (sym m.0) (h m.1)
 
 -- where nothing is found, the pattern doesn't lie there
-pub when_absent : (absent : Type 0) (found : Occurrence → Type 0) (r : Option Occurrence) → is_some r ≡ false → MatchOption r absent found → absent
-when_absent absent found None none m = m
-when_absent absent found (Some o) none m = absurd (false≢true (sym none))
+pub when_absent : {absent : Type 0} (found : Occurrence → Type 0) (r : Option Occurrence) → is_some r ≡ false
+    → MatchOption r absent found → absent
+when_absent found None none m = m
+when_absent found (Some o) none m = absurd (false≢true (sym none))
 
-module _ (patterns : List (List ℕ)) (hash_len : ℕ) (order heads : List ℕ) (entries : List Entry) (is : AreEntries patterns hash_len order heads entries) (long : length heads ≡ 1024)
-    (hash number : ℕ) (is_number : number ≡ get_or order (length entries) 0) (is_hash : hash ≡ hash_of (take hash_len (get_or patterns number []))) where
+module _ (patterns : List (List ℕ)) (hash_len : ℕ) (order heads : List ℕ) (entries : List Entry)
+    (is : AreEntries patterns hash_len order heads entries) (long : length heads ≡ 1024)
+    (hash number : ℕ) (is_number : number ≡ get_or order (length entries) 0)
+    (is_hash : hash ≡ hash_of (take hash_len (get_or patterns number []))) where
   -- one more entry, the new head of its bucket
   abbrev last : Entry
   last = record { hash = hash; pattern = number; next = get_or heads (bucket_of hash) 0 }
@@ -133,16 +161,18 @@ module _ (patterns : List (List ℕ)) (hash_len : ℕ) (order heads : List ℕ) 
   last-at i e = ap (entry_at more) e ∙ get_or-append_seam entries last [] (record { hash = 0; pattern = 0; next = 0 })
 
   -- a link among the old entries stays
-  link-keeps : (bucket limit link : ℕ) → limit ≤ length entries → IsLink entries bucket limit link → IsLink more bucket limit link
-  link-keeps bucket limit link fits l = record {
+  link-keeps : {bucket limit link : ℕ} → limit ≤ length entries → IsLink entries bucket limit link
+      → IsLink more bucket limit link
+  link-keeps {link} fits l = record {
     within = l.within;
     here = λ pos. rw (old-at (link - 1) (omega (arith, l.within))) (l.here pos);
     after = λ i from below. rw (old-at i (omega arith)) (l.after i from below);
   }
 
   -- the head of any other bucket is still its last entry
-  link-passes : (bucket link : ℕ) → bucket ≢ bucket_of hash → IsLink entries bucket (length entries) link → IsLink more bucket (length entries + 1) link
-  link-passes bucket link other l = record {
+  link-passes : {bucket link : ℕ} → bucket ≢ bucket_of hash → IsLink entries bucket (length entries) link
+      → IsLink more bucket (length entries + 1) link
+  link-passes {link} other l = record {
     within = omega (arith, l.within);
     here = λ pos. rw (old-at (link - 1) (omega (arith, l.within))) (l.here pos);
     after = λ i from below. elim (cases_lt i (length entries)) [
@@ -154,13 +184,16 @@ module _ (patterns : List (List ℕ)) (hash_len : ℕ) (order heads : List ℕ) 
   head-more : (bucket : ℕ) → bucket < 1024 → IsLink more bucket (length entries + 1) (get_or more_heads bucket 0)
   head-more bucket h = elim (cases_eq bucket (bucket_of hash)) [
     | inl same ↦
-        let e : get_or more_heads bucket 0 ≡ length entries + 1 = ap (λ (b : ℕ). get_or more_heads b 0) same ∙ get_or-set_same heads (bucket_of hash) (length entries + 1) 0 (omega arith) in
+        let e : get_or more_heads bucket 0 ≡ length entries + 1 = ap (λ b. get_or more_heads b 0) same
+        ∙ get_or-set_same heads (bucket_of hash) (length entries + 1) 0 (omega arith) in
         rw e (record {
           within = omega arith;
           here = λ pos. rw (last-at (length entries + 1 - 1) (omega arith)) (sym same);
           after = λ i from below. absurd (omega arith);
         })
-    | inr other ↦ rw (get_or-set_other heads (bucket_of hash) bucket (length entries + 1) 0 other) (link-passes bucket (get_or heads bucket 0) other (is.head bucket h))
+    | inr other ↦
+        rw (get_or-set_other heads (bucket_of hash) bucket (length entries + 1) 0 other)
+        (link-passes other (is.head bucket h))
   ]
 
   pub AreEntries-push : AreEntries patterns hash_len order more_heads more
@@ -169,22 +202,28 @@ module _ (patterns : List (List ℕ)) (hash_len : ℕ) (order heads : List ℕ) 
       record {
         pattern = λ i h. elim (cases_lt i (length entries)) [
           | inl old ↦ rw (old-at i old) (is.pattern i old)
-          | inr new ↦ let e : i ≡ length entries = omega arith in rw (last-at i e) (is_number ∙ ap (λ (k : ℕ). get_or order k 0) (sym e))
+          | inr new ↦ let e : i ≡ length entries = omega arith in
+              rw (last-at i e) (is_number ∙ ap (λ k. get_or order k 0) (sym e))
         ];
         hash = λ i h. elim (cases_lt i (length entries)) [
           | inl old ↦ rw (old-at i old) (is.hash i old)
-          | inr new ↦ let e : i ≡ length entries = omega arith in rw (last-at i e) (is_hash ∙ ap (λ (n : ℕ). hash_of (take hash_len (get_or patterns n []))) (is_number ∙ ap (λ (k : ℕ). get_or order k 0) (sym e)))
+          | inr new ↦ let e : i ≡ length entries = omega arith in
+              rw (last-at i e)
+              (is_hash ∙ ap (λ n. hash_of (take hash_len (get_or patterns n [])))
+              (is_number ∙ ap (λ k. get_or order k 0) (sym e)))
         ];
         next = λ i h. elim (cases_lt i (length entries)) [
-          | inl old ↦ rw (old-at i old) (link-keeps (bucket_of (entry_at entries i).hash) i (entry_at entries i).next (omega arith) (is.next i old))
-          | inr new ↦ let e : i ≡ length entries = omega arith in rw (last-at i e) (rw e (link-keeps (bucket_of hash) (length entries) (get_or heads (bucket_of hash) 0) (omega arith) (is.head (bucket_of hash) (omega arith))))
+          | inl old ↦ rw (old-at i old) (link-keeps (omega arith) (is.next i old))
+          | inr new ↦ let e : i ≡ length entries = omega arith in
+              rw (last-at i e) (rw e (link-keeps (omega arith) (is.head (bucket_of hash) (omega arith))))
         ];
         head = λ bucket h. rw count (head-more bucket h);
       }
 
 -- a copy of a table is a table of the same patterns
-pub IsTable-same : (patterns : List (List ℕ)) (table copy : RabinKarp) → IsSameTable table copy → IsTable patterns table → IsTable patterns copy
-IsTable-same patterns table copy same is = record {
+pub IsTable-same : {patterns : List (List ℕ)} {table copy : RabinKarp} → IsSameTable table copy → IsTable patterns table
+    → IsTable patterns copy
+IsTable-same same is = record {
   some = rw same.hash_len is.some;
   short = λ number h. rw same.hash_len (is.short number h);
   power = rw (same.hash_2pow, same.hash_len) is.power;
@@ -195,10 +234,16 @@ IsTable-same patterns table copy same is = record {
 }
 
 -- the table with no entry yet
-pub AreEntries-none : (patterns : List (List ℕ)) (hash_len : ℕ) (order : List ℕ) → AreEntries patterns hash_len order (replicate 1024 0) []
-AreEntries-none patterns hash_len order = record {
+pub AreEntries-none : {patterns : List (List ℕ)} {hash_len : ℕ} {order : List ℕ}
+    → AreEntries patterns hash_len order (replicate 1024 0) []
+AreEntries-none = record {
   pattern = λ i h. absurd (omega arith);
   hash = λ i h. absurd (omega arith);
   next = λ i h. absurd (omega arith);
-  head = λ bucket h. rw (get_or-replicate {A = ℕ} 1024 bucket 0 0 h) (record { within = omega arith; here = λ pos. absurd (omega arith); after = λ i from below. absurd (omega arith) });
+  head = λ bucket h. rw (get_or-replicate {A = ℕ} 1024 bucket 0 0 h)
+      (record {
+        within = omega arith;
+        here = λ pos. absurd (omega arith);
+        after = λ i from below. absurd (omega arith);
+      });
 }

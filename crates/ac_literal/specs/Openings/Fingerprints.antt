@@ -6,7 +6,9 @@ use Rattle.ac_literal.specs.declared.openings.fingerprints.Fingerprints.{Fingerp
 
 -- the fingerprint of some bytes: of the first two and the last two
 abbrev pub print : List ℕ → ℕ
-print bytes = ((((slice_index bytes 0) * 31 + (slice_index bytes 1)) * 961 + ((slice_index bytes (length bytes - 2)) * 31 + (slice_index bytes (length bytes - 1)))) % 8192)
+print bytes =
+    ((((slice_index bytes 0) * 31 + (slice_index bytes 1)) * 961
+    + ((slice_index bytes (length bytes - 2)) * 31 + (slice_index bytes (length bytes - 1)))) % 8192)
 
 -- the fingerprint of some bytes, each taken as its canonical byte
 abbrev pub print_of : List ℕ → List ℕ → ℕ
@@ -23,4 +25,5 @@ pub record KeepsPrints (old new : Fingerprints) : Type 0 where
 
 -- the set has the fingerprint of the first `len` bytes of each of the first `count` patterns
 abbrev pub ArePrinted : List ℕ → ℕ → List (List ℕ) → ℕ → Fingerprints → Type 0
-ArePrinted pairing len patterns count f = (f.pairing ≡ pairing) × ((number : ℕ) → number < count → IsPrinted f (take len (get_or patterns number [])))
+ArePrinted pairing len patterns count f =
+    (f.pairing ≡ pairing) × ((number : ℕ) → number < count → IsPrinted f (take len (get_or patterns number [])))

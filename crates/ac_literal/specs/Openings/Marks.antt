@@ -11,4 +11,5 @@ pub record HasPartners (pairing : List ℕ) (len : ℕ) (t : Teddy) (pattern : L
 
 -- each of the first `count` patterns is in a bucket, with the partners of its first bytes
 abbrev pub HaveOpened : List ℕ → ℕ → List (List ℕ) → ℕ → Teddy → Type 0
-HaveOpened pairing len patterns count t = (number : ℕ) → number < count → (bucket : ℕ) × HasPartners pairing len t (get_or patterns number []) bucket
+HaveOpened pairing len patterns count t =
+    (number : ℕ) → number < count → (bucket : ℕ) × HasPartners pairing len t (get_or patterns number []) bucket

@@ -25,7 +25,8 @@ lying patterns at number = record { pattern = number; start = at; end = at + len
 
 -- wherever patterns a and b lie at one place, the kind doesn't prefer b
 abbrev pub IsNoLater : MatchKind → List (List ℕ) → ℕ → ℕ → Type 0
-IsNoLater kind patterns a b = (at : ℕ) → preference (search_kind kind) (lying patterns at a) (lying patterns at b) ≢ Greater
+IsNoLater kind patterns a b =
+    (at : ℕ) → preference (search_kind kind) (lying patterns at a) (lying patterns at b) ≢ Greater
 
 -- the numbers of all patterns, from the one that the kind prefers least at one place to the one that it prefers most
 pub record IsOrder (kind : MatchKind) (patterns : List (List ℕ)) (count : ℕ) (order : List ℕ) : Type 0 where
@@ -34,7 +35,8 @@ pub record IsOrder (kind : MatchKind) (patterns : List (List ℕ)) (count : ℕ)
   pub all : (number : ℕ) → number < count → (i : ℕ) × (i < count) × (get_or order i 0 ≡ number)
   pub sorted : (i j : ℕ) → i < j → j < count → IsNoLater kind patterns (get_or order j 0) (get_or order i 0)
 
--- where a number belongs in an order: the kind prefers no pattern before the place to it, and prefers it to none from the place on
+-- where a number belongs in an order: the kind prefers no pattern before the place to it, and prefers it to none from
+-- the place on
 pub record IsPlace (kind : MatchKind) (patterns : List (List ℕ)) (order : List ℕ) (number place : ℕ) : Type 0 where
   pub within : place ≤ length order
   pub before : (i : ℕ) → i < place → IsNoLater kind patterns number (get_or order i 0)
@@ -54,12 +56,16 @@ pub record IsLink (entries : List Entry) (bucket limit link : ℕ) : Type 0 wher
   pub here : 0 < link → bucket_of (entry_at entries (link - 1)).hash ≡ bucket
   pub after : (i : ℕ) → link ≤ i → i < limit → bucket_of (entry_at entries i).hash ≢ bucket
 
--- The entries made so far, in the order. Each has its pattern's number and hash, and a link to the entry before it in its bucket. A
+-- The entries made so far, in the order. Each has its pattern's number and hash, and a link to the entry before it in
+-- its bucket. A
 -- bucket's head is its last entry.
-pub record AreEntries (patterns : List (List ℕ)) (hash_len : ℕ) (order : List ℕ) (heads : List ℕ) (entries : List Entry) : Type 0 where
+pub record AreEntries (patterns : List (List ℕ)) (hash_len : ℕ) (order : List ℕ) (heads : List ℕ)
+    (entries : List Entry) : Type 0 where
   pub pattern : (i : ℕ) → i < length entries → (entry_at entries i).pattern ≡ get_or order i 0
-  pub hash : (i : ℕ) → i < length entries → (entry_at entries i).hash ≡ hash_of (take hash_len (get_or patterns (get_or order i 0) []))
-  pub next : (i : ℕ) → i < length entries → IsLink entries (bucket_of (entry_at entries i).hash) i (entry_at entries i).next
+  pub hash : (i : ℕ) → i < length entries
+      → (entry_at entries i).hash ≡ hash_of (take hash_len (get_or patterns (get_or order i 0) []))
+  pub next : (i : ℕ) → i < length entries
+      → IsLink entries (bucket_of (entry_at entries i).hash) i (entry_at entries i).next
   pub head : (bucket : ℕ) → bucket < 1024 → IsLink entries bucket (length entries) (get_or heads bucket 0)
 
 -- the table of some patterns, for its kind
@@ -83,11 +89,13 @@ IsFoundBefore kind s to (Some best) = IsBest kind s (Some best)
 
 -- the occurrence that the kind prefers among those that start at one place of a span
 abbrev pub IsMatchAt : MatchKind → List (List ℕ) → List ℕ → Span → ℕ → Option Occurrence → Type 0
-IsMatchAt kind patterns haystack span at found = IsLeast (search_kind kind) (StartsAt (in_span patterns haystack span) at) found
+IsMatchAt kind patterns haystack span at found =
+    IsLeast (search_kind kind) (StartsAt (in_span patterns haystack span) at) found
 
 -- the result is the kind's match in a span; where there is none, no occurrence starts before the place `to`
 abbrev pub IsMatchBefore : MatchKind → List (List ℕ) → List ℕ → Span → ℕ → Option Occurrence → Type 0
-IsMatchBefore kind patterns haystack span to found = IsFoundBefore (search_kind kind) (in_span patterns haystack span) to found
+IsMatchBefore kind patterns haystack span to found =
+    IsFoundBefore (search_kind kind) (in_span patterns haystack span) to found
 
 -- a table of these patterns and this kind, which hashes at most 16 bytes
 pub record IsTableOf (asked : MatchKind) (patterns : List (List ℕ)) (made : RabinKarp) : Type 0 where

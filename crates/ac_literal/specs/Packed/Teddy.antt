@@ -33,7 +33,8 @@ low_at probe haystack place = slice_index probe.low (slice_index haystack (place
 
 -- the buckets that the first three probes leave by low halves
 abbrev pub three_at : Teddy → List ℕ → ℕ → ℕ
-three_at t haystack place = bit_and (bit_and (low_at t.first haystack place) (low_at t.second haystack place)) (low_at t.third haystack place)
+three_at t haystack place =
+    bit_and (bit_and (low_at t.first haystack place) (low_at t.second haystack place)) (low_at t.third haystack place)
 
 -- the buckets that the first two probes leave by whole bytes
 abbrev pub two_at : Teddy → List ℕ → ℕ → ℕ
@@ -41,7 +42,8 @@ two_at t haystack place = bit_and (left_at t.first haystack place) (left_at t.se
 
 -- the buckets that all four probes leave by whole bytes
 abbrev pub four_at : Teddy → List ℕ → ℕ → ℕ
-four_at t haystack place = bit_and (bit_and (two_at t haystack place) (left_at t.third haystack place)) (left_at t.fourth haystack place)
+four_at t haystack place =
+    bit_and (bit_and (two_at t haystack place) (left_at t.third haystack place)) (left_at t.fourth haystack place)
 
 -- the buckets that all four probes leave by low halves
 abbrev pub four_low_at : Teddy → List ℕ → ℕ → ℕ
@@ -79,7 +81,8 @@ pub record IsTeddy (patterns : List (List ℕ)) (len : ℕ) (t : Teddy) : Type 0
   pub near : LooksBefore len t
   pub all : (number : ℕ) → number < (length patterns) → (bucket : ℕ) × HasPattern t (get_or patterns number []) bucket
 
--- The next block of 32 places before the place `to` that has a mark, and its marks. Where no block has one, the marks are 0, and no
+-- The next block of 32 places before the place `to` that has a mark, and its marks. Where no block has one, the marks
+-- are 0, and no
 -- place before `block` is marked.
 pub record IsNextMarks (t : Teddy) (haystack : List ℕ) (from to block marks : ℕ) : Type 0 where
   pub after : from ≤ block

@@ -27,7 +27,8 @@ IsMemmemSoFar patterns memmem_builders.Several = 2 ≤ length patterns
 -- the builder of packed search has all patterns; there is no builder under standard, or where a byte is paired
 abbrev pub IsPackedSoFar : Dictionary → Option Building → Type 0
 IsPackedSoFar m None = (m.kind ≢ Standard) → ¬ IsUnpaired m.pairing
-IsPackedSoFar m (Some b) = (search_kind b.kind ≡ m.kind) × IsUnpaired m.pairing × (b ≡ added_all (fresh b.kind) m.patterns)
+IsPackedSoFar m (Some b) =
+    (search_kind b.kind ≡ m.kind) × IsUnpaired m.pairing × (b ≡ added_all (fresh b.kind) m.patterns)
 
 -- what the builders have collected of the dictionary's patterns, none of which is empty
 pub record IsCollected (m : Dictionary) (c : Builders) : Type 0 where
@@ -43,28 +44,40 @@ AddsMemmem old p new = (patterns : List (List ℕ)) → IsMemmemSoFar patterns o
 
 -- the bytes that one more pattern may begin with are added
 abbrev pub AddsStart : List ℕ → FewBytes → List ℕ → FewBytes → Type 0
-AddsStart pairing old p new = (patterns : List (List ℕ)) → AreFew old (is_start pairing patterns) → AreFew new (is_start pairing (patterns ++ p ∷ []))
+AddsStart pairing old p new =
+    (patterns : List (List ℕ)) → AreFew old (is_start pairing patterns)
+    → AreFew new (is_start pairing (patterns ++ p ∷ []))
 
 -- one more pattern is collected
 abbrev pub AddsPattern : List ℕ → Builders → List ℕ → Builders → Type 0
-AddsPattern pairing old p new = (m : Dictionary) → m.pairing ≡ pairing → IsCollected m old → IsCollected (with_pattern m p) new
+AddsPattern pairing old p new =
+    (m : Dictionary) → m.pairing ≡ pairing → IsCollected m old → IsCollected (with_pattern m p) new
 
--- from what is collected, a strategy is built that is right for the dictionary; none only where `asked` doesn't hold of it
+-- from what is collected, a strategy is built that is right for the dictionary; none only where `asked` doesn't hold of
+-- it
 abbrev pub BuildsWhere : (Dictionary → Type 0) → List ℕ → Builders → Option Strategy → Type 0
-BuildsWhere asked pairing c made = (m : Dictionary) → m.pairing ≡ pairing → IsCollected m c → MatchOption made (¬ asked m) (IsStrategyOf m)
+BuildsWhere asked pairing c made =
+    (m : Dictionary) → m.pairing ≡ pairing → IsCollected m c → MatchOption made (¬ asked m) (IsStrategyOf m)
 
--- packed search is built from what is collected, where the search for one pattern doesn't serve; nothing only where packed search
+-- packed search is built from what is collected, where the search for one pattern doesn't serve; nothing only where
+-- packed search
 -- doesn't either
 abbrev pub BuildsPacked : Builders → Option Strategy → Type 0
-BuildsPacked c made = (m : Dictionary) → ¬ MemmemServes m → IsCollected m c → MatchOption made (¬ (AreFull m.patterns × PackedServes m)) (IsStrategyOf m)
+BuildsPacked c made =
+    (m : Dictionary) → ¬ MemmemServes m → IsCollected m c
+    → MatchOption made (¬ (AreFull m.patterns × PackedServes m)) (IsStrategyOf m)
 
 -- the needles are the bytes that patterns may begin with; there are none only where start bytes don't serve
 abbrev pub BuildsStartBytes : Builders → Option Needles → Type 0
-BuildsStartBytes c made = (m : Dictionary) → IsCollected m c → MatchOption made (¬ (AreFull m.patterns × ((bytes : List ℕ) × AreStartBytes m bytes))) (AreStarts m)
+BuildsStartBytes c made =
+    (m : Dictionary) → IsCollected m c
+    → MatchOption made (¬ (AreFull m.patterns × ((bytes : List ℕ) × AreStartBytes m bytes))) (AreStarts m)
 
 -- one of two scans is taken, each of them right for the dictionary; none only where there are no start bytes
 abbrev pub TakesOne : Option Needles → Option RareBytes → Option Strategy → Type 0
-TakesOne starts rare taken = (m : Dictionary) → IfSome starts (AreStarts m) → IfSome rare (AreRareOf m) → MatchOption taken (starts ≡ None) (IsStrategyOf m)
+TakesOne starts rare taken =
+    (m : Dictionary) → IfSome starts (AreStarts m) → IfSome rare (AreRareOf m)
+    → MatchOption taken (starts ≡ None) (IsStrategyOf m)
 
 -- an empty pattern came, or all patterns were collected
 abbrev pub IsBuilder : Dictionary → Bool → Builders → Type 0

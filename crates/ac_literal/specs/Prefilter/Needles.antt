@@ -64,7 +64,9 @@ pub record HasFour (f : ℕ → Bool) : Type 0 where
 
 -- the needles of a test and one more byte; none where there would be four
 abbrev pub AddsNeedle : Needles → ℕ → Option Needles → Type 0
-AddsNeedle before added after = (f : ℕ → Bool) → AreNeedles before f → MatchOption after (HasFour (with_byte f added)) (λ needles. AreNeedles needles (with_byte f added))
+AddsNeedle before added after =
+    (f : ℕ → Bool) → AreNeedles before f
+    → MatchOption after (HasFour (with_byte f added)) (λ needles. AreNeedles needles (with_byte f added))
 
 -- the bytes that pass the test, where they are few
 abbrev pub AreFew : FewBytes → (ℕ → Bool) → Type 0

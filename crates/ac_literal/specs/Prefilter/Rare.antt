@@ -22,13 +22,15 @@ pub record HoldsFew (pairing : List ℕ) (these : FewBytes) (p : List ℕ) : Typ
 abbrev pub IsClosed : List ℕ → FewBytes → Type 0
 IsClosed pairing these = (byte : ℕ) → IsTrue (few_has these byte) → IsTrue (few_has these (other pairing byte))
 
--- The bytes chosen before are kept, and a byte of the pattern is among them, with its partner. Only bytes of the pattern and their
+-- The bytes chosen before are kept, and a byte of the pattern is among them, with its partner. Only bytes of the
+-- pattern and their
 -- partners were added.
 pub record IsChosen (pairing : List ℕ) (before : FewBytes) (p : List ℕ) (after : FewBytes) : Type 0 where
   pub kept : (byte : ℕ) → IsTrue (few_has before byte) → IsTrue (few_has after byte)
   pub held : HoldsFew pairing after p
   pub closed : IsClosed pairing after
-  pub only : (byte : ℕ) → IsTrue (few_surely_has after byte) → IsTrue (few_surely_has before byte) ⊎ ((inner : ℕ) × Contains p inner × IsTrue (same pairing inner byte))
+  pub only : (byte : ℕ) → IsTrue (few_surely_has after byte)
+      → IsTrue (few_surely_has before byte) ⊎ ((inner : ℕ) × Contains p inner × IsTrue (same pairing inner byte))
 
 -- the distances grew to cover a pattern that isn't too long, and none grew past the greatest
 pub record AreReached (pairing : List ℕ) (before p after : List ℕ) : Type 0 where
@@ -47,4 +49,5 @@ pub record IsRareSoFar (pairing : List ℕ) (patterns : List (List ℕ)) (rare :
 
 -- what is known about the rare bytes of some patterns stays true with one more pattern
 abbrev pub AddsRare : List ℕ → RareBytesBuilder → List ℕ → RareBytesBuilder → Type 0
-AddsRare pairing old p new = (patterns : List (List ℕ)) → IsRareSoFar pairing patterns old → IsRareSoFar pairing (patterns ++ p ∷ []) new
+AddsRare pairing old p new =
+    (patterns : List (List ℕ)) → IsRareSoFar pairing patterns old → IsRareSoFar pairing (patterns ++ p ∷ []) new

@@ -48,11 +48,13 @@ rare_len_limit = 256
 
 -- each byte of the pattern stands no further after the beginning than its distance and its partner's distance
 abbrev pub AreDistances : List ℕ → List ℕ → List ℕ → Type 0
-AreDistances pairing distances p = (at byte : ℕ) → at < length p → IsTrue (same pairing (slice_index p at) byte) → at ≤ slice_index distances byte
+AreDistances pairing distances p =
+    (at byte : ℕ) → at < length p → IsTrue (same pairing (slice_index p at) byte) → at ≤ slice_index distances byte
 
 -- a byte that is the same as this one stands in some pattern
 abbrev pub StandsInSome : List ℕ → List (List ℕ) → ℕ → Type 0
-StandsInSome pairing patterns byte = (p : List ℕ) × (inner : ℕ) × Contains patterns p × Contains p inner × IsTrue (same pairing inner byte)
+StandsInSome pairing patterns byte =
+    (p : List ℕ) × (inner : ℕ) × Contains patterns p × Contains p inner × IsTrue (same pairing inner byte)
 
 -- Every pattern, none of them too long, holds a needle, and the distances are those of all patterns.
 pub record AreRare (m : Dictionary) (needles : Needles) (distances : List ℕ) : Type 0 where
@@ -88,14 +90,17 @@ pub record IsAnswer (m : Dictionary) (haystack : List ℕ) (span : Span) (c : Ca
   pub none : HasNoByte (search_of m No haystack span) → c ≡ candidates.None
 
 -- a scan for needles has this result, and counts the places that it covered
-pub record IsNeedleScan (m : Dictionary) (needles : Needles) (haystack : List ℕ) (span : Span) (before after : Steps) (c : Candidate) : Type 0 where
+pub record IsNeedleScan (m : Dictionary) (needles : Needles) (haystack : List ℕ) (span : Span) (before after : Steps)
+    (c : Candidate) : Type 0 where
   pub answer : IsAnswer m haystack span c
   pub counted : IsScanCounted (needle_list needles) (search_of m No haystack span) c before after
 
 -- a scan for these start bytes has this result, whatever dictionary they are right for
 abbrev pub ScansStarts : Needles → List ℕ → Span → Steps → Steps → Candidate → Type 0
-ScansStarts needles haystack span before after c = (m : Dictionary) → AreStarts m needles → IsNeedleScan m needles haystack span before after c
+ScansStarts needles haystack span before after c =
+    (m : Dictionary) → AreStarts m needles → IsNeedleScan m needles haystack span before after c
 
 -- a scan for these rare bytes has this result, whatever dictionary they are right for
 abbrev pub ScansRare : RareBytes → List ℕ → Span → Steps → Steps → Candidate → Type 0
-ScansRare rare haystack span before after c = (m : Dictionary) → AreRareOf m rare → IsNeedleScan m rare.needles haystack span before after c
+ScansRare rare haystack span before after c =
+    (m : Dictionary) → AreRareOf m rare → IsNeedleScan m rare.needles haystack span before after c

@@ -4,21 +4,25 @@ use Rattle.std.proofs.lemmas.Bool.{cases_eq}
 use Rattle.ac_noncontiguous.specs.Compiler.Numbering.{AreFirstNumbers}
 
 -- past the last state no numbers are needed
-pub first-none : (at of : List ℕ) (from : ℕ) → length at ≤ from → AreFirstNumbers at from of
-first-none at of from past =
+pub first-none : {at of : List ℕ} {from : ℕ} → length at ≤ from → AreFirstNumbers at from of
+first-none past =
     record {
       back = λ j after within. absurd (omega arith);
       least = λ j after within. absurd (omega arith);
     }
 
 -- the number of one more state's trie state is set
-pub first-more : (at of : List ℕ) (from : ℕ) → from < length at → slice_index at from < length of → AreFirstNumbers at (from + 1) of → AreFirstNumbers at from (slice_set of (slice_index at from) from)
+pub first-more : (at of : List ℕ) (from : ℕ) → from < length at → slice_index at from < length of
+    → AreFirstNumbers at (from + 1) of → AreFirstNumbers at from (slice_set of (slice_index at from) from)
 first-more at of from within room f =
     let i = slice_index at from in
     let new = slice_set of i from in
     let here : slice_index new i ≡ from = get_or-set_same of i from 0 room in
-    let same : (j : ℕ) → slice_index at j ≡ i → slice_index new (slice_index at j) ≡ from = λ j e. ap (slice_index new) e ∙ here in
-    let there : (j : ℕ) → slice_index at j ≢ i → slice_index new (slice_index at j) ≡ slice_index of (slice_index at j) = λ j ne. get_or-set_other of i (slice_index at j) from 0 ne in
+    let same : (j : ℕ) → slice_index at j ≡ i
+    → slice_index new (slice_index at j) ≡ from = λ j e. ap (slice_index new) e ∙ here in
+    let there : (j : ℕ) → slice_index at j ≢ i
+    → slice_index new (slice_index at j) ≡ slice_index of (slice_index at j) =
+    λ j ne. get_or-set_other of i (slice_index at j) from 0 ne in
     record {
       back = λ j after inside.
           ⊎_elim
@@ -35,13 +39,16 @@ first-more at of from within room f =
           (λ (ne : slice_index at j ≢ i).
           ⊎_elim
           (λ (is_from : j ≡ from). absurd (ne (ap (slice_index at) is_from)))
-          (λ (later : j ≢ from). let h = there j ne in let l = f.least j (omega arith) inside in (omega (arith, l.0), omega (arith, l.1)))
+          (λ (later : j ≢ from). let h = there j ne in let l = f.least j (omega arith) inside in
+          (omega (arith, l.0), omega (arith, l.1)))
           (cases_eq j from))
           (cases_eq (slice_index at j) i);
     }
 
 -- a write of a state's number to its trie state sets it
-pub first-set : (at of : List ℕ) (from i number : ℕ) → from < length at → i < length of → i ≡ slice_index at from → number ≡ from → AreFirstNumbers at (from + 1) of → AreFirstNumbers at from (slice_set of i number)
-first-set at of from i number within room read is f =
+pub first-set : {at of : List ℕ} {from i number : ℕ} → from < length at → i < length of → i ≡ slice_index at from
+    → number ≡ from → AreFirstNumbers at (from + 1) of → AreFirstNumbers at from (slice_set of i number)
+first-set {at} {of} {from} {number} within room read is f =
     let h = first-more at of from within (omega arith) f in
-    subst (λ (k : ℕ). AreFirstNumbers at from (slice_set of k number)) (sym read) (subst (λ (n : ℕ). AreFirstNumbers at from (slice_set of (slice_index at from) n)) (sym is) h)
+    subst (λ k. AreFirstNumbers at from (slice_set of k number)) (sym read)
+    (subst (λ n. AreFirstNumbers at from (slice_set of (slice_index at from) n)) (sym is) h)

@@ -24,7 +24,8 @@ pub record Setting (m : Dictionary) (trie : Trie) (numbering : Numbering) (back 
   pub numbered : IsNumbering (length trie.states.items) numbering
   pub runs : AreInRuns trie.states.items numbering.at.items numbering.start
   pub to_start : (back ≡ 0) ⊎ (back ≡ numbering.start)
-  pub leads : (b : ℕ) → (¬ BeginsEntered m (b ∷ [])) → ((back ≡ 0) → LeadsTo m false (b ∷ []) None) × ((back ≡ numbering.start) → LeadsTo m false (b ∷ []) (Some []))
+  pub leads : (b : ℕ) → (¬ BeginsEntered m (b ∷ []))
+      → ((back ≡ 0) → LeadsTo m false (b ∷ []) None) × ((back ≡ numbering.start) → LeadsTo m false (b ∷ []) (Some []))
 
 -- the text for which a state stands
 abbrev pub text_of : Trie → Numbering → ℕ → List ℕ
@@ -37,18 +38,19 @@ state_of-some f (suc zero) past = absurd (omega arith)
 state_of-some f (suc (suc i)) past = refl
 
 -- a byte without a child leads from the unanchored start to `back`, and from every other state nowhere
-missing-is : (start back i : ℕ) → i ≡ start → missing start back i ≡ back
-missing-is start back i here = grind (arith, nat_tests)
+missing-is : {start back i : ℕ} → i ≡ start → missing start back i ≡ back
+missing-is here = grind (arith, nat_tests)
 
-pub missing-not : (start back i : ℕ) → i ≢ start → missing start back i ≡ 1
-missing-not start back i there = grind (arith, nat_tests)
+pub missing-not : {start : ℕ} (back : ℕ) {i : ℕ} → i ≢ start → missing start back i ≡ 1
+missing-not back there = grind (arith, nat_tests)
 
 -- the states stand for the texts that the automaton's states must have
-pub are-texts : (m : Dictionary) (trie : Trie) (numbering : Numbering) (back : ℕ) → Setting m trie numbering back → AreTexts m (length numbering.at.items) numbering.start (text_of trie numbering)
-are-texts m trie numbering back s =
+pub are-texts : {m : Dictionary} {trie : Trie} {numbering : Numbering} {back : ℕ} → Setting m trie numbering back
+    → AreTexts m (length numbering.at.items) numbering.start (text_of trie numbering)
+are-texts {trie} {numbering} s =
     let states = trie.states.items in
     let p = s.numbered.places in
-    let t = stands-of trie m s.stands in
+    let t = stands-of s.stands in
     let empty : (i : ℕ) → i ≡ 0 → text states i ≡ [] = λ i e. ap (text states) e ∙ text-start states trie.tree in
     record {
       starts = (p.starts.0, p.starts.1, empty _ p.starts.2, empty _ p.starts.3);
@@ -56,15 +58,18 @@ are-texts m trie numbering back s =
           let k = slice_index numbering.at.items i in
           ⊎_elim
           (λ (is : k ≡ 0). p.others i past within is)
-          (λ (ne : k ≢ 0). absurd (omega (arith, child-deep states trie.tree k (omega arith) (p.within i within), length-text states k, ap length none)))
+          (λ (ne : k ≢ 0).
+          absurd (omega
+          (arith, child-deep states trie.tree (omega arith) (p.within i within), length-text states k, ap length none)))
           (cases_eq k 0);
       begin = λ i past within.
           let k = slice_index numbering.at.items i in
-          (text-begins m states trie.ends.items t k (p.within i within), text-settled m states trie.ends.items t k (p.within i within));
+          (text-begins t (p.within i within), text-settled t (p.within i within));
       apart = λ i j past lt within same.
-          s.runs.apart i j past lt within (text-one states trie.tree (slice_index numbering.at.items i) (slice_index numbering.at.items j) (p.within i (omega (arith, lt, within))) (p.within j within) same);
+          s.runs.apart i j past lt within
+          (text-one states trie.tree (p.within i (omega (arith, lt, within))) (p.within j within) same);
       all = λ u is_prefix.
-          let h = prefix-state m states trie.ends.items trie.tree s.stands.stands u is_prefix in
+          let h = prefix-state trie.tree s.stands.stands is_prefix in
           let n = s.numbered.numbers.numbers h.0 h.2 in
           (slice_index numbering.of.items h.0, n.0, n.1, ap (text states) n.3 ∙ h.3);
       deeper = λ i j lt within run.
@@ -83,51 +88,62 @@ are-texts m trie numbering back s =
           let deep = length-text states l in
           ⊎_elim
           (λ (less : depth states k < depth states l). absurd (omega (arith, less, shallow, deep, same)))
-          (λ (level : (depth states k ≡ depth states l) × (k < l)). s.stands.by_first k l level.1 (p.within j within) level.0)
+          (λ (level : (depth states k ≡ depth states l) × (k < l)).
+          s.stands.by_first k l level.1 (p.within j within) level.0)
           (s.runs.rising i j lt within run);
     }
 
 -- the edges of the numbering are the edges of the texts
-pub is-edge : (m : Dictionary) (trie : Trie) (numbering : Numbering) (back : ℕ) → Setting m trie numbering back → (i b next : ℕ) → i < length numbering.at.items → IsEdgeTo trie numbering back i b next → IsEdge m (length numbering.at.items) numbering.start (text_of trie numbering) i b next
-is-edge m trie numbering back s i b next within e =
+pub is-edge : {m : Dictionary} {trie : Trie} {numbering : Numbering} {back : ℕ} → Setting m trie numbering back
+    → {i b next : ℕ} → i < length numbering.at.items → IsEdgeTo trie numbering back i b next
+    → IsEdge m (length numbering.at.items) numbering.start (text_of trie numbering) i b next
+is-edge {m} {trie} {numbering} {back} s {i} {b} {next} within e =
     let states = trie.states.items in
-    let ends = trie.ends.items in
     let p = s.numbered.places in
     let k = slice_index numbering.at.items i in
     let k_in = p.within i within in
     let low = canonical m.pairing b in
-    let same_low : low ≡ canonical trie.pairing b = ap (λ (q : List ℕ). canonical q b) s.stands.pairing in
-    let t = stands-of trie m s.stands in
-    let begins : (c : ℕ) → IsChildFor states k (canonical trie.pairing b) c → BeginsEntered m (text states k ++ b ∷ []) =
-    λ c h. child_for-begins m states ends t k b c h.0 h.1 h.2 (h.3 ∙ sym same_low) in
+    let same_low : low ≡ canonical trie.pairing b = ap (λ q. canonical q b) s.stands.pairing in
+    let t = stands-of s.stands in
+    let begins : (c : ℕ) → IsChildFor states k (canonical trie.pairing b) c
+    → BeginsEntered m (text states k ++ b ∷ []) =
+    λ c h. child_for-begins t b h.0 h.1 h.2 (h.3 ∙ sym same_low) in
     let none : 1 < i → (¬ BeginsEntered m (text states k ++ b ∷ [])) → next ≡ missing numbering.start back i =
     λ past nothing. e.none past (λ c some c_in above is_low. nothing (begins c (some, c_in, above, is_low))) in
     record {
       dead = e.dead;
       child = λ past something.
-          let c = begins-child_for m states ends t k b k_in something in
+          let c = begins-child_for t b k_in something in
           let is = e.child past c.0 (c.1, c.2, c.3, c.4 ∙ same_low) in
           let n = s.numbered.numbers.numbers c.0 c.2 in
-          let spelled : text states c.0 ≡ text states k ++ low ∷ [] = text-child states trie.tree c.0 c.1 c.2 ∙ ap₂ (λ (z x : ℕ). text states z ++ x ∷ []) c.3 c.4 in
+          let spelled : text states c.0 ≡ text states k ++ low ∷ [] = text-child states trie.tree c.1 c.2
+          ∙ ap₂ (λ z x. text states z ++ x ∷ []) c.3 c.4 in
           (omega (arith, n.0), omega (arith, n.1), ap (text_of trie numbering) is ∙ (ap (text states) n.3 ∙ spelled));
-      none = λ past other nothing. none past nothing ∙ missing-not numbering.start back i other;
+      none = λ past other nothing. none past nothing ∙ missing-not back other;
       back = λ is nothing.
           let past : 1 < i = omega (arith, p.starts.0) in
-          let to_back : next ≡ back = none past nothing ∙ missing-is numbering.start back i is in
-          let flat : text states k ≡ [] = ap (λ (z : ℕ). text_of trie numbering z) is ∙ (ap (text states) p.starts.2 ∙ text-start states trie.tree) in
-          let alone : text states k ++ b ∷ [] ≡ b ∷ [] = ap (λ (t : List ℕ). t ++ b ∷ []) flat in
-          let l = s.leads b (λ h. nothing (subst (λ (t : List ℕ). BeginsEntered m t) (sym alone) h)) in
+          let to_back : next ≡ back = none past nothing ∙ missing-is is in
+          let flat : text states k ≡ [] = ap (λ z. text_of trie numbering z) is
+          ∙ (ap (text states) p.starts.2 ∙ text-start states trie.tree) in
+          let alone : text states k ++ b ∷ [] ≡ b ∷ [] = ap (λ t. t ++ b ∷ []) flat in
+          let l = s.leads b (λ h. nothing (subst (λ t. BeginsEntered m t) (sym alone) h)) in
           ⊎_elim
           (λ (dead : back ≡ 0).
           let zero_next : next ≡ 0 = to_back ∙ dead in (
             inl zero_next,
-            subst (λ (n : ℕ). LeadsTo m false (text states k ++ b ∷ []) (state_of (text_of trie numbering) n)) (sym zero_next) (subst (λ (t : List ℕ). LeadsTo m false t None) (sym alone) (l.0 dead)),
+            subst (λ n. LeadsTo m false (text states k ++ b ∷ []) (state_of (text_of trie numbering) n)) (sym zero_next)
+                (subst (λ t. LeadsTo m false t None) (sym alone) (l.0 dead)),
           ))
           (λ (start : back ≡ numbering.start).
           let start_next : next ≡ numbering.start = to_back ∙ start in
-          let stands : state_of (text_of trie numbering) numbering.start ≡ Some [] = state_of-some (text_of trie numbering) numbering.start p.starts.0 ∙ ap (λ (t : List ℕ). Some t) (ap (text states) p.starts.2 ∙ text-start states trie.tree) in (
+          let stands : state_of (text_of trie numbering) numbering.start
+          ≡ Some [] = state_of-some (text_of trie numbering) numbering.start p.starts.0
+          ∙ ap (λ t. Some t) (ap (text states) p.starts.2 ∙ text-start states trie.tree) in (
             inr start_next,
-            subst (λ (n : ℕ). LeadsTo m false (text states k ++ b ∷ []) (state_of (text_of trie numbering) n)) (sym start_next) (subst (λ (r : Option (List ℕ)). LeadsTo m false (text states k ++ b ∷ []) r) (sym stands) (subst (λ (t : List ℕ). LeadsTo m false t (Some [])) (sym alone) (l.1 start))),
+            subst (λ n. LeadsTo m false (text states k ++ b ∷ []) (state_of (text_of trie numbering) n))
+                (sym start_next)
+                (subst (λ r. LeadsTo m false (text states k ++ b ∷ []) r) (sym stands)
+                (subst (λ t. LeadsTo m false t (Some [])) (sym alone) (l.1 start))),
           ))
           s.to_start;
     }

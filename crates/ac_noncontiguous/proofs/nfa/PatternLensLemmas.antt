@@ -10,5 +10,6 @@ longest-more [] p = omega arith
 longest-more (q ∷ ps) p = let so = longest-more ps p in omega (arith, so)
 
 -- the lengths of some patterns and one more
-pub lens-more : (ps : List (List ℕ)) (p : List ℕ) → map (λ p′. length p′) (ps ++ p ∷ []) ≡ map (λ p. length p) ps ++ length p ∷ []
+pub lens-more : (ps : List (List ℕ)) (p : List ℕ)
+    → map (λ p′. length p′) (ps ++ p ∷ []) ≡ map (λ p. length p) ps ++ length p ∷ []
 lens-more ps p = map-append (λ (q : List ℕ). length q) ps (p ∷ [])

@@ -7,12 +7,12 @@ use Rattle.ac_noncontiguous.specs.Compiler.Edges.{IsChildFor}
 use Rattle.ac_noncontiguous.proofs.trie.TreeLemmas.{way-at}
 
 -- a trie extends itself
-pub extends-itself : (states : List State) → Extends states states
-extends-itself states = record { longer = omega arith; same = λ i within. (refl, refl, refl, refl) }
+pub extends-itself : {states : List State} → Extends states states
+extends-itself = record { longer = omega arith; same = λ i within. (refl, refl, refl, refl) }
 
 -- extension is transitive
-pub extends-further : (a b c : List State) → Extends a b → Extends b c → Extends a c
-extends-further a b c g h =
+pub extends-further : {a b c : List State} → Extends a b → Extends b c → Extends a c
+extends-further g h =
     record {
       longer = omega (arith, g.longer, h.longer);
       same = λ i within.
@@ -22,16 +22,23 @@ extends-further a b c g h =
     }
 
 -- a child that is known already is a step
-pub step-known : (states : List State) (of low id : ℕ) → IsChildFor states of low id → IsChildStep states states of low id
-step-known states of low id h = record { extends = extends-itself states; child = h; added = inl refl }
+pub step-known : {states : List State} {of low id : ℕ} → IsChildFor states of low id
+    → IsChildStep states states of low id
+step-known h = record { extends = extends-itself; child = h; added = inl refl }
 
 -- a child that is found by walking along the children is a step
-pub step-found : (states : List State) (of low before at : ℕ) → IsTree states → of < length states → IsChildPlace states of low before at → 0 < at → byte states at ≡ low → IsChildStep states states of low at
+pub step-found : (states : List State) (of low before at : ℕ) → IsTree states → of < length states
+    → IsChildPlace states of low before at → 0 < at → byte states at ≡ low → IsChildStep states states of low at
 step-found states of low before at tree within place some same =
-    let h = way-at states of low before at tree within place.way some in
-    record { extends = extends-itself states; child = (some, h.0, h.1, same); added = inl refl }
+    let h = way-at tree within place.way some in
+    record { extends = extends-itself; child = (some, h.0, h.1, same); added = inl refl }
 
 -- a child that is added is a step
-pub step-added : (old new : List State) (of low id : ℕ) → 0 < length old → IsAdded old new of low id → IsChildStep old new of low id
-step-added old new of low id some a =
-    record { extends = a.extends; child = (omega (arith, a.last.0), omega (arith, a.last.0, a.last.1), a.added.0, a.added.1); added = inr (a.last.0, a.last.1, a.added.3) }
+pub step-added : {old new : List State} {of low id : ℕ} → 0 < length old → IsAdded old new of low id
+    → IsChildStep old new of low id
+step-added some a =
+    record {
+      extends = a.extends;
+      child = (omega (arith, a.last.0), omega (arith, a.last.0, a.last.1), a.added.0, a.added.1);
+      added = inr (a.last.0, a.last.1, a.added.3);
+    }

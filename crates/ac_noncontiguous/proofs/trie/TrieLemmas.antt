@@ -1,10 +1,8 @@
 -- How a trie changes when one more pattern is added.
 use Rattle.std.proofs.Common.{◌≡◌, ℕ, ◌+◌, ◌≤◌, List, [], ◌∷◌, ◌++◌, length, map, Option, Some, None, sym, ap, subst, ◌∙◌, arith}
 use Rattle.ac_input.specs.declared.search.MatchKind.{MatchKind}
-use Rattle.ac_input.specs.Pairing.{IsPairing}
 use Rattle.ac_input.specs.Dictionary.{Dictionary}
-use Rattle.ac_input.specs.Laws.LiveLaws.{canonical, IsOwnInverse}
-use Rattle.ac_input.proofs.lemmas.SameLemmas.{own_inverse-pairing}
+use Rattle.ac_input.specs.Laws.LiveLaws.{canonical}
 use Rattle.ac_input.specs.Number.{greatest_number}
 use Rattle.ac_input.specs.Limits.{with_pattern, canonical_text, IsWithinLimits}
 use Rattle.ac_noncontiguous.specs.declared.trie.State.{State}
@@ -19,46 +17,60 @@ use Rattle.std.specs.Prelude.{◌<◌}
 use Rattle.ac_input.specs.States.{BeginsBefore}
 use Rattle.ac_noncontiguous.specs.Trie.Tree.{depth, text}
 
--- the pairing of a trie's dictionary is its own inverse
-pub trie-inverse : (m : Dictionary) (old : Trie) → IsTrieOf m old → IsOwnInverse m.pairing
-trie-inverse m old t = own_inverse-pairing m.pairing (subst (λ (q : List ℕ). IsPairing q) (sym t.pairing) old.paired)
-
 -- where a pattern ends in a trie is where it ends for the dictionary
-pub trie-ends : (m : Dictionary) (p : List ℕ) (old : Trie) (mid : List State) (end : Option ℕ) → IsTrieOf m old → IsEnd old.kind old.states.items mid (map (canonical old.pairing) p) end → IsEnd m.kind old.states.items mid (canonical_text m p) end
-trie-ends m p old mid end t h = subst (λ (k : MatchKind). IsEnd k old.states.items mid (canonical_text m p) end) (sym t.kind) (subst (λ (q : List ℕ). IsEnd old.kind old.states.items mid (map (canonical q) p) end) (sym t.pairing) h)
+pub trie-ends : {m : Dictionary} (p : List ℕ) {old : Trie} (mid : List State) (end : Option ℕ) → IsTrieOf m old
+    → IsEnd old.kind old.states.items mid (map (canonical old.pairing) p) end
+    → IsEnd m.kind old.states.items mid (canonical_text m p) end
+trie-ends {m} p {old} mid end t h =
+    subst (λ k. IsEnd k old.states.items mid (canonical_text m p) end) (sym t.kind)
+    (subst (λ q. IsEnd old.kind old.states.items mid (map (canonical q) p) end) (sym t.pairing) h)
 
 -- one more pattern is entered
-pub trie-entered : (m : Dictionary) (p : List ℕ) (old mid marked new : Trie) (id : ℕ) → IsTrieOf m old → length p ≤ greatest_number → IsEnd old.kind old.states.items mid.states.items (map (canonical old.pairing) p) (Some id) → KeepsSettings old mid → IsMarked mid.states.items marked.states.items id → KeepsSettings mid marked → IsNoted marked new (Some id) → IsTrieOf (with_pattern m p) new
-trie-entered m p old mid marked new id t short w kept k kept_marked n =
-    let more = more-entered m p old.states.items mid.states.items marked.states.items old.ends.items id (trie-inverse m old t) t.stands old.tree short (trie-ends m p old mid.states.items (Some id) t w) k in
-    let stands = stand-entered m p old.states.items mid.states.items marked.states.items old.ends.items id (trie-inverse m old t) t.stands old.tree short (trie-ends m p old mid.states.items (Some id) t w) k in
-    let ends : new.ends.items ≡ old.ends.items ++ Some id ∷ [] = n.ends ∙ ap (λ v. v.items ++ Some id ∷ []) (kept_marked.ends ∙ kept.ends) in
+pub trie-entered : {m : Dictionary} (p : List ℕ) {old mid marked new : Trie} {id : ℕ} → IsTrieOf m old
+    → length p ≤ greatest_number → IsEnd old.kind old.states.items mid.states.items (map (canonical old.pairing) p)
+    (Some id) → KeepsSettings old mid → IsMarked mid.states.items marked.states.items id → KeepsSettings mid marked
+    → IsNoted marked new (Some id) → IsTrieOf (with_pattern m p) new
+trie-entered {m} p {old} {mid} {marked} {new} {id} t short w kept k kept_marked n =
+    let more = more-entered t.stands old.tree short (trie-ends p mid.states.items (Some id) t w) k in
+    let stands = stand-entered p t.stands old.tree short (trie-ends p mid.states.items (Some id) t w) k in
+    let ends : new.ends.items ≡ old.ends.items ++ Some id ∷ [] = n.ends
+    ∙ ap (λ v. v.items ++ Some id ∷ []) (kept_marked.ends ∙ kept.ends) in
     record {
       pairing = t.pairing ∙ sym (n.pairing ∙ (kept_marked.pairing ∙ kept.pairing));
       kind = t.kind ∙ sym (n.kind ∙ (kept_marked.kind ∙ kept.kind));
-      stands = subst (λ (s : List State). HasEntered (with_pattern m p) s new.ends.items) (sym (ap (λ v. v.items) n.states)) (subst (λ (e : List (Option ℕ)). HasEntered (with_pattern m p) marked.states.items e) (sym ends) stands);
-      by_first = subst (λ states. (i j : ℕ) → i < j → j < length states → depth states i ≡ depth states j → BeginsBefore (with_pattern m p) (text states i) (text states j)) (sym (ap (λ v. v.items) n.states)) (ordered-more m p old.states.items marked.states.items old.ends.items (Some id) old.tree marked.tree (trie-inverse m old t) t.stands t.by_first more);
+      stands = subst (λ s. HasEntered (with_pattern m p) s new.ends.items) (sym (ap (λ v. v.items) n.states))
+          (subst (λ e. HasEntered (with_pattern m p) marked.states.items e) (sym ends) stands);
+      by_first =
+          subst (λ states. (i j : ℕ) → i < j → j < length states → depth states i ≡ depth states j
+          → BeginsBefore (with_pattern m p) (text states i) (text states j)) (sym (ap (λ v. v.items) n.states))
+          (ordered-more old.tree marked.tree t.stands t.by_first more);
     }
 
 -- one more pattern is shadowed
-pub trie-left_out : (m : Dictionary) (p : List ℕ) (old mid new : Trie) → IsTrieOf m old → length p ≤ greatest_number → IsEnd old.kind old.states.items mid.states.items (map (canonical old.pairing) p) None → KeepsSettings old mid → IsNoted mid new None → IsTrieOf (with_pattern m p) new
-trie-left_out m p old mid new t short w kept n =
-    let h = trie-ends m p old mid.states.items None t w in
-    let more = more-left_out m p old.states.items mid.states.items old.ends.items h.1.0 h.1.1 (trie-inverse m old t) t.stands old.tree short h.0 h.1.2 h.1.3 h.1.4 in
-    let stands = stand-left_out m p old.states.items mid.states.items old.ends.items h.1.0 h.1.1 (trie-inverse m old t) t.stands old.tree short h.0 h.1.2 h.1.3 h.1.4 in
+pub trie-left_out : {m : Dictionary} (p : List ℕ) {old mid new : Trie} → IsTrieOf m old → length p ≤ greatest_number
+    → IsEnd old.kind old.states.items mid.states.items (map (canonical old.pairing) p) None → KeepsSettings old mid
+    → IsNoted mid new None → IsTrieOf (with_pattern m p) new
+trie-left_out {m} p {old} {mid} {new} t short w kept n =
+    let h = trie-ends p mid.states.items None t w in
+    let more = more-left_out t.stands old.tree short h.0 h.1.2 h.1.3 h.1.4 in
+    let stands = stand-left_out p t.stands old.tree short h.0 h.1.2 h.1.3 h.1.4 in
     let ends : new.ends.items ≡ old.ends.items ++ None ∷ [] = n.ends ∙ ap (λ v. v.items ++ None ∷ []) kept.ends in
     record {
       pairing = t.pairing ∙ sym (n.pairing ∙ kept.pairing);
       kind = t.kind ∙ sym (n.kind ∙ kept.kind);
-      stands = subst (λ (s : List State). HasEntered (with_pattern m p) s new.ends.items) (sym (ap (λ v. v.items) n.states)) (subst (λ (e : List (Option ℕ)). HasEntered (with_pattern m p) mid.states.items e) (sym ends) stands);
-      by_first = subst (λ states. (i j : ℕ) → i < j → j < length states → depth states i ≡ depth states j → BeginsBefore (with_pattern m p) (text states i) (text states j)) (sym (ap (λ v. v.items) n.states)) (ordered-more m p old.states.items mid.states.items old.ends.items None old.tree mid.tree (trie-inverse m old t) t.stands t.by_first more);
+      stands = subst (λ s. HasEntered (with_pattern m p) s new.ends.items) (sym (ap (λ v. v.items) n.states))
+          (subst (λ e. HasEntered (with_pattern m p) mid.states.items e) (sym ends) stands);
+      by_first =
+          subst (λ states. (i j : ℕ) → i < j → j < length states → depth states i ≡ depth states j
+          → BeginsBefore (with_pattern m p) (text states i) (text states j)) (sym (ap (λ v. v.items) n.states))
+          (ordered-more old.tree mid.tree t.stands t.by_first more);
     }
 
 -- a dictionary with a trie is within the limits
-pub trie-within : (m : Dictionary) (trie : Trie) → IsTrieOf m trie → IsWithinLimits m
-trie-within m trie t =
+pub trie-within : {m : Dictionary} {trie : Trie} → IsTrieOf m trie → IsWithinLimits m
+trie-within {trie} t =
     record {
       patterns = omega (arith, t.stands.counted, trie.counted);
       lengths = t.stands.short;
-      states = (length trie.states.items + 3, stand-counts m trie.states.items trie.ends.items trie.tree t.stands, trie.few);
+      states = (length trie.states.items + 3, stand-counts trie.tree t.stands, trie.few);
     }

@@ -25,30 +25,42 @@ number_or_dead numbers (Some i) = slice_index numbers i
 
 -- the number of the state to which trie state i fails, or of the dead one
 abbrev pub IsFailureOf : Numbering → Links → ℕ → ℕ → Type 0
-IsFailureOf numbering links i fail = (to : Option ℕ) × (slice_get links.fails.items i ≡ Some to) × (fail ≡ number_or_dead numbering.of.items to)
+IsFailureOf numbering links i fail =
+    (to : Option ℕ) × (slice_get links.fails.items i ≡ Some to) × (fail ≡ number_or_dead numbering.of.items to)
 
 -- what is stored for state i, whose transitions begin at `from` and whose row begins at `row`
-pub record IsKeptOf (trie : Trie) (numbering : Numbering) (links : Links) (i from row : ℕ) (state : State) : Type 0 where
+pub record IsKeptOf (trie : Trie) (numbering : Numbering) (links : Links) (i from row : ℕ)
+    (state : State) : Type 0 where
   pub places : (state.transitions ≡ from) × (state.row ≡ row)
   pub flat : i < 2 → (state.matches ≡ 0) × (state.matches_len ≡ 0) × (state.fail ≡ 0) × (state.depth ≡ 0)
   pub deep : 1 < i → state.depth ≡ depth trie.states.items (slice_index numbering.at.items i)
-  pub matches : 1 < i → (state.matches ≡ (slice_index_or links.ranges.items (slice_index numbering.at.items i) no_range).from) × (state.matches_len ≡ range_len links.ranges.items (slice_index numbering.at.items i))
+  pub matches : 1 < i
+      → (state.matches ≡ (slice_index_or links.ranges.items (slice_index numbering.at.items i) no_range).from)
+      × (state.matches_len ≡ range_len links.ranges.items (slice_index numbering.at.items i))
   pub fails : 1 < i → IsFailureOf numbering links (slice_index numbering.at.items i) state.fail
 
 -- what is stored for all states, and in one more entry where the transitions end
-pub record AreKept (trie : Trie) (numbering : Numbering) (links : Links) (transitions rows : List ℕ) (states : List State) : Type 0 where
+pub record AreKept (trie : Trie) (numbering : Numbering) (links : Links) (transitions rows : List ℕ)
+    (states : List State) : Type 0 where
   pub counted : length states ≡ length numbering.at.items + 1
-  pub kept : (i : ℕ) → i < length numbering.at.items → IsKeptOf trie numbering links i (slice_index transitions i) (slice_index rows i) (kept_of states i)
-  pub last : (kept_of states (length numbering.at.items)).transitions ≡ slice_index transitions (length numbering.at.items)
+  pub kept : (i : ℕ) → i < length numbering.at.items
+      → IsKeptOf trie numbering links i (slice_index transitions i) (slice_index rows i) (kept_of states i)
+  pub last : (kept_of states (length numbering.at.items)).transitions
+      ≡ slice_index transitions (length numbering.at.items)
 
--- Where a byte that begins no pattern leads from the unanchored start. Under a leftmost kind with an empty pattern, which has
+-- Where a byte that begins no pattern leads from the unanchored start. Under a leftmost kind with an empty pattern,
+-- which has
 -- matched, it leads to the dead state; otherwise back to the start.
 abbrev pub IsBack : MatchKind → List Range → ℕ → ℕ → Type 0
-IsBack kind ranges start back = ((kind ≢ Standard) × (0 < range_len ranges 0) × (back ≡ 0)) ⊎ ((kind ≢ Standard → range_len ranges 0 ≡ 0) × (back ≡ start))
+IsBack kind ranges start back =
+    ((kind ≢ Standard) × (0 < range_len ranges 0) × (back ≡ 0))
+    ⊎ ((kind ≢ Standard → range_len ranges 0 ≡ 0) × (back ≡ start))
 
 -- For every dictionary whose trie and links these are, the tables are those of its automaton.
 abbrev pub AreTablesFor : Trie → Links → Tables → Type 0
-AreTablesFor trie links tables = (m : Dictionary) → IsTrieOf m trie → AreLinks m trie.states.items links → (text : ℕ → List ℕ) × AreTables m text tables
+AreTablesFor trie links tables =
+    (m : Dictionary) → IsTrieOf m trie → AreLinks m trie.states.items links
+    → (text : ℕ → List ℕ) × AreTables m text tables
 
 -- For every dictionary whose trie this is, the classes of the tables are its byte classes.
 abbrev pub AreClassedFor : Trie → Tables → Type 0

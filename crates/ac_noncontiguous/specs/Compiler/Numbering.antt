@@ -29,7 +29,8 @@ is_chosen ranges false i = not (nat_lt 0 (range_len ranges i))
 abbrev pub chosen : List Range → Bool → List ℕ → List ℕ
 chosen ranges matching states = filter (is_chosen ranges matching) states
 
--- the trie states by number: two that stand for nothing, those of a first list, the start twice, and those of a second list
+-- the trie states by number: two that stand for nothing, those of a first list, the start twice, and those of a second
+-- list
 abbrev pub numbered : List ℕ → List ℕ → List ℕ
 numbered first second = 0 ∷ (0 ∷ first) ++ 0 ∷ [] ++ 0 ∷ [] ++ second
 
@@ -38,7 +39,8 @@ pub record AreListed (ranges : List Range) (states : List ℕ) (places : Listed)
   pub at : places.at.items ≡ numbered (chosen ranges true states) (chosen ranges false states)
   pub start : places.start ≡ length (chosen ranges true states) + 2
 
--- Each state but the first two stands for a trie state. Both starts stand for the trie's start, and no other state does.
+-- Each state but the first two stands for a trie state. Both starts stand for the trie's start, and no other state
+-- does.
 pub record ArePlaces (states : ℕ) (at : List ℕ) (start : ℕ) : Type 0 where
   pub counted : length at ≡ states + 3
   pub starts : (1 < start) × (start + 1 < length at) × (slice_index at start ≡ 0) × (slice_index at (start + 1) ≡ 0)
@@ -46,20 +48,26 @@ pub record ArePlaces (states : ℕ) (at : List ℕ) (start : ℕ) : Type 0 where
   pub within : (j : ℕ) → j < length at → slice_index at j < states
   pub all : (i : ℕ) → i < states → (j : ℕ) × (1 < j) × (j < length at) × (slice_index at j ≡ i)
 
--- Before the starts and after them, states stand for trie states in breadth-first order. Only the two starts share a trie state.
+-- Before the starts and after them, states stand for trie states in breadth-first order. Only the two starts share a
+-- trie state.
 pub record AreInRuns (states : List State) (at : List ℕ) (start : ℕ) : Type 0 where
-  pub rising : (j k : ℕ) → j < k → k < length at → InOneRun start j k → ComesBefore states (slice_index at j) (slice_index at k)
-  pub apart : (j k : ℕ) → 1 < j → j < k → k < length at → slice_index at j ≡ slice_index at k → (j ≡ start) × (k ≡ start + 1)
+  pub rising : (j k : ℕ) → j < k → k < length at → InOneRun start j k
+      → ComesBefore states (slice_index at j) (slice_index at k)
+  pub apart : (j k : ℕ) → 1 < j → j < k → k < length at → slice_index at j ≡ slice_index at k
+      → (j ≡ start) × (k ≡ start + 1)
 
 -- among the states from `from` on: each trie state has the least number of a state that stands for it
 pub record AreFirstNumbers (at : List ℕ) (from : ℕ) (of : List ℕ) : Type 0 where
   pub back : (j : ℕ) → from ≤ j → j < length at → slice_index at (slice_index of (slice_index at j)) ≡ slice_index at j
-  pub least : (j : ℕ) → from ≤ j → j < length at → (from ≤ slice_index of (slice_index at j)) × (slice_index of (slice_index at j) ≤ j)
+  pub least : (j : ℕ) → from ≤ j → j < length at
+      → (from ≤ slice_index of (slice_index at j)) × (slice_index of (slice_index at j) ≤ j)
 
 -- The number of each of this many trie states. The trie's start has the number of the unanchored start.
 pub record AreTrieNumbers (states : ℕ) (at of : List ℕ) (start : ℕ) : Type 0 where
   pub counted : length of ≡ states
-  pub numbers : (i : ℕ) → i < states → (1 < slice_index of i) × (slice_index of i < length at) × (slice_index of i ≢ start + 1) × (slice_index at (slice_index of i) ≡ i)
+  pub numbers : (i : ℕ) → i < states
+      → (1 < slice_index of i) × (slice_index of i < length at) × (slice_index of i ≢ start + 1)
+      × (slice_index at (slice_index of i) ≡ i)
 
 -- the last state at which some pattern matches
 pub record IsLastMatch (ranges : List Range) (at : List ℕ) (start max_match : ℕ) : Type 0 where

@@ -19,9 +19,13 @@ pub record AreAllChildren (states : List State) (most : ℕ) (firsts ids bytes :
   pub counted : length firsts ≡ most + 1
   pub last : slice_index firsts most ≡ length ids
   pub bytes_are : bytes ≡ map (byte states) ids
-  pub spans : (i : ℕ) → i < most → (slice_index firsts i ≤ slice_index firsts (i + 1)) × (slice_index firsts (i + 1) ≤ length ids)
-  pub only : (i k : ℕ) → i < most → slice_index firsts i ≤ k → k < slice_index firsts (i + 1) → (0 < slice_index ids k) × (slice_index ids k < length states) × (parent states (slice_index ids k) ≡ i)
-  pub all : (c : ℕ) → 0 < c → c < length states → parent states c < most → (k : ℕ) × (slice_index firsts (parent states c) ≤ k) × (k < slice_index firsts (parent states c + 1)) × (slice_index ids k ≡ c)
+  pub spans : (i : ℕ) → i < most
+      → (slice_index firsts i ≤ slice_index firsts (i + 1)) × (slice_index firsts (i + 1) ≤ length ids)
+  pub only : (i k : ℕ) → i < most → slice_index firsts i ≤ k → k < slice_index firsts (i + 1)
+      → (0 < slice_index ids k) × (slice_index ids k < length states) × (parent states (slice_index ids k) ≡ i)
+  pub all : (c : ℕ) → 0 < c → c < length states → parent states c < most
+      → (k : ℕ) × (slice_index firsts (parent states c) ≤ k) × (k < slice_index firsts (parent states c + 1))
+      × (slice_index ids k ≡ c)
 
 -- the children of all states
 abbrev pub AreChildrenOfAll : List State → Children → Type 0

@@ -17,7 +17,8 @@ abbrev pub IsChildOf : List State → ℕ → ℕ → Option ℕ → Type 0
 IsChildOf states of low None = HasNoChild states of low
 IsChildOf states of low (Some c) = (0 < c) × (c < length states) × (parent states c ≡ of) × (byte states c ≡ low)
 
--- Where a byte leads without a failure: to the state's child for it. Without a child it leads from the start back to it, and from
+-- Where a byte leads without a failure: to the state's child for it. Without a child it leads from the start back to
+-- it, and from
 -- other states nowhere.
 abbrev pub IsToldBy : List State → ℕ → ℕ → Option ℕ → Type 0
 IsToldBy states of low None = (of ≢ 0) × HasNoChild states of low
@@ -26,19 +27,18 @@ IsToldBy states of low (Some id) = IsChildOf states of low (Some id) ⊎ ((of �
 -- each failure that is set is shallower than its state
 pub record AreShallower (states : List State) (fails : List (Option ℕ)) : Type 0 where
   pub counted : length fails ≡ length states
-  pub shallower : (i f : ℕ) → slice_get fails i ≡ Some (Some f) → (f < length states) × (depth states f < depth states i)
+  pub shallower : (i f : ℕ) → slice_get fails i ≡ Some (Some f)
+      → (f < length states) × (depth states f < depth states i)
 
 -- the failures of all states shallower than `deep` are right
 abbrev pub AreFailsAbove : Dictionary → List State → List (Option ℕ) → ℕ → Type 0
-AreFailsAbove m states fails deep = (i : ℕ) (r : Option ℕ) → i < length states → depth states i < deep → slice_get fails i ≡ Some r → FailsTo m (text states i) (option_map (text states) r)
+AreFailsAbove m states fails deep =
+    (i : ℕ) (r : Option ℕ) → i < length states → depth states i < deep → slice_get fails i ≡ Some r
+    → FailsTo m (text states i) (option_map (text states) r)
 
 -- the state, if there is one, is no deeper than `most`
 abbrev pub IsWithinDepth : List State → ℕ → Option ℕ → Type 0
 IsWithinDepth states most r = (id : ℕ) → r ≡ Some id → (id < length states) × (depth states id ≤ most)
-
--- under a leftmost kind the dictionary has no empty pattern
-abbrev pub GoesOnFromStart : Dictionary → Type 0
-GoesOnFromStart m = m.kind ≢ Standard → (n : ℕ) → ¬ IsOwn m [] n
 
 -- whether, under a leftmost kind, a pattern ends in the state or at the start
 abbrev pub IsFinalIn : MatchKind → List State → ℕ → Bool → Type 0
@@ -49,12 +49,18 @@ IsFinalIn kind states i false = kind ≢ Standard → (is_match states i ≡ fal
 abbrev pub NextOf : Dictionary → List State → ℕ → ℕ → Option ℕ → Type 0
 NextOf m states of low r = LeadsTo m false (text states of ++ low ∷ []) (option_map (text states) r)
 
--- Where one more byte leads from a state, for every dictionary whose trie this is. It is required that the start isn't final, that
+-- Where one more byte leads from a state, for every dictionary whose trie this is. It is required that the start isn't
+-- final, that
 -- the byte is canonical, and that the failures of all states no deeper are right.
 abbrev pub IsNextByFails : Trie → List (Option ℕ) → ℕ → ℕ → Option ℕ → Type 0
-IsNextByFails trie fails of low r = (m : Dictionary) → IsTrieOf m trie → GoesOnFromStart m → canonical m.pairing low ≡ low → AreFailsAbove m trie.states.items fails (depth trie.states.items of + 1) → NextOf m trie.states.items of low r
+IsNextByFails trie fails of low r =
+    (m : Dictionary) → IsTrieOf m trie → (m.kind ≢ Standard → (n : ℕ) → ¬ IsOwn m [] n) → canonical m.pairing low ≡ low
+    → AreFailsAbove m trie.states.items fails (depth trie.states.items of + 1) → NextOf m trie.states.items of low r
 
--- The state to which state i fails, for every dictionary whose trie this is, provided that the failures of all shallower states
+-- The state to which state i fails, for every dictionary whose trie this is, provided that the failures of all
+-- shallower states
 -- are right.
 abbrev pub IsFailureByFails : Trie → List (Option ℕ) → ℕ → Option ℕ → Type 0
-IsFailureByFails trie fails i r = (m : Dictionary) → IsTrieOf m trie → AreFailsAbove m trie.states.items fails (depth trie.states.items i) → FailsTo m (text trie.states.items i) (option_map (text trie.states.items) r)
+IsFailureByFails trie fails i r =
+    (m : Dictionary) → IsTrieOf m trie → AreFailsAbove m trie.states.items fails (depth trie.states.items i)
+    → FailsTo m (text trie.states.items i) (option_map (text trie.states.items) r)

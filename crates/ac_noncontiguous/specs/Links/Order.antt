@@ -21,8 +21,12 @@ ComesBefore states i j = (depth states i < depth states j) ⊎ ((depth states i 
 
 -- the states shallower than d, and those of depth d before state `from`, each once and in order
 pub record AreInOrder (states : List State) (d from : ℕ) (order : List ℕ) : Type 0 where
-  pub all : (i : ℕ) → i < length states → ((depth states i < d) ⊎ ((depth states i ≡ d) × (i < from))) → Contains order i
-  pub within : (k : ℕ) → k < length order → (slice_index order k < length states) × ((depth states (slice_index order k) < d) ⊎ ((depth states (slice_index order k) ≡ d) × ((slice_index order k) < from)))
+  pub all : (i : ℕ) → i < length states → ((depth states i < d) ⊎ ((depth states i ≡ d) × (i < from)))
+      → Contains order i
+  pub within : (k : ℕ) → k < length order
+      → (slice_index order k < length states)
+      × ((depth states (slice_index order k) < d)
+      ⊎ ((depth states (slice_index order k) ≡ d) × ((slice_index order k) < from)))
   pub rising : (j k : ℕ) → j < k → k < length order → ComesBefore states (slice_index order j) (slice_index order k)
 
 -- all states, each once, in order of their depth, and those of one depth as they were added

@@ -7,7 +7,8 @@ pub record IsNextEnd (ends : List (Option ℕ)) (i from at : ℕ) : Type 0 where
   pub found : at < length ends → (from ≤ at) × (slice_get ends at ≡ Some (Some i))
   pub least : (n : ℕ) → from ≤ n → (slice_get ends n ≡ Some (Some i)) → at ≤ n
 
--- Among the patterns from `from` on: the first that ends in each state, and for each pattern the next that ends in its state.
+-- Among the patterns from `from` on: the first that ends in each state, and for each pattern the next that ends in its
+-- state.
 pub record AreOwnChains (states : ℕ) (ends : List (Option ℕ)) (from : ℕ) (first next : List ℕ) : Type 0 where
   pub lens : (length first ≡ states) × (length next ≡ length ends)
   pub firsts : (i : ℕ) → i < states → IsNextEnd ends i from (slice_index first i)

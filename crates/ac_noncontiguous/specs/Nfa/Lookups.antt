@@ -2,7 +2,6 @@
 use Rattle.std.specs.Prelude.{◌≡◌, ◌≢◌, ◌⊎◌, ℕ, ◌+◌, ◌<◌, ◌≤◌, ◌==◌, ◌&&◌, if◌then◌else◌, nat_lt, not, Bool, true, false, List}
 use Rattle.ac_input.specs.declared.steps.Steps.{Steps}
 use Rattle.ac_input.specs.Dictionary.{Dictionary}
-use Rattle.ac_input.specs.Laws.LiveLaws.{IsOwnInverse}
 use Rattle.ac_automaton.specs.Named.{nowhere, Naming, OfNames, IsPaidStep}
 use Rattle.ac_noncontiguous.specs.declared.nfa.tables.Transition.{Transition}
 use Rattle.ac_noncontiguous.specs.declared.nfa.tables.Tables.{Tables}
@@ -16,19 +15,27 @@ IsKept tables i = ∥ ((m : Dictionary) × (text : ℕ → List ℕ) × (t : Are
 
 -- for every dictionary of the tables: a byte leads from state i to state j without a failure
 abbrev pub StepsTo : Tables → ℕ → ℕ → ℕ → Type 0
-StepsTo tables i byte j = (m : Dictionary) (text : ℕ → List ℕ) (t : AreTables m text tables) → i < t.len → (j < t.len) × IsEdge m t.len tables.start text i byte j
+StepsTo tables i byte j =
+    (m : Dictionary) (text : ℕ → List ℕ) (t : AreTables m text tables) → i < t.len
+    → (j < t.len) × IsEdge m t.len tables.start text i byte j
 
--- for every dictionary of the tables: a byte leads from state i to state j in an unanchored search, all failures followed
+-- for every dictionary of the tables: a byte leads from state i to state j in an unanchored search, all failures
+-- followed
 abbrev pub StepsOver : Tables → ℕ → ℕ → ℕ → Type 0
-StepsOver tables i byte j = (m : Dictionary) (text : ℕ → List ℕ) (t : AreTables m text tables) → i < t.len → IsRowEntry m t.len tables.start text i byte j
+StepsOver tables i byte j =
+    (m : Dictionary) (text : ℕ → List ℕ) (t : AreTables m text tables) → i < t.len
+    → IsRowEntry m t.len tables.start text i byte j
 
 -- the bytes of the transitions between two places rise
 abbrev pub AreRisingIn : List Transition → ℕ → ℕ → Type 0
-AreRisingIn transitions from end = (j k : ℕ) → from ≤ j → j < k → k < end → byte_at transitions j < byte_at transitions k
+AreRisingIn transitions from end =
+    (j k : ℕ) → from ≤ j → j < k → k < end → byte_at transitions j < byte_at transitions k
 
 -- the next state of the transition between two places that has the byte; the fail state where none has it
 abbrev pub IsNextIn : List Transition → ℕ → ℕ → ℕ → ℕ → Type 0
-IsNextIn transitions from end byte j = ((k : ℕ) × (from ≤ k) × (k < end) × (byte_at transitions k ≡ byte) × (j ≡ next_at transitions k)) ⊎ ((j ≡ nowhere) × ((k : ℕ) → from ≤ k → k < end → byte_at transitions k ≢ byte))
+IsNextIn transitions from end byte j =
+    ((k : ℕ) × (from ≤ k) × (k < end) × (byte_at transitions k ≡ byte) × (j ≡ next_at transitions k))
+    ⊎ ((j ≡ nowhere) × ((k : ℕ) → from ≤ k → k < end → byte_at transitions k ≢ byte))
 
 -- ---- a look-up
 
@@ -37,7 +44,8 @@ abbrev pub other_start : ℕ → Bool → ℕ
 other_start start true = start
 other_start start false = start + 1
 
--- The states stand for these texts, and their numbers for the states. No search reaches the fail state, or the start of the other
+-- The states stand for these texts, and their numbers for the states. No search reaches the fail state, or the start of
+-- the other
 -- anchoring.
 abbrev pub naming_of : (ℕ → List ℕ) → ℕ → ℕ → Naming
 naming_of text len start = record {
@@ -47,21 +55,27 @@ naming_of text len start = record {
 
 -- the tables are those of the dictionary, and this is the naming of their states
 abbrev pub IsNamingOf : Dictionary → Tables → Naming → Type 0
-IsNamingOf m tables names = (text : ℕ → List ℕ) × (t : AreTables m text tables) × (names ≡ naming_of text t.len tables.start)
+IsNamingOf m tables names =
+    (text : ℕ → List ℕ) × (t : AreTables m text tables) × (names ≡ naming_of text t.len tables.start)
 
 -- a state that a search of this anchoring may reach
 abbrev pub IsVisited : Tables → Bool → ℕ → Type 0
 IsVisited tables anchored i = IsKept tables i × (i ≢ nowhere) × (i ≢ other_start tables.start anchored)
 
--- The state after i in an anchored search, where j is the state to which the byte leads with all failures followed. If j is deeper
+-- The state after i in an anchored search, where j is the state to which the byte leads with all failures followed. If
+-- j is deeper
 -- than i, it is i's own child; otherwise the next state is the dead one.
 abbrev pub own_next : Tables → ℕ → ℕ → ℕ
-own_next tables i j = if nat_lt (kept_of tables.states.items i).depth (kept_of tables.states.items j).depth then j else 0
+own_next tables i j =
+    if nat_lt (kept_of tables.states.items i).depth (kept_of tables.states.items j).depth then j else 0
 
--- For every dictionary of the tables, a byte leads from state i to state j in a search. This is the cost of the look-up, after
+-- For every dictionary of the tables, a byte leads from state i to state j in a search. This is the cost of the
+-- look-up, after
 -- `done` looks for the byte.
 abbrev pub LeadsNext : Tables → Bool → ℕ → ℕ → ℕ → ℕ → Steps → Steps → Type 0
-LeadsNext tables anchored done i byte j before after = (m : Dictionary) → IsOwnInverse m.pairing → OfNames (IsNamingOf m tables) anchored i (λ names. IsPaidStep m names anchored done i byte j before after)
+LeadsNext tables anchored done i byte j before after =
+    (m : Dictionary) → OfNames (IsNamingOf m tables) anchored i
+    (λ names. IsPaidStep m names anchored done i byte j before after)
 
 -- The byte leads from the unanchored start back to it, and no pattern matches there.
 pub record IsIdle (tables : Tables) (byte : ℕ) : Type 0 where

@@ -1,5 +1,5 @@
 -- What the read calls of the automaton return, and what that says about the texts for which its states stand.
-use Rattle.std.specs.Prelude.{◌≡◌, ◌≢◌, ◌↔◌, ◌⊎◌, ℕ, ◌+◌, ◌-◌, ◌<◌, ◌≤◌, map, List, [], ◌∷◌, ◌++◌, length, slice_get, Option, Some, None}
+use Rattle.std.specs.Prelude.{◌≡◌, ◌≢◌, ◌↔◌, ◌⊎◌, ℕ, ◌+◌, ◌-◌, ◌<◌, ◌≤◌, map, List, [], ◌∷◌, ◌++◌, length, slice_get, Option, Some, None, take, drop}
 use Rattle.ac_automaton.specs.Named.{nowhere}
 use Rattle.ac_input.specs.Number.{greatest_number}
 use Rattle.ac_input.specs.declared.search.Anchored.{Anchored}
@@ -14,10 +14,10 @@ use Rattle.ac_input.specs.Limits.{canonical_text, IsPrefix, HasStates, IsWithinL
 use Rattle.ac_input.specs.Pairing.{IsPairing}
 use Rattle.ac_input.specs.States.{LeadsTo, FailsTo, BeginsBefore}
 use Rattle.ac_noncontiguous.specs.declared.nfa.NFA.{NFA}
-use Rattle.ac_noncontiguous.specs.declared.nfa.read.Special.{Special}
+use Rattle.ac_noncontiguous.specs.declared.nfa.Special.{Special}
 use Rattle.ac_noncontiguous.specs.declared.nfa.tables.Tables.{Tables}
 use Rattle.ac_noncontiguous.specs.Nfa.Lookups.{other_start, AreSame}
-use Rattle.ac_noncontiguous.specs.Nfa.{state_of, transitions_of, IsEdge, InOneRun, AreTables, kept_of, edge_of}
+use Rattle.ac_noncontiguous.specs.Nfa.{state_of, IsEdge, InOneRun, AreTables, kept_of, edge_of}
 use Rattle.ac_noncontiguous.specs.Nfa.Reads.{dictionary, built_as, matches_at, IsRead}
 
 -- ---- what is stored
@@ -35,7 +35,10 @@ depth_in nfa sid = (kept_of nfa.tables.states.items sid).depth
 
 -- the transitions of a state
 abbrev pub edges_in : NFA → ℕ → List (ℕ × ℕ)
-edges_in nfa sid = map edge_of (transitions_of nfa.tables.states.items nfa.tables.transitions.items sid)
+edges_in nfa sid =
+    map edge_of
+    (take ((kept_of nfa.tables.states.items (sid + 1)).transitions - (kept_of nfa.tables.states.items sid).transitions)
+    (drop (kept_of nfa.tables.states.items sid).transitions nfa.tables.transitions.items))
 
 -- the classes of the bytes
 abbrev pub classes_in : NFA → List ℕ
@@ -43,7 +46,13 @@ classes_in nfa = nfa.tables.classes
 
 -- the last special state, the last state that matches, and both starts
 abbrev pub special_in : NFA → Special
-special_in nfa = record { max_special_id = nfa.max_special; max_match_id = nfa.tables.max_match; start_unanchored_id = nfa.tables.start; start_anchored_id = nfa.tables.start + 1 }
+special_in nfa =
+    record {
+      max_special_id = nfa.max_special;
+      max_match_id = nfa.tables.max_match;
+      start_unanchored_id = nfa.tables.start;
+      start_anchored_id = nfa.tables.start + 1;
+    }
 
 -- ---- what it means
 
@@ -58,9 +67,13 @@ OfTexts nfa P = (text : ℕ → List ℕ) → AreTables (dictionary nfa) text nf
 
 -- the texts are of canonical bytes, and each begins an entered pattern
 abbrev pub TextsBegin : NFA → Type 0
-TextsBegin nfa = OfTexts nfa (λ text. (sid : ℕ) → 1 < sid → sid < state_len nfa → BeginsEntered (dictionary nfa) (text sid) × (canonical_text (dictionary nfa) (text sid) ≡ text sid))
+TextsBegin nfa =
+    OfTexts nfa
+    (λ text. (sid : ℕ) → 1 < sid → sid < state_len nfa
+    → BeginsEntered (dictionary nfa) (text sid) × (canonical_text (dictionary nfa) (text sid) ≡ text sid))
 
--- The text of a state fails to this state, which is shallower. The dead state and the fail state fail to the dead one, and no state
+-- The text of a state fails to this state, which is shallower. The dead state and the fail state fail to the dead one,
+-- and no state
 -- fails to the fail state or to the anchored start.
 pub record FailsIn (nfa : NFA) (sid fail : ℕ) : Type 0 where
   pub within : fail < state_len nfa
@@ -87,16 +100,21 @@ IsFull nfa sid = (sid ≡ 0) ⊎ (sid ≡ (special_in nfa).start_unanchored_id) 
 
 -- where a byte leads from a state without a failure, if the states stand for these texts
 abbrev pub IsEdgeIn : NFA → (ℕ → List ℕ) → ℕ → ℕ → ℕ → Type 0
-IsEdgeIn nfa text sid byte next = IsEdge (dictionary nfa) (state_len nfa) (special_in nfa).start_unanchored_id text sid byte next
+IsEdgeIn nfa text sid byte next =
+    IsEdge (dictionary nfa) (state_len nfa) (special_in nfa).start_unanchored_id text sid byte next
 
--- Each transition of a state leads to where its byte leads, and a byte without a transition leads nowhere. The transitions of a
+-- Each transition of a state leads to where its byte leads, and a byte without a transition leads nowhere. The
+-- transitions of a
 -- state that isn't full lead to a state that is one byte longer.
 pub record AreLeading (nfa : NFA) (text : ℕ → List ℕ) (sid : ℕ) (edges : List (ℕ × ℕ)) : Type 0 where
   pub lead : (k byte next : ℕ) → slice_get edges k ≡ Some (byte, next) → IsEdgeIn nfa text sid byte next
-  pub missing : (byte : ℕ) → byte < 256 → ((k next : ℕ) → slice_get edges k ≢ Some (byte, next)) → IsEdgeIn nfa text sid byte nowhere
-  pub longer : (k byte next : ℕ) → 1 < sid → ¬ IsFull nfa sid → slice_get edges k ≡ Some (byte, next) → BeginsEntered (dictionary nfa) (text sid ++ byte ∷ [])
+  pub missing : (byte : ℕ) → byte < 256 → ((k next : ℕ) → slice_get edges k ≢ Some (byte, next))
+      → IsEdgeIn nfa text sid byte nowhere
+  pub longer : (k byte next : ℕ) → 1 < sid → ¬ IsFull nfa sid → slice_get edges k ≡ Some (byte, next)
+      → BeginsEntered (dictionary nfa) (text sid ++ byte ∷ [])
 
--- The transitions of a state come in rising order of byte, and each leads to a state. The dead state and both starts have one for
+-- The transitions of a state come in rising order of byte, and each leads to a state. The dead state and both starts
+-- have one for
 -- each byte, and the fail state has none. Every other state has only those that lead to a state one byte longer.
 pub record AreEdges (nfa : NFA) (sid : ℕ) (edges : List (ℕ × ℕ)) : Type 0 where
   pub within : (k byte next : ℕ) → slice_get edges k ≡ Some (byte, next) → (byte < 256) × (next < state_len nfa)
@@ -116,49 +134,70 @@ pub record MayBeMet (nfa : NFA) (anchored : Anchored) (sid : ℕ) : Type 0 where
 pub record LeadsIn (nfa : NFA) (anchored : Anchored) (sid byte next : ℕ) : Type 0 where
   pub met : MayBeMet nfa anchored next
   pub dead : sid ≡ 0 → next ≡ 0
-  pub leads : OfTexts nfa (λ text. 1 < sid → LeadsTo (dictionary nfa) (is_anchored anchored) (text sid ++ byte ∷ []) (state_of text next))
+  pub leads : OfTexts nfa
+      (λ text. 1 < sid → LeadsTo (dictionary nfa) (is_anchored anchored) (text sid ++ byte ∷ []) (state_of text next))
 
 -- ---- which states are read
 
--- A state is reached by reading a text exactly if the text leads to what the state stands for. So each state past 1 is reached
--- from either start by its own text, except the other start. The dead state is reached wherever a text is dead. From the anchored
--- start some text always is; from the unanchored one, if a state other than the starts fails to the dead state. Under the standard
+-- A state is reached by reading a text exactly if the text leads to what the state stands for. So each state past 1 is
+-- reached
+-- from either start by its own text, except the other start. The dead state is reached wherever a text is dead. From
+-- the anchored
+-- start some text always is; from the unanchored one, if a state other than the starts fails to the dead state. Under
+-- the standard
 -- kind no text is dead from the unanchored start. The fail state is never reached.
 pub record AreRead (nfa : NFA) : Type 0 where
-  pub stands : OfTexts nfa (λ names. (anchored : Anchored) (text : List ℕ) (sid : ℕ) → MayBeMet nfa anchored sid → LeadsTo (dictionary nfa) (is_anchored anchored) text (state_of names sid) → IsRead nfa anchored text sid)
-  pub named : OfTexts nfa (λ names. (anchored : Anchored) (text : List ℕ) (sid : ℕ) → IsRead nfa anchored text sid → MayBeMet nfa anchored sid × LeadsTo (dictionary nfa) (is_anchored anchored) text (state_of names sid))
+  pub stands : OfTexts nfa
+      (λ names. (anchored : Anchored) (text : List ℕ) (sid : ℕ) → MayBeMet nfa anchored sid
+      → LeadsTo (dictionary nfa) (is_anchored anchored) text (state_of names sid) → IsRead nfa anchored text sid)
+  pub named : OfTexts nfa
+      (λ names. (anchored : Anchored) (text : List ℕ) (sid : ℕ) → IsRead nfa anchored text sid
+      → MayBeMet nfa anchored sid × LeadsTo (dictionary nfa) (is_anchored anchored) text (state_of names sid))
   pub each : (anchored : Anchored) (sid : ℕ) → 1 < sid → MayBeMet nfa anchored sid → IsReached (IsRead nfa anchored) sid
   pub dead : IsReached (IsRead nfa Yes) 0
   pub fails : (sid : ℕ) → 1 < sid → sid < state_len nfa → ¬ IsFull nfa sid → IsReached (IsRead nfa No) (fail_in nfa sid)
 
 -- ---- the order of the states
 
--- No two states but the starts stand for one text, and each prefix of an entered pattern has a state. Before the starts and after
--- them the states come in order of depth. States of one depth come in order of the first pattern that begins with their texts.
+-- No two states but the starts stand for one text, and each prefix of an entered pattern has a state. Before the starts
+-- and after
+-- them the states come in order of depth. States of one depth come in order of the first pattern that begins with their
+-- texts.
 pub record AreOrdered (nfa : NFA) (text : ℕ → List ℕ) : Type 0 where
-  pub apart : (i j : ℕ) → 1 < i → i < j → j < state_len nfa → text i ≡ text j → (i ≡ (special_in nfa).start_unanchored_id) × (j ≡ (special_in nfa).start_anchored_id)
+  pub apart : (i j : ℕ) → 1 < i → i < j → j < state_len nfa → text i ≡ text j
+      → (i ≡ (special_in nfa).start_unanchored_id) × (j ≡ (special_in nfa).start_anchored_id)
   pub all : (t : List ℕ) → IsPrefix (dictionary nfa) t → (i : ℕ) × (1 < i) × (i < state_len nfa) × (text i ≡ t)
-  pub deeper : (i j : ℕ) → i < j → j < state_len nfa → InOneRun (special_in nfa).start_unanchored_id i j → depth_in nfa i ≤ depth_in nfa j
-  pub by_first : (i j : ℕ) → i < j → j < state_len nfa → InOneRun (special_in nfa).start_unanchored_id i j → depth_in nfa i ≡ depth_in nfa j → BeginsBefore (dictionary nfa) (text i) (text j)
+  pub deeper : (i j : ℕ) → i < j → j < state_len nfa → InOneRun (special_in nfa).start_unanchored_id i j
+      → depth_in nfa i ≤ depth_in nfa j
+  pub by_first : (i j : ℕ) → i < j → j < state_len nfa → InOneRun (special_in nfa).start_unanchored_id i j
+      → depth_in nfa i ≡ depth_in nfa j → BeginsBefore (dictionary nfa) (text i) (text j)
 
 -- ---- the numbers that divide the states into groups
 
--- The numbers that divide the states into groups. States at which some pattern matches come first, then the unanchored start, the
--- anchored start, and all others. If the starts match, they count among the first. Both starts stand for the empty text, and no
--- other state does. The last special state is the anchored start if there is a prefilter, otherwise the last state that matches.
+-- The numbers that divide the states into groups. States at which some pattern matches come first, then the unanchored
+-- start, the
+-- anchored start, and all others. If the starts match, they count among the first. Both starts stand for the empty
+-- text, and no
+-- other state does. The last special state is the anchored start if there is a prefilter, otherwise the last state that
+-- matches.
 pub record AreBounds (nfa : NFA) (text : ℕ → List ℕ) (special : Special) : Type 0 where
   pub past : 1 < special.start_unanchored_id
   pub next : special.start_anchored_id ≡ special.start_unanchored_id + 1
   pub within : special.start_anchored_id < state_len nfa
-  pub empty : (sid : ℕ) → 1 < sid → sid < state_len nfa → (text sid ≡ []) ↔ ((sid ≡ special.start_unanchored_id) ⊎ (sid ≡ special.start_anchored_id))
-  pub matching : (sid : ℕ) → 1 < sid → sid < state_len nfa → (0 < length (matches_at nfa sid)) ↔ (sid ≤ special.max_match_id)
-  pub last_match : (special.max_match_id + 1 ≡ special.start_unanchored_id) ⊎ (special.max_match_id ≡ special.start_anchored_id)
+  pub empty : (sid : ℕ) → 1 < sid → sid < state_len nfa
+      → (text sid ≡ []) ↔ ((sid ≡ special.start_unanchored_id) ⊎ (sid ≡ special.start_anchored_id))
+  pub matching : (sid : ℕ) → 1 < sid → sid < state_len nfa
+      → (0 < length (matches_at nfa sid)) ↔ (sid ≤ special.max_match_id)
+  pub last_match : (special.max_match_id + 1 ≡ special.start_unanchored_id)
+      ⊎ (special.max_match_id ≡ special.start_anchored_id)
   pub without_prefilter : (built_as nfa).prefilter ≡ None → special.max_special_id ≡ special.max_match_id
-  pub with_prefilter : (f : Filter) → (built_as nfa).prefilter ≡ Some f → special.max_special_id ≡ special.start_anchored_id
+  pub with_prefilter : (f : Filter) → (built_as nfa).prefilter ≡ Some f
+      → special.max_special_id ≡ special.start_anchored_id
 
 -- ---- the whole
 
--- What the read calls return for an automaton as a whole, and for each of its states. Other automata are made from this alone.
+-- What the read calls return for an automaton as a whole, and for each of its states. Other automata are made from this
+-- alone.
 pub record IsReadable (nfa : NFA) : Type 0 where
   pub stand : ∥ ((text : ℕ → List ℕ) × AreTables (dictionary nfa) text nfa.tables) ∥₁
   pub begin : TextsBegin nfa

@@ -3,7 +3,7 @@ use Rattle.std.specs.Prelude.{ℕ, ◌+◌, ◌==◌, ◌||◌, nat_le, Bool, fa
 use Rattle.ac_input.specs.declared.search.Anchored.{Anchored}
 use Rattle.ac_input.specs.Dictionary.{Dictionary, dictionary_of}
 use Rattle.ac_automaton.specs.Automaton.{Built}
-use Rattle.ac_automaton.specs.Named.{IsReadBy}
+use Rattle.ac_automaton.specs.Named.{NamedStates, IsReadBy}
 use Rattle.ac_noncontiguous.specs.declared.nfa.NFA.{NFA}
 use Rattle.ac_noncontiguous.specs.Nfa.{list_of}
 use Rattle.ac_noncontiguous.specs.Nfa.Lookups.{IsNamingOf}
@@ -28,6 +28,16 @@ is_start_at nfa sid = (sid == nfa.tables.start) || (sid == nfa.tables.start + 1)
 abbrev pub is_special_at : NFA → ℕ → Bool
 is_special_at nfa sid = nat_le sid nfa.max_special
 
+-- what its numbers stand for, list and say
+abbrev pub named_states : NFA → NamedStates
+named_states nfa = record {
+  built = built_as nfa;
+  Fits = IsNamingOf (dictionary nfa) nfa.tables;
+  matches = matches_at nfa;
+  starts = is_start_at nfa;
+  special = is_special_at nfa;
+}
+
 -- a search of this anchoring reaches the state by reading the text
 abbrev pub IsRead : NFA → Anchored → List ℕ → ℕ → Type 0
-IsRead nfa anchored text sid = IsReadBy (built_as nfa) (IsNamingOf (dictionary nfa) nfa.tables) (matches_at nfa) (is_start_at nfa) (is_special_at nfa) anchored text sid
+IsRead nfa anchored text sid = IsReadBy (named_states nfa) anchored text sid

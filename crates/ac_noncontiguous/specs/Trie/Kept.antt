@@ -26,9 +26,12 @@ pub record IsTrieOf (m : Dictionary) (trie : Trie) : Type 0 where
   pub pairing : m.pairing ≡ trie.pairing
   pub kind : m.kind ≡ trie.kind
   pub stands : HasEntered m trie.states.items trie.ends.items
-  pub by_first : (i j : ℕ) → i < j → j < length trie.states.items → depth trie.states.items i ≡ depth trie.states.items j → BeginsBefore m (text trie.states.items i) (text trie.states.items j)
+  pub by_first : (i j : ℕ) → i < j → j < length trie.states.items
+      → depth trie.states.items i ≡ depth trie.states.items j
+      → BeginsBefore m (text trie.states.items i) (text trie.states.items j)
 
--- For every dictionary whose trie is the old one: with one more pattern its trie is the new one, or that pattern is refused.
+-- For every dictionary whose trie is the old one: with one more pattern its trie is the new one, or that pattern is
+-- refused.
 abbrev pub TakesPattern : Trie → List ℕ → Trie → Type 0
 TakesPattern old p new = (m : Dictionary) → IsTrieOf m old → IsTrieOf (with_pattern m p) new
 

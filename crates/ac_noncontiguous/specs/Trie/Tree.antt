@@ -9,7 +9,8 @@ no_state = record { parent = 0; child = 0; sibling = 0; depth = 0; byte = 0; is_
 abbrev pub state_at : List State → ℕ → State
 state_at states i = slice_index_or states i no_state
 
--- a state's parent, the byte that leads to it, its first child, its next sibling, its depth, and whether a pattern ends in it
+-- a state's parent, the byte that leads to it, its first child, its next sibling, its depth, and whether a pattern ends
+-- in it
 abbrev pub parent : List State → ℕ → ℕ
 parent states i = (state_at states i).parent
 
@@ -33,7 +34,8 @@ pub record IsFirstChild (len : ℕ) (parent byte : ℕ → ℕ) (of low first : 
   pub is_child : 0 < first → (first < len) × (parent first ≡ of) × (low ≤ byte first)
   pub before_all : (c : ℕ) → 0 < c → c < len → parent c ≡ of → low ≤ byte c → (0 < first) × (byte first ≤ byte c)
 
--- The states of a trie, column by column. State 0 is the start; every other state is the child of an earlier one. A state links to
+-- The states of a trie, column by column. State 0 is the start; every other state is the child of an earlier one. A
+-- state links to
 -- its first child, and each child to its next sibling, in rising order of byte. No two siblings have the same byte.
 pub record HasLinks (len : ℕ) (parent byte child sibling depth : ℕ → ℕ) : Type 0 where
   pub start : (0 < len) × (depth 0 ≡ 0)
@@ -50,11 +52,13 @@ IsTree states = HasLinks (length states) (parent states) (byte states) (child st
 abbrev pub IsChildBelow : List State → ℕ → ℕ → ℕ → Type 0
 IsChildBelow states of low c = (0 < c) × (c < length states) × (parent states c ≡ of) × (byte states c < low)
 
--- A walk along the children of a state has come to `at`, past only children with lesser bytes. The child before it is `before`, 0
+-- A walk along the children of a state has come to `at`, past only children with lesser bytes. The child before it is
+-- `before`, 0
 -- if `at` is the first child. Past the last child `at` is 0.
 pub record IsSiblingWalk (states : List State) (of low before at : ℕ) : Type 0 where
   pub first : before ≡ 0 → at ≡ child states of
-  pub next : 0 < before → (before < length states) × (parent states before ≡ of) × (byte states before < low) × (at ≡ sibling states before)
+  pub next : 0 < before → (before < length states) × (parent states before ≡ of) × (byte states before < low)
+      × (at ≡ sibling states before)
 
 -- The walk has come to the child for a byte or, without one, to its place: before the first child with a greater byte.
 pub record IsChildPlace (states : List State) (of low before at : ℕ) : Type 0 where
@@ -64,7 +68,9 @@ pub record IsChildPlace (states : List State) (of low before at : ℕ) : Type 0 
 -- Each old state is still there and stands for its old text; only links to children may have changed.
 pub record Extends (old new : List State) : Type 0 where
   pub longer : length old ≤ length new
-  pub same : (i : ℕ) → i < length old → (parent new i ≡ parent old i) × (byte new i ≡ byte old i) × (depth new i ≡ depth old i) × (is_match new i ≡ is_match old i)
+  pub same : (i : ℕ) → i < length old
+      → (parent new i ≡ parent old i) × (byte new i ≡ byte old i) × (depth new i ≡ depth old i)
+      × (is_match new i ≡ is_match old i)
 
 -- one more state, the child of a state for a byte
 pub record IsAdded (old new : List State) (of low id : ℕ) : Type 0 where

@@ -24,7 +24,7 @@ use ac_input::primitives::StateID;
 use std::alloc::{AllocError, Global};
 
 /// Separates the byte from all others.
-fn part(set: &mut ByteClassSet, byte: u8)
+fn set_apart(set: &mut ByteClassSet, byte: u8)
     ensures parted { IsParted set.new byte }
     ensures kept { (b : ℕ) → has set.old b ≡ true → has set.new b ≡ true }
     ensures edges { (b : ℕ) → has set.new b ≡ (has set.old b || is_edge byte byte b) }
@@ -40,8 +40,8 @@ pub(super) fn classes(trie: &Trie) -> ByteClasses
     let mut set = ByteClassSet::empty();
     for id in 1..trie.len() {
         let byte = trie.state(StateID::must(id)).byte;
-        part(&mut set, byte);
-        part(&mut set, trie.other(byte));
+        set_apart(&mut set, byte);
+        set_apart(&mut set, trie.other(byte));
     }
     set.byte_classes()
 }

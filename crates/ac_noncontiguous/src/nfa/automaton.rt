@@ -25,10 +25,6 @@ impl LookUp for NFA {
 
     ghost tells = { λ nfa anchored text sid reads. reads.tells };
 
-    ghost lives = { λ nfa anchored text sid reads. reads.lives };
-
-    ghost pairs = { λ nfa anchored text sid reads. reads.inverse };
-
     #[inline(always)]
     fn look_up(&self, anchored: Anchored, sid: StateID, byte: u8, steps: &mut Steps) -> StateID {
         self.tables.next(anchored, sid, byte, steps)
@@ -51,10 +47,6 @@ impl Automaton for NFA {
     ghost special = { is_special_at };
 
     ghost tells = { λ nfa anchored text sid reads. reads.tells };
-
-    ghost lives = { λ nfa anchored text sid reads. reads.lives };
-
-    ghost pairs = { λ nfa anchored text sid reads. reads.inverse };
 
     ghost stops = { λ nfa anchored text sid reads. reads.stops };
 

@@ -71,7 +71,7 @@ pub(crate) struct Tables {
 pub const FAIL: usize = 1;
 
 /// This many items of a list, from a place on.
-pub(crate) fn part<T>(items: &[T], from: usize, len: usize) -> &[T]
+pub(crate) fn slice_from<T>(items: &[T], from: usize, len: usize) -> &[T]
     requires { from + len ≤ length items.now }
     ensures { result.now ≡ take len (drop from items.now) }
 {

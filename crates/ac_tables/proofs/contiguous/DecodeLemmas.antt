@@ -14,7 +14,8 @@ pub stands-left : (words p q : List ℕ) (at : ℕ) → AreWordsAt words at (p +
 stands-left words p q at h =
     let long = length-append p q in (
       omega (arith, h.0, long),
-      sym (take-take (length p) (length (p ++ q)) (drop at words) (omega (arith, long))) ∙ (ap (take (length p)) h.1 ∙ take_at p q (length p) refl),
+      sym (take-take (length p) (length (p ++ q)) (drop at words) (omega (arith, long)))
+          ∙ (ap (take (length p)) h.1 ∙ take_at p q (length p) refl),
     )
 
 -- the words after the first ones stand right after them
@@ -24,14 +25,18 @@ stands-right words p q at h =
       omega (arith, h.0, long),
       ap (take (length q)) (sym (drop-drop (length p) at words))
           ∙ (sym (drop-take (length p) (length q) (drop at words))
-          ∙ (ap (λ (n : ℕ). drop (length p) (take n (drop at words))) (sym long) ∙ (ap (drop (length p)) h.1 ∙ drop_at p q (length p) refl))),
+          ∙ (ap (λ n. drop (length p) (take n (drop at words))) (sym long)
+          ∙ (ap (drop (length p)) h.1 ∙ drop_at p q (length p) refl))),
     )
 
 -- each word is found at its place
-pub stands-item : (words part : List ℕ) (at k place : ℕ) → AreWordsAt words at part → k < length part → place ≡ at + k → (place < length words) × (get_or words place 0 ≡ get_or part k 0)
+pub stands-item : (words part : List ℕ) (at k place : ℕ) → AreWordsAt words at part → k < length part → place ≡ at + k
+    → (place < length words) × (get_or words place 0 ≡ get_or part k 0)
 stands-item words part at k place h lt is = (
   omega (arith, h.0, lt, is),
-  ap (λ (n : ℕ). get_or words n 0) is ∙ (sym (get_or-drop at words k 0) ∙ (sym (get_or-take (length part) (drop at words) k 0 lt) ∙ ap (λ (xs : List ℕ). get_or xs k 0) h.1)),
+  ap (λ n. get_or words n 0) is
+      ∙ (sym (get_or-drop at words k 0)
+      ∙ (sym (get_or-take (length part) (drop at words) k 0 lt) ∙ ap (λ xs. get_or xs k 0) h.1)),
 )
 
 -- ---- how a state is stored
@@ -49,16 +54,20 @@ nil-of (x ∷ xs) e = absurd (let n = eqb-true (length (x ∷ xs)) 0 e in omega 
 pub form-is : (s : StateParts) → IsForm s (form_of s)
 form-is s = by (s.shallow || nat_lt most_sparse (length s.edges)) refl (is_single s) refl
   where
-    by : (dense : Bool) → (s.shallow || nat_lt most_sparse (length s.edges)) ≡ dense → (single : Bool) → is_single s ≡ single → IsForm s (if dense then Dense else if single then One else Sparse)
+    by : (dense : Bool) → (s.shallow || nat_lt most_sparse (length s.edges)) ≡ dense → (single : Bool)
+        → is_single s ≡ single → IsForm s (if dense then Dense else if single then One else Sparse)
     by true e single f = IsDense
-    by false e true f = let both = and_parts (length s.edges == 1) (length s.matches == 0) f in IsOne (eqb-true (length s.edges) 1 both.0) (nil-of s.matches both.1)
-    by false e false f = IsSparse (ltb-false most_sparse (length s.edges) (or_parts s.shallow (nat_lt most_sparse (length s.edges)) e).1)
+    by false e true f = let both = and_parts (length s.edges == 1) (length s.matches == 0) f in
+        IsOne (eqb-true (length s.edges) 1 both.0) (nil-of s.matches both.1)
+    by false e false f =
+        IsSparse (ltb-false most_sparse (length s.edges) (or_parts s.shallow (nat_lt most_sparse (length s.edges)) e).1)
 
 -- the kind stands in the low eight bits of the first word
 pub kind-dense : (edges : List (ℕ × ℕ)) → kind_word Dense edges % 256 ≡ 255
 kind-dense edges = refl
 
-pub kind-one : (edges : List (ℕ × ℕ)) → (kind_word One edges % 256 ≡ 254) × (kind_word One edges / 256 ≡ first_class edges)
+pub kind-one : (edges : List (ℕ × ℕ))
+    → (kind_word One edges % 256 ≡ 254) × (kind_word One edges / 256 ≡ first_class edges)
 kind-one edges = (omega arith, omega arith)
 
 pub kind-sparse : (edges : List (ℕ × ℕ)) → length edges ≤ most_sparse → kind_word Sparse edges % 256 ≡ length edges
@@ -73,7 +82,8 @@ form-dense s is = by (form_of s) (form-is s) is
     by One form e = absurd (omega (arith, e))
     by Sparse (IsSparse few) e = absurd (omega (arith, few, e))
 
-pub form-one : (s : StateParts) → kind_word (form_of s) s.edges % 256 ≡ 254 → (form_of s ≡ One) × (length s.edges ≡ 1) × (s.matches ≡ [])
+pub form-one : (s : StateParts) → kind_word (form_of s) s.edges % 256 ≡ 254
+    → (form_of s ≡ One) × (length s.edges ≡ 1) × (s.matches ≡ [])
 form-one s is = by (form_of s) (form-is s) is
   where
     by : (f : Form) → IsForm s f → kind_word f s.edges % 256 ≡ 254 → (f ≡ One) × (length s.edges ≡ 1) × (s.matches ≡ [])
@@ -81,10 +91,13 @@ form-one s is = by (form_of s) (form-is s) is
     by One (IsOne one none) e = (refl, one, none)
     by Sparse (IsSparse few) e = absurd (omega (arith, few, e))
 
-pub form-sparse : (s : StateParts) → kind_word (form_of s) s.edges % 256 ≢ 255 → kind_word (form_of s) s.edges % 256 ≢ 254 → (form_of s ≡ Sparse) × (length s.edges ≤ most_sparse) × (kind_word (form_of s) s.edges % 256 ≡ length s.edges)
+pub form-sparse : (s : StateParts) → kind_word (form_of s) s.edges % 256 ≢ 255
+    → kind_word (form_of s) s.edges % 256 ≢ 254
+    → (form_of s ≡ Sparse) × (length s.edges ≤ most_sparse) × (kind_word (form_of s) s.edges % 256 ≡ length s.edges)
 form-sparse s dense one = by (form_of s) (form-is s) dense one
   where
-    by : (f : Form) → IsForm s f → kind_word f s.edges % 256 ≢ 255 → kind_word f s.edges % 256 ≢ 254 → (f ≡ Sparse) × (length s.edges ≤ most_sparse) × (kind_word f s.edges % 256 ≡ length s.edges)
+    by : (f : Form) → IsForm s f → kind_word f s.edges % 256 ≢ 255 → kind_word f s.edges % 256 ≢ 254
+        → (f ≡ Sparse) × (length s.edges ≤ most_sparse) × (kind_word f s.edges % 256 ≡ length s.edges)
     by Dense form e g = absurd (e refl)
     by One form e g = absurd (g (omega arith))
     by Sparse (IsSparse few) e g = (refl, few, omega (arith, few))
@@ -102,27 +115,40 @@ module _ (words : List ℕ) (at alphabet : ℕ) (s : StateParts) (h : AreWordsAt
 
   -- the words after the first two are those of the transitions and the patterns
   state-rest : AreWordsAt words (at + 2) (transition_words (form_of s) alphabet s.edges ++ match_words s.matches)
-  state-rest = stands-right words (kind_word (form_of s) s.edges ∷ s.fail ∷ []) (transition_words (form_of s) alphabet s.edges ++ match_words s.matches) at h
+  state-rest =
+      stands-right words (kind_word (form_of s) s.edges ∷ s.fail ∷ [])
+      (transition_words (form_of s) alphabet s.edges ++ match_words s.matches) at h
 
   pub state-transitions : AreWordsAt words (at + 2) (transition_words (form_of s) alphabet s.edges)
-  state-transitions = stands-left words (transition_words (form_of s) alphabet s.edges) (match_words s.matches) (at + 2) state-rest
+  state-transitions =
+      stands-left words (transition_words (form_of s) alphabet s.edges) (match_words s.matches) (at + 2) state-rest
 
-  pub state-matches : AreWordsAt words (at + 2 + length (transition_words (form_of s) alphabet s.edges)) (match_words s.matches)
-  state-matches = stands-right words (transition_words (form_of s) alphabet s.edges) (match_words s.matches) (at + 2) state-rest
+  pub state-matches : AreWordsAt words (at + 2 + length (transition_words (form_of s) alphabet s.edges))
+      (match_words s.matches)
+  state-matches =
+      stands-right words (transition_words (form_of s) alphabet s.edges) (match_words s.matches) (at + 2) state-rest
 
   -- where a class leads from a state with an entry for each class
-  pub dense-next : (c place : ℕ) → form_of s ≡ Dense → c < alphabet → place ≡ at + 2 + c → (place < length words) × (get_or words place 0 ≡ next_by s.edges c)
+  pub dense-next : (c place : ℕ) → form_of s ≡ Dense → c < alphabet → place ≡ at + 2 + c
+      → (place < length words) × (get_or words place 0 ≡ next_by s.edges c)
   dense-next c place is within there =
-      let t : AreWordsAt words (at + 2) (map (next_by s.edges) (range_with_len 0 alphabet)) = subst (λ (f : Form). AreWordsAt words (at + 2) (transition_words f alphabet s.edges)) is state-transitions in
+      let t : AreWordsAt words (at + 2) (map (next_by s.edges) (range_with_len 0 alphabet)) =
+      subst (λ f. AreWordsAt words (at + 2) (transition_words f alphabet s.edges)) is state-transitions in
       let long = length-map-range_with_len (next_by s.edges) 0 alphabet in
-      let item = stands-item words (map (next_by s.edges) (range_with_len 0 alphabet)) (at + 2) c place t (omega (arith, long, within)) there in
+      let item = stands-item words (map (next_by s.edges) (range_with_len 0 alphabet)) (at + 2) c place t
+      (omega (arith, long, within)) there in
       (item.0, item.1 ∙ get_or-map-range_with_len (next_by s.edges) 0 alphabet c c 0 within (omega arith))
 
   -- where a class leads from a state with a single transition
-  pub one-next : form_of s ≡ One → length s.edges ≡ 1 → (at + 2 < length words) × ((c : ℕ) → first_class s.edges ≡ c → get_or words (at + 2) 0 ≡ next_by s.edges c) × ((c : ℕ) → first_class s.edges ≢ c → next_by s.edges c ≡ 1)
-  one-next is one = by s.edges one (subst (λ (f : Form). AreWordsAt words (at + 2) (transition_words f alphabet s.edges)) is state-transitions)
+  pub one-next : form_of s ≡ One → length s.edges ≡ 1
+      → (at + 2 < length words) × ((c : ℕ) → first_class s.edges ≡ c → get_or words (at + 2) 0 ≡ next_by s.edges c)
+      × ((c : ℕ) → first_class s.edges ≢ c → next_by s.edges c ≡ 1)
+  one-next is one =
+      by s.edges one (subst (λ f. AreWordsAt words (at + 2) (transition_words f alphabet s.edges)) is state-transitions)
     where
-      by : (edges : List (ℕ × ℕ)) → length edges ≡ 1 → AreWordsAt words (at + 2) (nexts_of edges) → (at + 2 < length words) × ((c : ℕ) → first_class edges ≡ c → get_or words (at + 2) 0 ≡ next_by edges c) × ((c : ℕ) → first_class edges ≢ c → next_by edges c ≡ 1)
+      by : (edges : List (ℕ × ℕ)) → length edges ≡ 1 → AreWordsAt words (at + 2) (nexts_of edges)
+          → (at + 2 < length words) × ((c : ℕ) → first_class edges ≡ c → get_or words (at + 2) 0 ≡ next_by edges c)
+          × ((c : ℕ) → first_class edges ≢ c → next_by edges c ≡ 1)
       by [] e t = absurd (omega (arith, e))
       by (edge ∷ []) e t =
           let item = stands-item words (edge.1 ∷ []) (at + 2) 0 (at + 2) t (omega arith) (omega arith) in (
@@ -134,8 +160,13 @@ module _ (words : List ℕ) (at alphabet : ℕ) (s : StateParts) (h : AreWordsAt
 
   -- the packed classes of a state with few transitions
   pub sparse-classes : form_of s ≡ Sparse → AreWordsAt words (at + 2) (packed (classes_of s.edges))
-  sparse-classes is = stands-left words (packed (classes_of s.edges)) (nexts_of s.edges) (at + 2) (subst (λ (f : Form). AreWordsAt words (at + 2) (transition_words f alphabet s.edges)) is state-transitions)
+  sparse-classes is =
+      stands-left words (packed (classes_of s.edges)) (nexts_of s.edges) (at + 2)
+      (subst (λ f. AreWordsAt words (at + 2) (transition_words f alphabet s.edges)) is state-transitions)
 
   -- the next states of a state with few transitions
-  pub sparse-nexts : form_of s ≡ Sparse → AreWordsAt words (at + 2 + length (packed (classes_of s.edges))) (nexts_of s.edges)
-  sparse-nexts is = stands-right words (packed (classes_of s.edges)) (nexts_of s.edges) (at + 2) (subst (λ (f : Form). AreWordsAt words (at + 2) (transition_words f alphabet s.edges)) is state-transitions)
+  pub sparse-nexts : form_of s ≡ Sparse
+      → AreWordsAt words (at + 2 + length (packed (classes_of s.edges))) (nexts_of s.edges)
+  sparse-nexts is =
+      stands-right words (packed (classes_of s.edges)) (nexts_of s.edges) (at + 2)
+      (subst (λ f. AreWordsAt words (at + 2) (transition_words f alphabet s.edges)) is state-transitions)

@@ -9,7 +9,8 @@ use Rattle.ac_tables.specs.Dfa.Filling.{RowPlan, entry_in, IsEntry, Written, Kep
 -- ---- lists of transitions
 
 -- appending a transition keeps the places of the others
-get-kept : (xs : List (ℕ × ℕ)) (x : ℕ × ℕ) (k : ℕ) (e : ℕ × ℕ) → slice_get xs k ≡ Some e → slice_get (xs ++ x ∷ []) k ≡ Some e
+get-kept : (xs : List (ℕ × ℕ)) (x : ℕ × ℕ) (k : ℕ) (e : ℕ × ℕ) → slice_get xs k ≡ Some e
+    → slice_get (xs ++ x ∷ []) k ≡ Some e
 get-kept [] x k e is = absurd (let f : None ≡ Some e = is in cc)
 get-kept (y ∷ ys) x zero e is = is
 get-kept (y ∷ ys) x (suc k) e is = get-kept ys x k e is
@@ -20,23 +21,27 @@ get-last [] x = refl
 get-last (y ∷ ys) x = get-last ys x
 
 -- every transition is an earlier one or the appended one
-get-either : (xs : List (ℕ × ℕ)) (x : ℕ × ℕ) (k : ℕ) (e : ℕ × ℕ) → slice_get (xs ++ x ∷ []) k ≡ Some e → (slice_get xs k ≡ Some e) ⊎ (e ≡ x)
+get-either : (xs : List (ℕ × ℕ)) (x : ℕ × ℕ) (k : ℕ) (e : ℕ × ℕ) → slice_get (xs ++ x ∷ []) k ≡ Some e
+    → (slice_get xs k ≡ Some e) ⊎ (e ≡ x)
 get-either [] x zero e is = let f : Some x ≡ Some e = is in inr cc
 get-either [] x (suc k) e is = absurd (let f : None ≡ Some e = is in cc)
 get-either (y ∷ ys) x zero e is = inl is
 get-either (y ∷ ys) x (suc k) e is = get-either ys x k e is
 
 -- the first transition that is left comes right after those that came before
-pub item-at : (edges done left more : List (ℕ × ℕ)) (x : ℕ × ℕ) → done ++ left ≡ edges → left ≡ x ∷ more → slice_get edges (length done) ≡ Some x
-item-at edges done left more x all is = subst (λ (es : List (ℕ × ℕ)). slice_get es (length done) ≡ Some x) (ap (λ (rest : List (ℕ × ℕ)). done ++ rest) (sym is) ∙ all) (first done)
+pub item-at : (edges done left more : List (ℕ × ℕ)) (x : ℕ × ℕ) → done ++ left ≡ edges → left ≡ x ∷ more
+    → slice_get edges (length done) ≡ Some x
+item-at edges done left more x all is =
+    subst (λ es. slice_get es (length done) ≡ Some x) (ap (λ rest. done ++ rest) (sym is) ∙ all) (first done)
   where
     first : (xs : List (ℕ × ℕ)) → slice_get (xs ++ x ∷ more) (length xs) ≡ Some x
     first [] = refl
     first (y ∷ ys) = first ys
 
 -- after that step it is one of the transitions that came before
-pub items-on : (edges done left more : List (ℕ × ℕ)) (x : ℕ × ℕ) → done ++ left ≡ edges → left ≡ x ∷ more → (done ++ x ∷ []) ++ more ≡ edges
-items-on edges done left more x all is = append_assoc done (x ∷ []) more ∙ (ap (λ (rest : List (ℕ × ℕ)). done ++ rest) (sym is) ∙ all)
+pub items-on : (edges done left more : List (ℕ × ℕ)) (x : ℕ × ℕ) → done ++ left ≡ edges → left ≡ x ∷ more
+    → (done ++ x ∷ []) ++ more ≡ edges
+items-on edges done left more x all is = append_assoc done (x ∷ []) more ∙ (ap (λ rest. done ++ rest) (sym is) ∙ all)
 
 -- ---- one row
 
@@ -45,7 +50,8 @@ pub changed-none : (stride at : ℕ) (xs : List ℕ) → IsChangedIn stride at x
 changed-none stride at xs = record { len = refl; before = λ k h. refl; after = λ k h. refl }
 
 -- one more place of the row has changed
-changed-more : (stride at x v : ℕ) (old new : List ℕ) → x < stride → IsChangedIn stride at old new → IsChangedIn stride at old (slice_set new (at + x) v)
+changed-more : (stride at x v : ℕ) (old new : List ℕ) → x < stride → IsChangedIn stride at old new
+    → IsChangedIn stride at old (slice_set new (at + x) v)
 changed-more stride at x v old new within h =
     record {
       len = length-set new (at + x) v ∙ h.len;
@@ -54,7 +60,8 @@ changed-more stride at x v old new within h =
     }
 
 -- two changes in a row one after the other are a change in that row
-pub changed-on : (stride at : ℕ) (old mid new : List ℕ) → IsChangedIn stride at old mid → IsChangedIn stride at mid new → IsChangedIn stride at old new
+pub changed-on : (stride at : ℕ) (old mid new : List ℕ) → IsChangedIn stride at old mid → IsChangedIn stride at mid new
+    → IsChangedIn stride at old new
 changed-on stride at old mid new g h =
     record {
       len = h.len ∙ g.len;
@@ -72,7 +79,10 @@ written-none p anchored at old = record {
 }
 
 -- one more transition is written
-pub written-more : (p : RowPlan) (anchored : Anchored) (at c next v : ℕ) (done : List (ℕ × ℕ)) (old new : List ℕ) → class p.classes c < p.stride → at + p.stride ≤ length old → v ≡ entry_in p anchored next → AreWritten p anchored at done old new → AreWritten p anchored at (done ++ (c, next) ∷ []) old (slice_set new (at + class p.classes c) v)
+pub written-more : (p : RowPlan) (anchored : Anchored) (at c next v : ℕ) (done : List (ℕ × ℕ)) (old new : List ℕ)
+    → class p.classes c < p.stride → at + p.stride ≤ length old → v ≡ entry_in p anchored next
+    → AreWritten p anchored at done old new
+    → AreWritten p anchored at (done ++ (c, next) ∷ []) old (slice_set new (at + class p.classes c) v)
 written-more p anchored at c next v done old new within room is h =
     let place = at + class p.classes c in
     let len = h.alone.len in
@@ -81,22 +91,29 @@ written-more p anchored at c next v done old new within room is h =
       entries = λ x in_row.
           ⊎_elim
           (λ (here : class p.classes c ≡ x).
-          let same : at + x ≡ place = ap (λ (n : ℕ). at + n) (sym here) in
-          let read : slice_index (slice_set new place v) (at + x) ≡ v = ap (slice_index (slice_set new place v)) same ∙ get_or-set_same new place v 0 (omega (arith, within, room, len)) in
+          let same : at + x ≡ place = ap (λ n. at + n) (sym here) in
+          let read : slice_index (slice_set new place v) (at + x) ≡ v = ap (slice_index (slice_set new place v)) same
+          ∙ get_or-set_same new place v 0 (omega (arith, within, room, len)) in
           Written (length done) c next (get-last done (c, next), here) (read ∙ is))
           (λ (there : class p.classes c ≢ x).
-          let read : slice_index (slice_set new place v) (at + x) ≡ slice_index new (at + x) = get_or-set_other new place (at + x) v 0 (omega (arith, there)) in
+          let read : slice_index (slice_set new place v) (at + x) ≡ slice_index new (at + x) =
+          get_or-set_other new place (at + x) v 0 (omega (arith, there)) in
           by x there read (h.entries x in_row))
           (cases_eq (class p.classes c) x);
     }
   where
-    by : (x : ℕ) → class p.classes c ≢ x → slice_index (slice_set new (at + class p.classes c) v) (at + x) ≡ slice_index new (at + x) → IsEntry p anchored done x (slice_index old (at + x)) (slice_index new (at + x)) → IsEntry p anchored (done ++ (c, next) ∷ []) x (slice_index old (at + x)) (slice_index (slice_set new (at + class p.classes c) v) (at + x))
-    by x there read (Written k byte to has entry) = Written k byte to (get-kept done (c, next) k (byte, to) has.0, has.1) (read ∙ entry)
+    by : (x : ℕ) → class p.classes c ≢ x
+        → slice_index (slice_set new (at + class p.classes c) v) (at + x) ≡ slice_index new (at + x)
+        → IsEntry p anchored done x (slice_index old (at + x)) (slice_index new (at + x))
+        → IsEntry p anchored (done ++ (c, next) ∷ []) x (slice_index old (at + x))
+        (slice_index (slice_set new (at + class p.classes c) v) (at + x))
+    by x there read (Written k byte to has entry) =
+        Written k byte to (get-kept done (c, next) k (byte, to) has.0, has.1) (read ∙ entry)
     by x there read (Kept none kept) =
         Kept
         (λ k byte to has.
         ⊎_elim
         (λ (before : slice_get done k ≡ Some (byte, to)). none k byte to (before, has.1))
-        (λ (last : (byte, to) ≡ (c, next)). there (ap (λ (e : ℕ × ℕ). class p.classes e.0) (sym last) ∙ has.1))
+        (λ (last : (byte, to) ≡ (c, next)). there (ap (λ e. class p.classes e.0) (sym last) ∙ has.1))
         (get-either done (c, next) k (byte, to) has.0))
         (read ∙ kept)

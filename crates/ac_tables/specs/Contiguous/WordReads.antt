@@ -10,11 +10,13 @@ use Rattle.ac_tables.specs.Contiguous.Words.{StateParts, dense_kind, one_kind, k
 -- the first place of the wanted byte among some bytes, if it is there
 abbrev pub IsFirstPlace : List ℕ → ℕ → Option ℕ → Type 0
 IsFirstPlace bytes wanted None = (k : ℕ) → k < length bytes → slice_index bytes k ≢ wanted
-IsFirstPlace bytes wanted (Some at) = (at < length bytes) × (slice_index bytes at ≡ wanted) × ((k : ℕ) → k < at → slice_index bytes k ≢ wanted)
+IsFirstPlace bytes wanted (Some at) =
+    (at < length bytes) × (slice_index bytes at ≡ wanted) × ((k : ℕ) → k < at → slice_index bytes k ≢ wanted)
 
 -- ---- one state
 
--- A state stands at a place: its words are there. The class of each transition is one of the alphabet, and each byte leads to a
+-- A state stands at a place: its words are there. The class of each transition is one of the alphabet, and each byte
+-- leads to a
 -- number that isn't too great.
 pub record IsStateAt (table : Table) (sid : ℕ) (s : StateParts) : Type 0 where
   pub stands : AreWordsAt table.words.items sid (words_of table.alphabet_len s)
@@ -31,7 +33,8 @@ pub record IsSparseAt (table : Table) (sid len : ℕ) : Type 0 where
 
 -- where a byte leads from a state by its transitions
 abbrev pub ByteLeadsTo : Table → ℕ → ℕ → ℕ → Type 0
-ByteLeadsTo table sid byte next = ((s : StateParts) → IsStateAt table sid s → next ≡ next_by s.edges (class table.classes byte))
+ByteLeadsTo table sid byte next =
+    ((s : StateParts) → IsStateAt table sid s → next ≡ next_by s.edges (class table.classes byte))
 
 -- The byte leads from the unanchored start back to it, and no pattern matches there.
 pub record IsIdleAt (table : Table) (byte : ℕ) : Type 0 where
@@ -40,15 +43,19 @@ pub record IsIdleAt (table : Table) (byte : ℕ) : Type 0 where
 
 -- how many words the transitions of a state have, by its kind
 abbrev pub transitions_len : ℕ → ℕ → ℕ
-transitions_len alphabet kind = if kind == dense_kind then alphabet else if kind == one_kind then 1 else kind + (kind + 3) / 4
+transitions_len alphabet kind =
+    if kind == dense_kind then alphabet else if kind == one_kind then 1 else kind + (kind + 3) / 4
 
 -- where the patterns of a state begin
 abbrev pub list_place : Table → ℕ → ℕ
-list_place table sid = sid + head_len + transitions_len table.alphabet_len (slice_index table.words.items sid % kind_count)
+list_place table sid =
+    sid + head_len + transitions_len table.alphabet_len (slice_index table.words.items sid % kind_count)
 
 -- the patterns whose words begin at a place
 abbrev pub list_from : List ℕ → ℕ → List ℕ
-list_from words at = if nat_le one_pattern (slice_index words at) then (slice_index words at - one_pattern) ∷ [] else take (slice_index words at) (drop (at + 1) words)
+list_from words at =
+    if nat_le one_pattern (slice_index words at) then (slice_index words at - one_pattern) ∷ []
+    else take (slice_index words at) (drop (at + 1) words)
 
 -- the patterns of a state that has some
 abbrev pub listed_at : Table → ℕ → List ℕ
@@ -62,4 +69,5 @@ matches_by table sid = if not (sid == 0) && nat_le sid table.max_match then list
 pub record HasWordList (table : Table) (sid : ℕ) : Type 0 where
   pub first : sid < length table.words.items
   pub list : list_place table sid < length table.words.items
-  pub rest : slice_index table.words.items (list_place table sid) < one_pattern → list_place table sid + 1 + slice_index table.words.items (list_place table sid) ≤ length table.words.items
+  pub rest : slice_index table.words.items (list_place table sid) < one_pattern
+      → list_place table sid + 1 + slice_index table.words.items (list_place table sid) ≤ length table.words.items

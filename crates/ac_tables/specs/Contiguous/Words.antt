@@ -1,13 +1,15 @@
 -- The words in which the contiguous automaton stores a state.
 --
--- A state is a few 32-bit words: its kind, its failure, the classes of sparse transitions, the transitions, and its patterns if
+-- A state is a few 32-bit words: its kind, its failure, the classes of sparse transitions, the transitions, and its
+-- patterns if
 -- any.
 use Rattle.std.specs.Prelude.{◌≡◌, ℕ, zero, suc, ◌+◌, ◌*◌, ◌/◌, ◌<◌, ◌≤◌, nat_lt, ◌==◌, ◌&&◌, ◌||◌, Bool, if◌then◌else◌, map, List, [], ◌∷◌, ◌++◌, length, take, drop}
 use Rattle.std.specs.List.{All, range_with_len}
 use Rattle.ac_automaton.specs.Named.{nowhere}
 use Rattle.ac_input.specs.Number.{greatest_number}
 
--- The parts of a state: whether it is shallow enough to have an entry for each class, the place of its failure, the class of each
+-- The parts of a state: whether it is shallow enough to have an entry for each class, the place of its failure, the
+-- class of each
 -- transition with the place of the next state, and the patterns that match.
 pub record StateParts : Type 0 where
   pub shallow : Bool
@@ -69,7 +71,8 @@ abbrev pub first_class : List (ℕ × ℕ) → ℕ
 first_class [] = 0
 first_class (edge ∷ edges) = edge.0
 
--- the kind of a dense state, and that of one with a single transition; that of a sparse state is how many transitions it has
+-- the kind of a dense state, and that of one with a single transition; that of a sparse state is how many transitions
+-- it has
 abbrev pub dense_kind : ℕ
 dense_kind = 255
 
@@ -108,25 +111,29 @@ match_words (n ∷ o ∷ ns) = length (n ∷ o ∷ ns) ∷ n ∷ o ∷ ns
 
 -- the words of a state
 abbrev pub words_of : ℕ → StateParts → List ℕ
-words_of alphabet s = kind_word (form_of s) s.edges ∷ s.fail ∷ (transition_words (form_of s) alphabet s.edges ++ match_words s.matches)
+words_of alphabet s =
+    kind_word (form_of s) s.edges ∷ s.fail ∷ (transition_words (form_of s) alphabet s.edges ++ match_words s.matches)
 
 -- how many words stand before the transitions: the kind and the failure
 abbrev pub head_len : ℕ
 head_len = 2
 
--- How many words a state takes: its head, its transitions by their form, and its patterns, which are counted where there are
+-- How many words a state takes: its head, its transitions by their form, and its patterns, which are counted where
+-- there are
 -- several.
 abbrev pub word_count : ℕ → Bool → ℕ → ℕ → ℕ
 word_count alphabet shallow transitions matches =
     head_len
-    + (if shallow || nat_lt most_sparse transitions then alphabet else if (transitions == 1) && (matches == 0) then 1 else (transitions + 3) / 4 + transitions)
+    + (if shallow || nat_lt most_sparse transitions then alphabet else if (transitions == 1) && (matches == 0) then 1
+    else (transitions + 3) / 4 + transitions)
     + (if nat_lt 1 matches then matches + 1 else matches)
 
 -- the words of a state but for its patterns
 abbrev pub leading_words : ℕ → StateParts → List ℕ
 leading_words alphabet s = kind_word (form_of s) s.edges ∷ s.fail ∷ transition_words (form_of s) alphabet s.edges
 
--- A state's words can be written: each transition's class is one of the alphabet, and the count of patterns isn't too great.
+-- A state's words can be written: each transition's class is one of the alphabet, and the count of patterns isn't too
+-- great.
 pub record CanBeWritten (alphabet : ℕ) (s : StateParts) : Type 0 where
   pub fits : All (λ edge. edge.0 < alphabet) s.edges
   pub few : length s.matches ≤ greatest_number + 1

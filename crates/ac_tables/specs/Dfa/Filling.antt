@@ -15,7 +15,7 @@ use Rattle.ac_noncontiguous.specs.Nfa.Reads.{dictionary}
 use Rattle.ac_noncontiguous.specs.Nfa.ReadCalls.{state_len, depth_in, special_in, classes_in, MayBeMet}
 use Rattle.ac_input.specs.Alphabet.Classes.{AreByteClasses}
 use Rattle.ac_noncontiguous.specs.Nfa.{AreTables}
-use Rattle.ac_tables.specs.Dfa.DfaTable.{dfa_number_of, IsCell}
+use Rattle.ac_tables.specs.Dfa.Table.{dfa_number_of, IsCell}
 
 -- ---- the size
 
@@ -35,9 +35,11 @@ pub record RowPlan : Type 0 where
 
 -- where the row of a state begins, for searches of this anchoring
 abbrev pub number_in : RowPlan → Anchored → ℕ → ℕ
-number_in p anchored sid = dfa_number_of p.kind (special_in p.nfa).start_unanchored_id p.stride (is_anchored anchored) sid
+number_in p anchored sid =
+    dfa_number_of p.kind (special_in p.nfa).start_unanchored_id p.stride (is_anchored anchored) sid
 
--- What all rows need of an automaton: its states stand for texts, and both starts are states past the first two. Each byte is the
+-- What all rows need of an automaton: its states stand for texts, and both starts are states past the first two. Each
+-- byte is the
 -- partner of its partner, and the classes are those of the dictionary.
 pub record IsSource (nfa : NFA) : Type 0 where
   pub stand : ∥ ((text : ℕ → List ℕ) × AreTables (dictionary nfa) text nfa.tables) ∥₁
@@ -45,20 +47,25 @@ pub record IsSource (nfa : NFA) : Type 0 where
   pub paired : IsPairing (dictionary nfa).pairing
   pub classes : (∥ AreByteClasses (dictionary nfa) (classes_in nfa) ∥₁)
 
--- Each class has a place in a row. Bytes of one class share one of the automaton's own classes too. The last row's number isn't
+-- Each class has a place in a row. Bytes of one class share one of the automaton's own classes too. The last row's
+-- number isn't
 -- too great.
 pub record IsFit (p : RowPlan) : Type 0 where
   pub source : IsSource p.nfa
   pub wide : p.stride ≤ 256
   pub letters : (byte : ℕ) → byte < 256 → class p.classes byte < p.stride
-  pub finer : (b c : ℕ) → b < 256 → c < 256 → class p.classes b ≡ class p.classes c → class (classes_in p.nfa) b ≡ class (classes_in p.nfa) c
+  pub finer : (b c : ℕ) → b < 256 → c < 256 → class p.classes b ≡ class p.classes c
+      → class (classes_in p.nfa) b ≡ class (classes_in p.nfa) c
   pub few : (dfa_states p.kind (state_len p.nfa) - 1) * p.stride ≤ greatest_number
 
 -- ---- one row
 
 -- the row of a state is right: each byte's entry is the number of the state to which it leads
 abbrev pub IsRowRight : RowPlan → Anchored → ℕ → List ℕ → Type 0
-IsRowRight p anchored sid trans = (byte : ℕ) → byte < 256 → (next : ℕ) × IsCell p.nfa p.kind p.stride (slice_index trans (number_in p anchored sid + class p.classes byte)) anchored sid byte next
+IsRowRight p anchored sid trans =
+    (byte : ℕ) → byte < 256 → (next : ℕ)
+    × IsCell p.nfa p.kind p.stride (slice_index trans (number_in p anchored sid + class p.classes byte)) anchored sid
+    byte next
 
 -- the `stride` entries from `at` on hold nothing but the dead state
 abbrev pub IsUnwritten : ℕ → ℕ → List ℕ → Type 0
@@ -76,23 +83,30 @@ entry_in p anchored next = if next == 1 then 0 else number_in p anchored next
 
 -- A class has the entry of a transition whose byte is in the class. If no transition has one, it keeps its old entry.
 pub data IsEntry (p : RowPlan) (anchored : Anchored) (edges : List (ℕ × ℕ)) (x old new : ℕ) : Type 0 where
-  Written : (k byte next : ℕ) → ((slice_get edges k ≡ Some (byte, next)) × (class p.classes byte ≡ x)) → new ≡ entry_in p anchored next → IsEntry p anchored edges x old new
-  Kept : ((k byte next : ℕ) → ¬ ((slice_get edges k ≡ Some (byte, next)) × (class p.classes byte ≡ x))) → new ≡ old → IsEntry p anchored edges x old new
+  Written : (k byte next : ℕ) → ((slice_get edges k ≡ Some (byte, next)) × (class p.classes byte ≡ x))
+      → new ≡ entry_in p anchored next → IsEntry p anchored edges x old new
+  Kept : ((k byte next : ℕ) → ¬ ((slice_get edges k ≡ Some (byte, next)) × (class p.classes byte ≡ x))) → new ≡ old
+      → IsEntry p anchored edges x old new
 
 -- some transitions are written over a row
-pub record AreWritten (p : RowPlan) (anchored : Anchored) (at : ℕ) (edges : List (ℕ × ℕ)) (old new : List ℕ) : Type 0 where
+pub record AreWritten (p : RowPlan) (anchored : Anchored) (at : ℕ) (edges : List (ℕ × ℕ))
+    (old new : List ℕ) : Type 0 where
   pub alone : IsChangedIn p.stride at old new
-  pub entries : (x : ℕ) → x < p.stride → IsEntry p anchored edges x (slice_index old (at + x)) (slice_index new (at + x))
+  pub entries : (x : ℕ) → x < p.stride
+      → IsEntry p anchored edges x (slice_index old (at + x)) (slice_index new (at + x))
 
 -- ---- all rows
 
--- State `plain` has the right row for unanchored searches, and state `anchored` has the right row for anchored ones, if these
+-- State `plain` has the right row for unanchored searches, and state `anchored` has the right row for anchored ones, if
+-- these
 -- searches are served. All other rows are unchanged.
 pub record AreRowsFilled (p : RowPlan) (plain anchored : ℕ) (old new : List ℕ) : Type 0 where
   pub len : length new ≡ length old
   pub row : Serves p.kind No → IsRowRight p No plain new
   pub row_anchored : Serves p.kind Yes → IsRowRight p Yes anchored new
-  pub others : (a : Anchored) (sid x : ℕ) → Serves p.kind a → MayBeMet p.nfa a sid → (a ≡ No → sid ≢ plain) → (a ≡ Yes → sid ≢ anchored) → x < p.stride → slice_index new (number_in p a sid + x) ≡ slice_index old (number_in p a sid + x)
+  pub others : (a : Anchored) (sid x : ℕ) → Serves p.kind a → MayBeMet p.nfa a sid → (a ≡ No → sid ≢ plain)
+      → (a ≡ Yes → sid ≢ anchored) → x < p.stride
+      → slice_index new (number_in p a sid + x) ≡ slice_index old (number_in p a sid + x)
 
 -- The row of a state is filled: the state comes before `low`, or is the unanchored start or after it and before `high`.
 abbrev pub IsDone : ℕ → ℕ → ℕ → ℕ → Type 0
@@ -101,10 +115,13 @@ IsDone start low high sid = (sid < low) ⊎ ((start ≤ sid) × (sid < high))
 -- the filled rows are right, and all others are blank
 pub record AreRowsUpTo (p : RowPlan) (low high : ℕ) (trans : List ℕ) : Type 0 where
   pub len : length trans ≡ dfa_states p.kind (state_len p.nfa) * p.stride
-  pub right : (a : Anchored) (sid : ℕ) → Serves p.kind a → MayBeMet p.nfa a sid → IsDone (special_in p.nfa).start_unanchored_id low high sid → IsRowRight p a sid trans
-  pub blank : (a : Anchored) (sid : ℕ) → Serves p.kind a → MayBeMet p.nfa a sid → (¬ IsDone (special_in p.nfa).start_unanchored_id low high sid) → IsUnwritten p.stride (number_in p a sid) trans
+  pub right : (a : Anchored) (sid : ℕ) → Serves p.kind a → MayBeMet p.nfa a sid
+      → IsDone (special_in p.nfa).start_unanchored_id low high sid → IsRowRight p a sid trans
+  pub blank : (a : Anchored) (sid : ℕ) → Serves p.kind a → MayBeMet p.nfa a sid
+      → (¬ IsDone (special_in p.nfa).start_unanchored_id low high sid) → IsUnwritten p.stride (number_in p a sid) trans
 
--- The next state to be filled is the first run's, if that has one no deeper than the second run's, or if the second run has ended.
+-- The next state to be filled is the first run's, if that has one no deeper than the second run's, or if the second run
+-- has ended.
 pub record IsMerged (nfa : NFA) (start low high : ℕ) (first : Bool) : Type 0 where
   pub yes : first ≡ true → (low < start) × ((high < state_len nfa) → depth_in nfa low ≤ depth_in nfa high)
   pub no : first ≡ false → (high < state_len nfa) × ((low < start) → depth_in nfa high < depth_in nfa low)

@@ -10,9 +10,9 @@
 ghost use Rattle.std.specs.Prelude.{false, ◌≡◌};
 ghost use Rattle.ac_automaton.specs.Automaton.{IsReached};
 ghost use Rattle.ac_automaton.specs.Named.{nowhere};
-ghost use Rattle.ac_automaton.specs.ReadOn.{ReadsTo};
+ghost use Rattle.ac_automaton.specs.Look.{ReadsTo};
 ghost use Rattle.ac_input.specs.Input.{is_anchored};
-ghost use Rattle.ac_tables.specs.Contiguous.ContiguousReads.{contiguous_built_as, IsContiguousRead, IsMet, LooksUp};
+ghost use Rattle.ac_tables.specs.Contiguous.Reads.{contiguous_built_as, IsContiguousRead, IsMet, LooksUp};
 ghost use Rattle.ac_tables.specs.Contiguous.WordReads.{ByteLeadsTo, IsStateAt};
 ghost use Rattle.ac_tables.specs.Contiguous.Words.{StateParts};
 
@@ -107,7 +107,7 @@ impl NFA {
 }
 
 impl LookUp for NFA {
-    ghost use Rattle.ac_tables.specs.Contiguous.ContiguousReads.{contiguous_built_as, IsContiguousRead, contiguous_matches_at};
+    ghost use Rattle.ac_tables.specs.Contiguous.Reads.{contiguous_built_as, IsContiguousRead, contiguous_matches_at};
 
     ghost built = { contiguous_built_as };
 
@@ -117,17 +117,13 @@ impl LookUp for NFA {
 
     ghost tells = { λ nfa anchored text sid reads. reads.tells };
 
-    ghost lives = { λ nfa anchored text sid reads. reads.lives };
-
-    ghost pairs = { λ nfa anchored text sid reads. reads.inverse };
-
     #[inline(always)]
     fn look_up(&self, anchored: Anchored, sid: StateID, byte: u8, steps: &mut Steps) -> StateID {
         self.next(anchored, sid, byte, steps)
     }
 
     #[inline(always)]
-    fn read_on(
+    fn read_until(
         &self,
         anchored: Anchored,
         sid: StateID,
@@ -146,7 +142,7 @@ impl LookUp for NFA {
 }
 
 impl Automaton for NFA {
-    ghost use Rattle.ac_tables.specs.Contiguous.ContiguousReads.{contiguous_built_as, IsContiguousRead, contiguous_matches_at, is_contiguous_start_at, is_contiguous_special_at};
+    ghost use Rattle.ac_tables.specs.Contiguous.Reads.{contiguous_built_as, IsContiguousRead, contiguous_matches_at, is_contiguous_start_at, is_contiguous_special_at};
 
     ghost built = { contiguous_built_as };
 
@@ -161,10 +157,6 @@ impl Automaton for NFA {
     ghost special = { is_contiguous_special_at };
 
     ghost tells = { λ nfa anchored text sid reads. reads.tells };
-
-    ghost lives = { λ nfa anchored text sid reads. reads.lives };
-
-    ghost pairs = { λ nfa anchored text sid reads. reads.inverse };
 
     ghost stops = { λ nfa anchored text sid reads. reads.stops };
 

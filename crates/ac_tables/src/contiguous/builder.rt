@@ -7,9 +7,9 @@ ghost use Rattle.std.specs.Prelude.{◌≡◌, Some, IfOk, IfErr, Bool};
 ghost use Rattle.ac_input.specs.Pairing.{IsFolded};
 ghost use Rattle.ac_noncontiguous.specs.Builder.{AreDefaultSettings, ByDefault};
 ghost use Rattle.ac_noncontiguous.specs.Nfa.Reads.{dictionary};
-ghost use Rattle.ac_tables.specs.Contiguous.ContiguousBuild.{IsRefusedFor};
-ghost use Rattle.ac_tables.specs.Contiguous.ContiguousBuilder.{IsLaidOf, IsMadeFrom, IsRefusedFrom, IsContiguousBuilt, IsContiguousBuildRefused};
-ghost use Rattle.ac_tables.specs.TableClasses.{AreServing, AreClassesFor};
+ghost use Rattle.ac_tables.specs.Contiguous.Build.{IsRefusedFor};
+ghost use Rattle.ac_tables.specs.Contiguous.Builder.{IsLaidOf, IsMadeFrom, IsRefusedFrom, IsContiguousBuilt, IsContiguousBuildRefused};
+ghost use Rattle.ac_tables.specs.Source.{AreServing, AreClassesFor};
 
 use crate::contiguous::NFA;
 use crate::contiguous::filled::rows_of;
@@ -19,7 +19,7 @@ use crate::contiguous::states::words;
 use crate::contiguous::table::Table;
 use crate::source::{classes_of, source_of};
 use ac_automaton::automaton::Automaton;
-use ac_automaton::held::clone_held;
+use ac_automaton::skip::clone_prefilter;
 use ac_input::alphabet::ByteClasses;
 use ac_input::pairing::Pairing;
 use ac_input::search::MatchKind;
@@ -228,7 +228,7 @@ impl Builder {
         let dense_depth = settings.dense_depth.unwrap_or(DENSE_DEPTH);
         let laid = lay(alloc, nfa, dense_depth, settings.row_memory, classes)?;
         let lens = nfa.pattern_lens().clone(alloc)?;
-        let prefilter = clone_held(alloc, nfa.prefilter())?;
+        let prefilter = clone_prefilter(alloc, nfa.prefilter())?;
         let openings = nfa.openings();
         let kind = nfa.match_kind();
         Ok(NFA::from_parts(

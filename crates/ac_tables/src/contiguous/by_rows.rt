@@ -1,6 +1,6 @@
 //! Reading on by rows, where an automaton has some: one look for a byte.
 ghost use Rattle.std.specs.Prelude.{◌≡◌, ◌≤◌, Some, IsTrue, length};
-ghost use Rattle.ac_tables.specs.Dfa.DfaLookups.{ArePlain};
+ghost use Rattle.ac_tables.specs.Dfa.Lookups.{ArePlain};
 
 use crate::contiguous::NFA;
 use crate::contiguous::rows::Rows;
@@ -26,8 +26,8 @@ struct ByRows<'a> {
 
 impl<'a> LookUp for ByRows<'a> {
     ghost use Rattle.ac_tables.specs.Contiguous.ByRows.{by_rows_built_as, IsRowRead, row_matches_at};
-    ghost use Rattle.ac_tables.specs.Contiguous.ContiguousReads.{contiguous_matches_at};
-    ghost use Rattle.ac_tables.specs.Contiguous.ContiguousRows.{place_in_row};
+    ghost use Rattle.ac_tables.specs.Contiguous.Reads.{contiguous_matches_at};
+    ghost use Rattle.ac_tables.specs.Contiguous.Rows.{place_in_row};
 
     ghost built = { by_rows_built_as };
 
@@ -36,10 +36,6 @@ impl<'a> LookUp for ByRows<'a> {
     ghost matches = { row_matches_at };
 
     ghost tells = { λ by anchored text row reads. reads.tells };
-
-    ghost lives = { λ by anchored text row reads. reads.lives };
-
-    ghost pairs = { λ by anchored text row reads. reads.inverse };
 
     #[inline(always)]
     fn look_up(&self, anchored: Anchored, sid: StateID, byte: u8, steps: &mut Steps) -> StateID {
@@ -58,11 +54,11 @@ impl NFA {
     ghost use Rattle.std.specs.Prelude.{◌+◌, [], take, IfSome};
     ghost use Rattle.ac_automaton.specs.Ahead.{ReadsAhead};
     ghost use Rattle.ac_automaton.specs.Automaton.{IsReached};
-    ghost use Rattle.ac_automaton.specs.ReadOn.{ReadsTo};
+    ghost use Rattle.ac_automaton.specs.Look.{ReadsTo};
     ghost use Rattle.ac_input.specs.declared.search.Anchored.TheVariants.{No};
     ghost use Rattle.ac_tables.specs.Contiguous.ByRows.{ReadsRows};
-    ghost use Rattle.ac_tables.specs.Contiguous.ContiguousReads.{contiguous_built_as, contiguous_matches_at, IsContiguousRead};
-    ghost use Rattle.ac_tables.specs.Contiguous.ContiguousRows.{IsRowIn, place_in_row};
+    ghost use Rattle.ac_tables.specs.Contiguous.Reads.{contiguous_built_as, contiguous_matches_at, IsContiguousRead};
+    ghost use Rattle.ac_tables.specs.Contiguous.Rows.{IsRowIn, place_in_row};
 
     /// Reads on to the first state between two numbers, these included, or to the last byte, by the rows of the automaton.
     #[inline(always)]
@@ -84,7 +80,7 @@ impl NFA {
             rows,
             plain: is_plain(&self.table.classes),
         };
-        let stop = by.read_on(Anchored::No, row, bytes, two, steps);
+        let stop = by.read_until(Anchored::No, row, bytes, two, steps);
         Advance {
             sid: rows.place(stop.sid),
             taken: stop.taken,

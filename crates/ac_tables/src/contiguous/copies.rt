@@ -1,13 +1,13 @@
 //! Copies of a contiguous automaton.
 ghost use Rattle.std.specs.Prelude.{IfOk};
-ghost use Rattle.ac_tables.specs.Contiguous.ContiguousBuild.{IsCopiedTable};
-ghost use Rattle.ac_tables.specs.Contiguous.ContiguousBuilder.{IsContiguousCopy};
-ghost use Rattle.ac_tables.specs.Contiguous.ContiguousRows.{AreSameIfAny};
+ghost use Rattle.ac_tables.specs.Contiguous.Build.{IsCopiedTable};
+ghost use Rattle.ac_tables.specs.Contiguous.Builder.{IsContiguousCopy};
+ghost use Rattle.ac_tables.specs.Contiguous.Rows.{AreSameIfAny};
 
 use crate::contiguous::NFA;
 use crate::contiguous::rows::Rows;
 use crate::contiguous::table::Table;
-use ac_automaton::held::clone_held;
+use ac_automaton::skip::clone_prefilter;
 use std::alloc::{AllocError, Global};
 
 /// A copy of the table.
@@ -39,7 +39,7 @@ impl NFA {
     pub fn clone(&self, alloc: Global) -> Result<NFA, AllocError>
         ensures { IfOk result (IsContiguousCopy self.now) }
     {
-        let prefilter = clone_held(alloc, self.prefilter.as_ref())?;
+        let prefilter = clone_prefilter(alloc, self.prefilter.as_ref())?;
         let lens = self.lens.clone(alloc)?;
         let table = clone_table(alloc, &self.table)?;
         let rows = clone_rows(alloc, &self.rows)?;

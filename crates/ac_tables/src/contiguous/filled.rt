@@ -2,10 +2,10 @@
 ghost use Rattle.std.specs.Prelude.{◌≡◌, ◌↔◌, ◌+◌, ◌*◌, ◌<◌, ◌≤◌, IsTrue, length, IfOk, IfSome, IsSome, Bool};
 ghost use Rattle.ac_input.specs.Number.{greatest_number};
 ghost use Rattle.ac_noncontiguous.specs.Nfa.ReadCalls.{state_len};
-ghost use Rattle.ac_tables.specs.Contiguous.ContiguousBuild.{HasStride, AreRowsFrom};
-ghost use Rattle.ac_tables.specs.Contiguous.ContiguousRows.{bytes_of_rows};
-ghost use Rattle.ac_tables.specs.Contiguous.RowMemory.{AreRowsSmall, AreSmall, rows_bytes};
-ghost use Rattle.ac_tables.specs.TableClasses.{AreClassesFor};
+ghost use Rattle.ac_tables.specs.Contiguous.Build.{HasStride, AreRowsFrom};
+ghost use Rattle.ac_tables.specs.Contiguous.Rows.{bytes_of_rows};
+ghost use Rattle.ac_tables.specs.Contiguous.Filled.{AreRowsSmall, AreSmall, rows_bytes};
+ghost use Rattle.ac_tables.specs.Source.{AreClassesFor};
 ghost use Rattle.ac_tables.specs.Contiguous.Cut.{Rise};
 
 use crate::contiguous::rows::{ENTRY, Rows, index_len, index_of};

@@ -5,9 +5,9 @@
 ghost use Rattle.std.specs.Prelude.{◌≡◌, ◌+◌, ◌<◌, ◌≤◌, ◌==◌, ◌++◌, ◌∷◌, [], length, IfOk, IfErr};
 ghost use Rattle.ac_input.specs.Number.{greatest_number};
 ghost use Rattle.ac_noncontiguous.specs.Nfa.ReadCalls.{state_len, edges_in};
-ghost use Rattle.ac_tables.specs.Contiguous.ContiguousTable.{len_at};
+ghost use Rattle.ac_tables.specs.Contiguous.Table.{len_at};
 ghost use Rattle.ac_tables.specs.Contiguous.Words.{word_count};
-ghost use Rattle.ac_tables.specs.Contiguous.ContiguousBuild.{ArePlacesIn, IsPlaceAfter, IsPlaceTooGreat, IsRefusedFor};
+ghost use Rattle.ac_tables.specs.Contiguous.Build.{ArePlacesIn, IsPlaceAfter, IsPlaceTooGreat, IsRefusedFor};
 
 use crate::contiguous::layout::{HEAD, MOST_SPARSE};
 use ac_input::alphabet::ByteClasses;

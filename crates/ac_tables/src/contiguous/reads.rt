@@ -15,7 +15,7 @@ use ac_input::primitives::{PatternID, StateID};
 
 /// So many words, from a place on.
 #[inline]
-fn part(words: &[u32], from: usize, len: usize) -> &[u32]
+fn words_from(words: &[u32], from: usize, len: usize) -> &[u32]
     requires { from + len ≤ length words.now }
     ensures { result.now ≡ take len (drop from words.now) }
 {
@@ -56,7 +56,7 @@ impl Table {
     {
         let first = sid.as_usize() + HEAD;
         let packed = (len + 3) / 4;
-        match place_of(part(&self.words, first, packed), class) {
+        match place_of(words_from(&self.words, first, packed), class) {
             Some(at) => self.words[first + packed + at],
             None => NOWHERE,
         }

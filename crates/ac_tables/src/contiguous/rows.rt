@@ -8,7 +8,7 @@
 //! Where the row of a place or the range isn't found so, the search goes on by the words.
 ghost use Rattle.std.specs.Prelude.{◌≡◌, ◌+◌, ◌*◌, ◌^◌, ◌<◌, ◌≤◌, length, IfOk};
 ghost use Rattle.ac_input.specs.Number.{greatest_number};
-ghost use Rattle.ac_tables.specs.Contiguous.RowMemory.{index_entries};
+ghost use Rattle.ac_tables.specs.Contiguous.Filled.{index_entries};
 ghost use Rattle.ac_tables.specs.Contiguous.Cut.{Rise};
 
 use ac_automaton::ahead::Note;
@@ -82,7 +82,7 @@ impl Rows {
     ghost use Rattle.std.specs.Prelude.{◌⊎◌, IsTrue, IfSome, map, take};
     ghost use Rattle.std.specs.List.{All};
     ghost use Rattle.ac_tables.specs.Contiguous.Cut.{AreBelow, AreNotBelow, IsCountBelow};
-    ghost use Rattle.ac_tables.specs.Contiguous.ContiguousRows.{row_len, place_in_row, IsRowIn, AreRowsAt, IsLastUpTo, IsNoteOfRows, note_placed, AreRowsBetween, AreSameRows};
+    ghost use Rattle.ac_tables.specs.Contiguous.Rows.{row_len, place_in_row, IsRowIn, AreRowsAt, IsLastUpTo, IsNoteOfRows, note_placed, AreRowsBetween, AreSameRows};
 
     /// How many entries a row has.
     #[inline]

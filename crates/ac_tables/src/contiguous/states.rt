@@ -1,7 +1,7 @@
 //! The words of all states, one state after another.
 ghost use Rattle.std.specs.Prelude.{◌≡◌, ◌<◌, length, IfOk};
 ghost use Rattle.ac_noncontiguous.specs.Nfa.ReadCalls.{state_len, edges_in, AreEdges};
-ghost use Rattle.ac_tables.specs.Contiguous.ContiguousBuild.{ArePlacesIn, AreReadBy, IsWritten, AreAllWritten};
+ghost use Rattle.ac_tables.specs.Contiguous.Build.{ArePlacesIn, AreReadBy, IsWritten, AreAllWritten};
 
 use crate::contiguous::words::{Parts, push_state};
 use ac_input::alphabet::ByteClasses;

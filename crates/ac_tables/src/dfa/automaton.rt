@@ -6,9 +6,9 @@
 //! may begin by its first bytes; where few bytes lead out of the start, it finds the next of these by `memchr`. Elsewhere a search
 //! of a stream reads four parts of its bytes side by side.
 ghost use Rattle.std.specs.Prelude.{[], ◌∷◌, IsTrue};
-ghost use Rattle.ac_automaton.specs.Automaton.{IsReached, Leads};
-ghost use Rattle.ac_tables.specs.Dfa.DfaLookups.{ArePlain};
-ghost use Rattle.ac_tables.specs.Dfa.DfaReads.{dfa_built_as, IsDfaRead, CostsReading};
+ghost use Rattle.ac_automaton.specs.Automaton.{IsReached, Leads, IsReadCost};
+ghost use Rattle.ac_tables.specs.Dfa.Lookups.{ArePlain};
+ghost use Rattle.ac_tables.specs.Dfa.Reads.{dfa_built_as, IsDfaRead};
 
 use crate::dfa::DFA;
 use crate::rows::is_plain;
@@ -37,7 +37,7 @@ impl DFA {
         requires reached { IsReached (IsDfaRead self.now anchored) sid }
         requires plain { IsTrue plain → ArePlain self.now.table.classes }
         ensures next { Leads (IsDfaRead self.now anchored) sid (byte ∷ []) result }
-        ensures cost { CostsReading self.now anchored sid (byte ∷ []) steps.old steps.new }
+        ensures cost { IsReadCost (dfa_built_as self.now) (IsDfaRead self.now) anchored sid (byte ∷ []) steps.old steps.new }
     {
         steps.look();
         self.table.next(plain, sid, byte)
@@ -45,7 +45,7 @@ impl DFA {
 }
 
 impl LookUp for DFA {
-    ghost use Rattle.ac_tables.specs.Dfa.DfaReads.{dfa_built_as, IsDfaRead, dfa_matches_at};
+    ghost use Rattle.ac_tables.specs.Dfa.Reads.{dfa_built_as, IsDfaRead, dfa_matches_at};
 
     ghost built = { dfa_built_as };
 
@@ -55,17 +55,13 @@ impl LookUp for DFA {
 
     ghost tells = { λ dfa anchored text sid reads. reads.tells };
 
-    ghost lives = { λ dfa anchored text sid reads. reads.lives };
-
-    ghost pairs = { λ dfa anchored text sid reads. reads.inverse };
-
     #[inline(always)]
     fn look_up(&self, anchored: Anchored, sid: StateID, byte: u8, steps: &mut Steps) -> StateID {
         self.step(false, anchored, sid, byte, steps)
     }
 
     #[inline(always)]
-    fn read_on(
+    fn read_until(
         &self,
         anchored: Anchored,
         sid: StateID,
@@ -92,7 +88,7 @@ impl LookUp for DFA {
 }
 
 impl Automaton for DFA {
-    ghost use Rattle.ac_tables.specs.Dfa.DfaReads.{dfa_built_as, dfa_supported_by, IsDfaRead, dfa_matches_at, is_dfa_start_at, is_dfa_special_at};
+    ghost use Rattle.ac_tables.specs.Dfa.Reads.{dfa_built_as, dfa_supported_by, IsDfaRead, dfa_matches_at, is_dfa_start_at, is_dfa_special_at};
 
     ghost built = { dfa_built_as };
 
@@ -107,10 +103,6 @@ impl Automaton for DFA {
     ghost special = { is_dfa_special_at };
 
     ghost tells = { λ dfa anchored text sid reads. reads.tells };
-
-    ghost lives = { λ dfa anchored text sid reads. reads.lives };
-
-    ghost pairs = { λ dfa anchored text sid reads. reads.inverse };
 
     ghost stops = { λ dfa anchored text sid reads. reads.stops };
 

@@ -5,10 +5,10 @@
 //! the table: the number of states times the stride, twice that with both starts.
 ghost use Rattle.std.specs.Prelude.{◌≡◌, IfOk, IfErr};
 ghost use Rattle.ac_input.specs.Pairing.{IsFolded};
-ghost use Rattle.ac_tables.specs.Dfa.DfaBuild.{IsDfaOf, IsDfaBuilt, IsDfaBuildRefused, IsTooLargeOr};
+ghost use Rattle.ac_tables.specs.Dfa.Builder.{IsDfaOf, IsDfaBuilt, IsDfaBuildRefused, IsTooLargeOr};
 ghost use Rattle.ac_noncontiguous.specs.Builder.{AreDefaultSettings, ByDefault};
 ghost use Rattle.ac_noncontiguous.specs.Nfa.Reads.{dictionary};
-ghost use Rattle.ac_tables.specs.Dfa.DfaMade.{IsTableFor, IsTableRefused};
+ghost use Rattle.ac_tables.specs.Dfa.Made.{IsTableFor, IsTableRefused};
 
 use crate::dfa::DFA;
 use crate::dfa::fill::Filler;
@@ -17,7 +17,7 @@ use crate::dfa::numbers::{Numbers, check_size, rows};
 use crate::dfa::table::Table;
 use crate::source::{classes_of, source_of};
 use ac_automaton::automaton::Automaton;
-use ac_automaton::held::clone_held;
+use ac_automaton::skip::clone_prefilter;
 use ac_input::pairing::Pairing;
 use ac_input::search::{Anchored, MatchKind, StartKind};
 use ac_noncontiguous::error::BuildError;
@@ -193,7 +193,7 @@ impl Builder {
         let settings = &self.settings;
         let table = Table::of(alloc, nfa, settings.start_kind, settings.byte_classes)?;
         let lens = nfa.pattern_lens().clone(alloc)?;
-        let prefilter = clone_held(alloc, nfa.prefilter())?;
+        let prefilter = clone_prefilter(alloc, nfa.prefilter())?;
         let openings = nfa.openings();
         Ok(DFA::from_parts(
             table,

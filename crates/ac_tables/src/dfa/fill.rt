@@ -6,7 +6,7 @@
 //!
 //! A failure is less deep than its state, so rows are filled in order of depth. The states come in two runs, before the starts and
 //! after them, in each of which depth never falls; so the runs are merged. It takes time in proportion to the table.
-ghost use Rattle.std.specs.Prelude.{◌≡◌};
+ghost use Rattle.std.specs.Prelude.{◌≡◌, ◌+◌};
 ghost use Rattle.ac_noncontiguous.specs.Nfa.ReadCalls.{special_in};
 ghost use Rattle.ac_tables.specs.Dfa.Filling.{IsFit};
 
@@ -33,7 +33,7 @@ impl<'a> Filler<'a> {
     ghost use Rattle.ac_input.specs.Dfa.{Serves, dfa_states};
     ghost use Rattle.ac_noncontiguous.specs.Nfa.ReadCalls.{state_len, MayBeMet, edges_in, AreEdges};
     ghost use Rattle.ac_tables.specs.Dfa.Filling.{number_in, entry_in, IsRowRight, IsUnwritten, AreRowsFilled, IsMerged};
-    ghost use Rattle.ac_tables.specs.Dfa.Filler.{row_plan_of, HasRows, HasRowRoom, IsWrittenOver, IsOnlyRow, IsFailureFilled, IsRowFree, ArePairMet, AreAllRows};
+    ghost use Rattle.ac_tables.specs.Dfa.Fill.{row_plan_of, HasRows, IsWrittenOver, IsOnlyRow, IsFailureFilled, IsRowFree, ArePairMet, AreAllRows};
 
     /// Where the row of a state begins.
     #[inline]
@@ -59,7 +59,7 @@ impl<'a> Filler<'a> {
     /// Writes the transitions of a state over its row.
     fn write(&self, anchored: Anchored, sid: StateID, trans: &mut [StateID])
         requires kept { sid < state_len self.now.nfa.now }
-        requires room { HasRowRoom self.now anchored sid trans.old }
+        requires room { number_in (row_plan_of self.now) anchored sid + self.now.numbers.stride ≤ length trans.old }
         ensures lead { AreEdges self.now.nfa.now sid (edges_in self.now.nfa.now sid) }
         ensures written { IsWrittenOver self.now anchored sid trans.old trans.new }
     {

@@ -1,6 +1,7 @@
 //! The patterns of the states that match: one vector, and where the list of each state ends.
 ghost use Rattle.std.specs.Prelude.{IfOk};
-ghost use Rattle.ac_tables.specs.Dfa.DfaLists.{IsListAdded, AreListsOf};
+ghost use Rattle.ac_tables.specs.Dfa.Copy.{AreSameLists};
+ghost use Rattle.ac_tables.specs.Dfa.Lists.{IsListAdded, AreListsOf};
 
 use ac_input::primitives::{PatternID, StateID};
 use ac_noncontiguous::nfa::{FAIL, NFA};
@@ -39,5 +40,15 @@ impl Lists {
             lists.push(nfa.match_list(StateID::must(sid)))?;
         }
         Ok(lists)
+    }
+
+    /// A copy, in memory from `alloc`.
+    pub(super) fn clone(&self, alloc: Global) -> Result<Lists, AllocError>
+        ensures { IfOk result (AreSameLists self.now) }
+    {
+        Ok(Lists {
+            patterns: Vec::from_slice(alloc, &self.patterns)?,
+            ends: Vec::from_slice(alloc, &self.ends)?,
+        })
     }
 }

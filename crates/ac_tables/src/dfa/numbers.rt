@@ -7,8 +7,8 @@ ghost use Rattle.std.specs.Prelude.{◌≡◌, ◌+◌, ◌-◌, ◌*◌, ◌≤
 ghost use Rattle.ac_input.specs.Number.{greatest_number};
 ghost use Rattle.ac_input.specs.Dfa.{dfa_states};
 ghost use Rattle.ac_input.specs.Input.{is_anchored};
-ghost use Rattle.ac_tables.specs.Dfa.DfaNumbers.{number_at};
-ghost use Rattle.ac_tables.specs.Dfa.DfaTable.{dfa_row_of};
+ghost use Rattle.ac_tables.specs.Dfa.Numbers.{number_at};
+ghost use Rattle.ac_tables.specs.Dfa.Table.{dfa_row_of};
 ghost use Rattle.ac_tables.specs.Dfa.Filling.{IsOverflow};
 
 use ac_input::primitives::{GREATEST, StateID};

@@ -3,12 +3,13 @@
 //! It is one vector: a row for each state, one after another, and in each row the next state for each class of bytes. A state's
 //! number is where its row begins, so that a look-up is the byte's class, one addition and one load. Rows are as long as the least
 //! power of two that is enough for the classes.
-ghost use Rattle.std.specs.Prelude.{◌≡◌, ◌↔◌, ◌+◌, ◌==◌, ◌||◌, IsTrue, slice_index};
+ghost use Rattle.std.specs.Prelude.{◌≡◌, ◌↔◌, ◌+◌, ◌==◌, ◌||◌, IfOk, IsTrue, slice_index};
 ghost use Rattle.ac_input.specs.Alphabet.{class};
 ghost use Rattle.ac_input.specs.Dfa.{Serves};
-ghost use Rattle.ac_tables.specs.Dfa.DfaTable.{dfa_list_of};
+ghost use Rattle.ac_tables.specs.Dfa.Copy.{IsSameDfaTable};
+ghost use Rattle.ac_tables.specs.Dfa.Table.{dfa_list_of};
 ghost use Rattle.ac_automaton.specs.Starters.{SkipsBelow};
-ghost use Rattle.ac_tables.specs.Dfa.DfaLookups.{ArePlain, HasRow, HasDfaList, IsIdleIn, list_at};
+ghost use Rattle.ac_tables.specs.Dfa.Lookups.{ArePlain, HasRow, HasDfaList, IsIdleIn, list_at};
 
 use crate::dfa::lists::Lists;
 use crate::rows::next;
@@ -16,6 +17,7 @@ use ac_automaton::starters::Starters;
 use ac_input::alphabet::ByteClasses;
 use ac_input::primitives::{PatternID, StateID};
 use ac_input::search::{Anchored, StartKind};
+use std::alloc::{AllocError, Global};
 
 /// The table. Rows are numbered so: the dead state (0), the fail state (1), the states that match, the unanchored start, the
 /// anchored start, the others.
@@ -110,5 +112,21 @@ impl Table {
         (self.trans.len().saturating_mul(4))
             .saturating_add(self.lists.patterns.len().saturating_mul(4))
             .saturating_add(self.lists.ends.len().saturating_mul(8))
+    }
+
+    /// A copy, in memory from `alloc`.
+    pub(super) fn clone(&self, alloc: Global) -> Result<Table, AllocError>
+        ensures { IfOk result (IsSameDfaTable self.now) }
+    {
+        Ok(Table {
+            trans: Vec::from_slice(alloc, &self.trans)?,
+            classes: self.classes.clone()?,
+            lists: self.lists.clone(alloc)?,
+            stride2: self.stride2,
+            start: self.start,
+            start_anchored: self.start_anchored,
+            max_match: self.max_match,
+            kind: self.kind,
+        })
     }
 }

@@ -5,36 +5,34 @@ use Rattle.std.proofs.lemmas.List.{append-nil, get_or-map}
 use Rattle.ac_input.specs.Occurrence.{Occurrence}
 use Rattle.ac_input.specs.Rules.{Rule}
 use Rattle.ac_input.specs.Text.{replaced_from, line, listed}
-use Rattle.acsub_rules.specs.Lines.{rule_at}
-use Rattle.acsub_rules.specs.Sides.{replacements_of}
+use Rattle.acsub.specs.Rules.Lines.{rule_at}
+use Rattle.acsub.specs.Rules.Sides.{replacements_of}
 
 -- the replacement of rule n is the n-th of the replacements
-pub replacement_of_rule : (rules : List Rule) (n : ℕ) → n < length rules → (rule_at rules n).1 ≡ get_or (replacements_of rules) n []
+pub replacement_of_rule : (rules : List Rule) (n : ℕ) → n < length rules
+    → (rule_at rules n).1 ≡ get_or (replacements_of rules) n []
 replacement_of_rule rules n h = sym (get_or-map (λ (rule : Rule). rule.1) rules n ([], []) [] h)
 
 -- one more match in a text with replacements
-pub replaced-step : (at : ℕ) (o : Occurrence) (picks rest : List Occurrence) (input : List ℕ) (replacements : List (List ℕ)) (front before replacement text : List ℕ) → picks ≡ o ∷ rest
+pub replaced-step : (at : ℕ) (o : Occurrence) (picks rest : List Occurrence) (input : List ℕ)
+    (replacements : List (List ℕ)) (front before replacement text : List ℕ) → picks ≡ o ∷ rest
     → before ≡ slice_range input at o.start → replacement ≡ get_or replacements o.pattern []
     → front ++ replaced_from at input replacements picks ≡ text
     → (front ++ (before ++ replacement)) ++ replaced_from o.end input replacements rest ≡ text
 replaced-step at o picks rest input replacements front before replacement text is is_before is_replacement e =
     let later = replaced_from o.end input replacements rest in
     append_assoc front (before ++ replacement) later
-    ∙ ap (λ (t : List ℕ). front ++ ((t ++ replacement) ++ later)) is_before
-    ∙ ap (λ (t : List ℕ). front ++ ((slice_range input at o.start ++ t) ++ later)) is_replacement
-    ∙ ap (λ (os : List Occurrence). front ++ replaced_from at input replacements os) (sym is)
+    ∙ ap (λ t. front ++ ((t ++ replacement) ++ later)) is_before
+    ∙ ap (λ t. front ++ ((slice_range input at o.start ++ t) ++ later)) is_replacement
+    ∙ ap (λ os. front ++ replaced_from at input replacements os) (sym is)
     ∙ e
 
--- no further match in a text with replacements
-pub replaced-end : (at : ℕ) (picks : List Occurrence) (input : List ℕ) (replacements : List (List ℕ)) (front text : List ℕ) → picks ≡ []
-    → front ++ replaced_from at input replacements picks ≡ text
-    → front ++ drop at input ≡ text
-replaced-end at picks input replacements front text is e = ap (λ (os : List Occurrence). front ++ replaced_from at input replacements os) (sym is) ∙ e
-
 -- one more line
-pub listed-step : (o : Occurrence) (os rest : List Occurrence) (front text : List ℕ) → os ≡ o ∷ rest → front ++ listed os ≡ text → (front ++ line o) ++ listed rest ≡ text
-listed-step o os rest front text is e = append_assoc front (line o) (listed rest) ∙ ap (λ (t : List Occurrence). front ++ listed t) (sym is) ∙ e
+pub listed-step : (o : Occurrence) (os rest : List Occurrence) (front text : List ℕ) → os ≡ o ∷ rest
+    → front ++ listed os ≡ text → (front ++ line o) ++ listed rest ≡ text
+listed-step o os rest front text is e =
+    append_assoc front (line o) (listed rest) ∙ ap (λ t. front ++ listed t) (sym is) ∙ e
 
 -- no further line
 pub listed-end : (os : List Occurrence) (front text : List ℕ) → os ≡ [] → front ++ listed os ≡ text → front ≡ text
-listed-end os front text is e = sym (append-nil front) ∙ ap (λ (t : List Occurrence). front ++ listed t) (sym is) ∙ e
+listed-end os front text is e = sym (append-nil front) ∙ ap (λ t. front ++ listed t) (sym is) ∙ e

@@ -5,14 +5,17 @@ use Rattle.ac_automaton.specs.declared.error.StreamError.{StreamError}
 use Rattle.ac_automaton.specs.declared.watched.Watched.{Watched}
 use Rattle.ac_automaton.proofs.devices.OutputLemmas.{Sends-then, Stopped-more}
 
-module _ {W : Type 0} (contents : W → Option (List ℕ)) (old mid new : Watched W) (held between front bytes text : List ℕ) (before : Sent contents old mid held between front) where
+module _ {W : Type 0} (contents : W → Option (List ℕ)) (old mid new : Watched W)
+    (held between front bytes text : List ℕ) (before : Sent contents old mid held between front) where
   -- the last part of a text was sent, or the sending stopped
-  pub sends-last : (after : List ℕ) (result : Result (Unit {0}) StreamError) → front ++ bytes ≡ text → Sends contents bytes mid new between after result → Sends contents text old new held after result
+  pub sends-last : (after : List ℕ) (result : Result (Unit {0}) StreamError) → front ++ bytes ≡ text
+      → Sends contents bytes mid new between after result → Sends contents text old new held after result
   sends-last after result is sends =
-      subst (λ (t : List ℕ). Sends contents t old new held after result) is (Sends-then contents old mid new held between after front bytes result before sends)
+      subst (λ t. Sends contents t old new held after result) is (Sends-then new after bytes result before sends)
 
   -- the sending stopped at a part within a text
-  pub sends-stopped : (rest after : List ℕ) (error : StreamError) → (front ++ bytes) ++ rest ≡ text → Sends contents bytes mid new between after (Err error) → Sends contents text old new held after (Err error)
+  pub sends-stopped : (rest after : List ℕ) (error : StreamError) → (front ++ bytes) ++ rest ≡ text
+      → Sends contents bytes mid new between after (Err error) → Sends contents text old new held after (Err error)
   sends-stopped rest after error is stopped =
-      let sends = Sends-then contents old mid new held between after front bytes (Err error) before stopped in
-      (subst (Stopped contents old new held) is (Stopped-more contents old new held (front ++ bytes) rest sends.0), sends.1, sends.2)
+      let sends = Sends-then new after bytes (Err error) before stopped in
+      (subst (Stopped contents old new held) is (Stopped-more rest sends.0), sends.1, sends.2)

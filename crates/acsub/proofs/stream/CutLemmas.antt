@@ -18,7 +18,8 @@ use Rattle.ac_automaton.proofs.stream.StreamSendLemmas.{lies-behind}
 use Rattle.ac_automaton.proofs.stream.StreamTextLemmas.{replaced-split}
 
 -- each match that lies in order after a place begins there or later
-all-later : (patterns len at place : ℕ) (os : List Occurrence) → place ≤ at → LieInOrder patterns len at os → AllByRecursion (λ o. place ≤ o.start) os
+all-later : (patterns len at place : ℕ) (os : List Occurrence) → place ≤ at → LieInOrder patterns len at os
+    → AllByRecursion (λ o. place ≤ o.start) os
 all-later patterns len at place [] le lies = tt
 all-later patterns len at place (o ∷ os) le lies =
     let from : at ≤ o.start = lies.1 in
@@ -34,36 +35,48 @@ record SplitsMatchesAt (patterns at place : ℕ) (os : List Occurrence) : Type 0
   later : AllByRecursion (λ o. place ≤ o.start) rest
 
 -- matches that lie in order can be split at a place that none of them crosses
-split-matches : (patterns len at place : ℕ) (os : List Occurrence) → LieInOrder patterns len at os → ((o : Occurrence) → Contains os o → o.start < place → o.end ≤ place) → SplitsMatchesAt patterns at place os
-split-matches patterns len at place [] lies across = record { given = []; rest = []; is = refl; before = tt; later = tt }
+split-matches : (patterns len at place : ℕ) (os : List Occurrence) → LieInOrder patterns len at os
+    → ((o : Occurrence) → Contains os o → o.start < place → o.end ≤ place) → SplitsMatchesAt patterns at place os
+split-matches patterns len at place [] lies across =
+    record { given = []; rest = []; is = refl; before = tt; later = tt }
 split-matches patterns len at place (o ∷ os) lies across = elim (cases_lt o.start place) [
   | inl early ↦
-      let ends = across o (Contains-head o os) early in
-      let more = split-matches patterns len o.end place os lies.4 (λ q has. across q (Contains-tail o os q has)) in
+      let ends = across o (Contains-head os) early in
+      let more = split-matches patterns len o.end place os lies.4 (λ q has. across q (Contains-tail os has)) in
       record {
         given = o ∷ more.given;
         rest = more.rest;
-        is = ap (λ (qs : List Occurrence). o ∷ qs) more.is;
+        is = ap (λ qs. o ∷ qs) more.is;
         before = (lies.0, lies.1, lies.2, ends, more.before);
         later = more.later;
       }
   | inr late ↦
       let order : o.start ≤ o.end = lies.2 in
-      record { given = []; rest = o ∷ os; is = refl; before = tt; later = (late, all-later patterns len o.end place os (omega arith) lies.4) }
+      record {
+        given = [];
+        rest = o ∷ os;
+        is = refl;
+        before = tt;
+        later = (late, all-later patterns len o.end place os (omega arith) lies.4);
+      }
 ]
 
 -- if no pattern is empty, the text before a cut is a prefix of the whole text
-pub cut-begins : (b : Built) (x : List ℕ) (cut : ℕ) (replacements : List (List ℕ)) → 1 ≤ shortest b.dictionary.patterns → IsCut b.dictionary x cut → IsBeginning (replaced_in b replacements (take cut x)) (replaced_in b replacements x)
+pub cut-begins : (b : Built) (x : List ℕ) (cut : ℕ) (replacements : List (List ℕ)) → 1 ≤ shortest b.dictionary.patterns
+    → IsCut b.dictionary x cut → IsBeginning (replaced_in b replacements (take cut x)) (replaced_in b replacements x)
 cut-begins b x cut replacements some is_cut =
     let patterns = length b.dictionary.patterns in
     let lies = matches-lie b x in
     let split = split-matches patterns (length x) 0 cut (matches_in b x) lies is_cut.1 in
     let given = split.given in
     let rest = split.rest in
-    let front = matches-front b x cut patterns given rest some is_cut.0 split.is split.before (All-from_recursion (λ (o : Occurrence). cut ≤ o.start) rest split.later) in
-    let behind = lies-behind patterns (length x) 0 cut given rest (subst (LieInOrder patterns (length x) 0) split.is lies) split.later in (
+    let front = matches-front b x cut patterns given rest some is_cut.0 split.is split.before
+    (All-from_recursion (λ (o : Occurrence). cut ≤ o.start) rest split.later) in
+    let behind = lies-behind patterns (length x) 0 cut given rest
+    (subst (LieInOrder patterns (length x) 0) split.is lies) split.later in (
       replaced_from cut x replacements rest,
       ap (replaced_from 0 x replacements) split.is
           ∙ sym (replaced-split x replacements patterns 0 cut given rest split.before behind (omega arith) is_cut.0)
-          ∙ ap (λ (os : List Occurrence). replaced_from 0 (take cut x) replacements os ++ replaced_from cut x replacements rest) (sym front),
+          ∙ ap (λ os. replaced_from 0 (take cut x) replacements os ++ replaced_from cut x replacements rest)
+          (sym front),
     )

@@ -15,7 +15,7 @@ use Rattle.ac_automaton.specs.Automaton.{Built}
 use Rattle.ac_automaton.specs.Devices.Buffer.{room_for}
 use Rattle.std.specs.Prelude.{IfErr, OnOk, max}
 use Rattle.ac_automaton.specs.Devices.Moved.{AllFit, AreFilled, Moved, NoneTouched, but_last}
-use Rattle.ac_automaton.specs.Stream.{CanStream, IsConfigRefusal, IsStreamRefusal, IsFront, IsNear, room_of}
+use Rattle.ac_automaton.specs.Stream.{CanStream, IsConfigRefusal, IsStreamRefusal, IsFront, IsNear, room_of, Picks}
 use Rattle.ac_automaton.specs.Stream.StreamAnswer.{AnswersWriting, WroteToFailedWrite}
 use Rattle.ac_automaton.specs.Stream.StreamReplace.{AcceptsStream, IsBegun, ReplacesStream, replaced_in}
 use Rattle.ac_automaton.proofs.stream.StreamAnswerLemmas.{cost-none}
@@ -26,17 +26,17 @@ use Rattle.ac_automaton.specs.declared.error.StreamError.TheVariants as stream
 use Rattle.ac_automaton.specs.declared.watched.Watched.{Watched}
 use Rattle.ac_automaton.specs.declared.stream.StreamKinds.TheVariants.{AnyKind}
 use Rattle.acsub.specs.declared.error.RunError.{RunError}
-use Rattle.acsub_words.specs.declared.settings.Mode.{Mode}
-use Rattle.acsub_words.specs.declared.settings.Mode.TheVariants as modes
-use Rattle.acsub_words.specs.declared.settings.Settings.{Settings}
+use Rattle.acsub.specs.declared.args.settings.Mode.{Mode}
+use Rattle.acsub.specs.declared.args.settings.Mode.TheVariants as modes
+use Rattle.acsub.specs.declared.args.settings.Settings.{Settings}
 use Rattle.aho_corasick.specs.AhoCorasick.{as_built, supported_by}
 use Rattle.aho_corasick.specs.declared.ahocorasick.AhoCorasick.{AhoCorasick}
 use Rattle.acsub.specs.Finder.{IsServing, whole_search}
 use Rattle.acsub.specs.Served.{dictionary_for}
 use Rattle.acsub.specs.Run.{AnswersRules, CostsRun, IsRefusal, RanPrepared, RanToFailedWrite, RunsOutFirst}
 use Rattle.acsub.specs.Plan.{Plan}
-use Rattle.acsub_words.specs.Settings.{HasEmptyPattern, IsAccepted}
-use Rattle.acsub_rules.specs.Sides.{rule_patterns, replacements_of}
+use Rattle.acsub.specs.Args.Settings.{HasEmptyPattern, IsAccepted}
+use Rattle.acsub.specs.Rules.Sides.{rule_patterns, replacements_of}
 use Rattle.acsub.specs.Stream.{CostsSearch, IfStreamMemory, IsNoRefusal, IsReturnedAs, WritesPlan, WritesStream}
 use Rattle.acsub.proofs.run.CountLemmas.{streamed-cost}
 use Rattle.acsub.proofs.stream.CutLemmas.{cut-begins}
@@ -49,15 +49,17 @@ use Rattle.ac_input.specs.declared.search.Anchored.{Anchored}
 pub filled-shortest : (rules : List Rule) → ¬ HasEmptyPattern rules → 1 ≤ shortest (rule_patterns rules)
 filled-shortest [] filled = omega arith
 filled-shortest (rule ∷ rules) filled =
-    let rest = filled-shortest rules (λ empty. let within = empty.1 in filled (suc empty.0, omega (arith, within), empty.2)) in
+    let rest =
+    filled-shortest rules (λ empty. let within = empty.1 in filled (suc empty.0, omega (arith, within), empty.2)) in
     let some : length rule.0 ≢ 0 = λ none. filled (0, omega arith, nil_from_length rule.0 none) in
     omega (arith, rest, some)
 
 -- if the text is written while the input is read, the search of the stream is supported
-pub streamed-can : (ac : AhoCorasick) (plan : Plan) → IsServing plan.settings plan.rules ac → IsStreamed plan → CanStream AnyKind (as_built ac) (supported_by ac)
+pub streamed-can : (ac : AhoCorasick) (plan : Plan) → IsServing plan.settings plan.rules ac → IsStreamed plan
+    → CanStream AnyKind (as_built ac) (supported_by ac)
 streamed-can ac plan serves streamed = (
   serves.start,
-  subst (λ (m : Dictionary). 1 ≤ shortest m.patterns) (sym serves.built.dictionary) (filled-shortest plan.rules streamed.2),
+  subst (λ m. 1 ≤ shortest m.patterns) (sym serves.built.dictionary) (filled-shortest plan.rules streamed.2),
 )
 
 module _ (b : Built) (supports : Anchored → Type 0) (can : CanStream AnyKind b supports) where
@@ -76,15 +78,19 @@ module _ (b : Built) (supports : Anchored → Type 0) (can : CanStream AnyKind b
   refused-memory stream.Position refused = absurd refused
 
   -- nor is a replacement over the stream
-  pub replaces-accepted : (result : Result (Unit {0}) StreamError) → AcceptsStream AnyKind b supports result → IfErr result IsNoRefusal
+  pub replaces-accepted : (result : Result (Unit {0}) StreamError) → AcceptsStream AnyKind b supports result
+      → IfErr result IsNoRefusal
   replaces-accepted (Ok done) accepts = tt
-  replaces-accepted (Err error) accepts = λ refusal e. can-config refusal (subst (λ (other : StreamError). AcceptsStream AnyKind b supports (Err other)) e accepts)
+  replaces-accepted (Err error) accepts =
+      λ refusal e. can-config refusal (subst (λ other. AcceptsStream AnyKind b supports (Err other)) e accepts)
 
 -- a replacement that is out of memory has touched neither device
-pub replaces-memory : {R W : Type 0} (remaining : R → Option (List ℕ)) (contents : W → Option (List ℕ)) (b : Built) (replacements : List (List ℕ)) (r r' : Watched R) (w w' : Watched W) (result : Result (Unit {0}) StreamError) → ReplacesStream remaining contents b replacements r r' w w' result → IfStreamMemory result (NoneTouched r r' w w')
+pub replaces-memory : {R W : Type 0} (remaining : R → Option (List ℕ)) (contents : W → Option (List ℕ)) (b : Built)
+    (replacements : List (List ℕ)) (r r' : Watched R) (w w' : Watched W) (result : Result (Unit {0}) StreamError)
+    → ReplacesStream remaining contents b replacements r r' w w' result → IfStreamMemory result (NoneTouched r r' w w')
 replaces-memory remaining contents b replacements r r' w w' (Ok done) replaces = tt
 replaces-memory remaining contents b replacements r r' w w' (Err error) replaces =
-    λ e. elim (subst (λ (other : StreamError). IsBegun other ⊎ NoneTouched r r' w w') e replaces.4) [
+    λ e. elim (subst (λ other. IsBegun other ⊎ NoneTouched r r' w w') e replaces.4) [
       | inl begun ↦ absurd begun
       | inr same ↦ same
     ]
@@ -92,23 +98,32 @@ replaces-memory remaining contents b replacements r r' w w' (Err error) replaces
 -- ---- the text
 
 -- the text of a plan, by its mode
-pub output-in : (plan : Plan) (x : List ℕ) (mode : Mode) → plan.settings.mode ≡ mode → text_in mode plan.settings.kind (replacements_of plan.rules) (whole_search plan.settings (rule_patterns plan.rules) x) ≡ output_of plan.settings plan.rules x
-output-in plan x mode is = ap (λ (asked : Mode). text_in asked plan.settings.kind (replacements_of plan.rules) (whole_search plan.settings (rule_patterns plan.rules) x)) (sym is)
+pub output-in : (plan : Plan) (x : List ℕ) (mode : Mode) → plan.settings.mode ≡ mode
+    → text_in mode plan.settings.kind (replacements_of plan.rules)
+    (whole_search plan.settings (rule_patterns plan.rules) x) ≡ output_of plan.settings plan.rules x
+output-in plan x mode is =
+    ap (λ asked. text_in asked plan.settings.kind (replacements_of plan.rules)
+    (whole_search plan.settings (rule_patterns plan.rules) x)) (sym is)
 
 -- where matches are replaced, the run's text is that of the automaton's replacement
-replaced-output : (b : Built) (plan : Plan) (x : List ℕ) → b.dictionary ≡ dictionary_for plan.settings plan.rules → plan.settings.mode ≡ modes.Replace → replaced_in b (replacements_of plan.rules) x ≡ output_of plan.settings plan.rules x
+replaced-output : (b : Built) (plan : Plan) (x : List ℕ) → b.dictionary ≡ dictionary_for plan.settings plan.rules
+    → plan.settings.mode ≡ modes.Replace
+    → replaced_in b (replacements_of plan.rules) x ≡ output_of plan.settings plan.rules x
 replaced-output b plan x is mode =
-    ap (λ (m : Dictionary). replaced_from 0 x (replacements_of plan.rules) (walk_of m.kind (search_of m (whole_of x).anchored (whole_of x).haystack (whole_of x).span))) is
+    ap (λ m. replaced_from 0 x (replacements_of plan.rules)
+    (walk_of m.kind (search_of m (whole_of x).anchored (whole_of x).haystack (whole_of x).span))) is
     ∙ output-in plan x modes.Replace mode
 
 -- where matches are replaced, what can be written early is what the automaton's replacement can
-replaced-front : (b : Built) (plan : Plan) (x text : List ℕ) → b.dictionary ≡ dictionary_for plan.settings plan.rules → plan.settings.mode ≡ modes.Replace → IsFront b.dictionary (replaced_in b (replacements_of plan.rules)) x text → IsOutputFront plan.settings plan.rules x text
+replaced-front : (b : Built) (plan : Plan) (x text : List ℕ) → b.dictionary ≡ dictionary_for plan.settings plan.rules
+    → plan.settings.mode ≡ modes.Replace → IsFront b.dictionary (replaced_in b (replacements_of plan.rules)) x text
+    → IsOutputFront plan.settings plan.rules x text
 replaced-front b plan x text is mode f =
     record {
       replaced = λ _. record {
         cut = f.cut;
-        is_cut = subst (λ (m : Dictionary). IsCut m x f.cut) is f.is_cut;
-        near = subst (λ (m : Dictionary). IsNear m x f.cut) is f.near;
+        is_cut = subst (λ m. IsCut m x f.cut) is f.is_cut;
+        near = subst (λ m. IsNear m x f.cut) is f.near;
         front = f.front ∙ replaced-output b plan (take f.cut x) is mode;
       };
       listed = λ other. let apart : modes.Replace ≡ modes.List = sym mode ∙ other in absurd (cc);
@@ -117,33 +132,39 @@ replaced-front b plan x text is mode f =
 
 -- a built automaton for the rules' patterns
 abbrev built_for : Settings → List Rule → Built
-built_for settings rules = record { dictionary = dictionary_for settings rules; deterministic = false; prefilter = None }
+built_for settings rules =
+    record { dictionary = dictionary_for settings rules; deterministic = false; prefilter = None }
 
 -- what can be written early is a prefix of the run's text, in every mode
-front-begins : (plan : Plan) (x text : List ℕ) (mode : Mode) → plan.settings.mode ≡ mode → IsStreamed plan → IsOutputFront plan.settings plan.rules x text → IsBeginning text (output_of plan.settings plan.rules x)
+front-begins : (plan : Plan) (x text : List ℕ) (mode : Mode) → plan.settings.mode ≡ mode → IsStreamed plan
+    → IsOutputFront plan.settings plan.rules x text → IsBeginning text (output_of plan.settings plan.rules x)
 front-begins plan x text modes.Replace is streamed f =
     let front = f.replaced is in
     let b = built_for plan.settings plan.rules in
-    let begins = cut-begins b x front.cut (replacements_of plan.rules) (filled-shortest plan.rules streamed.2) front.is_cut in (
+    let begins =
+    cut-begins b x front.cut (replacements_of plan.rules) (filled-shortest plan.rules streamed.2) front.is_cut in (
       begins.0,
-      sym (replaced-output b plan x refl is) ∙ begins.1 ∙ ap (λ (t : List ℕ). t ++ begins.0) (replaced-output b plan (take front.cut x) refl is ∙ sym front.front),
+      sym (replaced-output b plan x refl is) ∙ begins.1
+          ∙ ap (λ t. t ++ begins.0) (replaced-output b plan (take front.cut x) refl is ∙ sym front.front),
     )
 front-begins plan x text modes.List is streamed f =
     let front = f.listed is in
     let m = dictionary_for plan.settings plan.rules in
-    let first = subst (λ (y : List ℕ). IsBeginning front.0 (walk_of m.kind (whole m y false))) (append-nil x) (front.1.first []) in
-    let lines = listed-beginning front.0 (walk_of m.kind (whole m x false)) first in (
+    let first = subst (λ y. IsBeginning front.0 (walk_of m.kind (whole m y false))) (append-nil x) (front.1.first []) in
+    let lines = listed-beginning front.0 first in (
       lines.0,
-      sym (output-in plan x modes.List is) ∙ lines.1 ∙ ap (λ (t : List ℕ). t ++ lines.0) (sym front.2),
+      sym (output-in plan x modes.List is) ∙ lines.1 ∙ ap (λ t. t ++ lines.0) (sym front.2),
     )
 front-begins plan x text modes.Overlap is streamed f = ([], sym (f.overlapping is) ∙ sym (append-nil text))
 
 -- ---- results of two texts
 
 -- two ways to make a text that are equal, and two fronts of which the first implies the second
-module _ (made text_of : List ℕ → List ℕ) (begun front : List ℕ → List ℕ → Type 0) (same : (x : List ℕ) → made x ≡ text_of x) (fronts : (x text : List ℕ) → begun x text → front x text) where
+module _ (made text_of : List ℕ → List ℕ) (begun front : List ℕ → List ℕ → Type 0)
+    (same : (x : List ℕ) → made x ≡ text_of x) (fronts : (x text : List ℕ) → begun x text → front x text) where
   -- a write that stopped
-  failed-alike : (m : Moved) (stalls : ℕ) → WroteToFailedWrite made begun m stalls → WroteToFailedWrite text_of front m stalls
+  failed-alike : (m : Moved) (stalls : ℕ) → WroteToFailedWrite made begun m stalls
+      → WroteToFailedWrite text_of front m stalls
   failed-alike m stalls h = record {
     at_least = (h.at_least.0, fronts (concat (but_last m.pieces)) h.at_least.0 h.at_least.1, h.at_least.2);
     at_most = subst (IsBeginning m.taken) (same (concat m.pieces)) h.at_most;
@@ -151,68 +172,138 @@ module _ (made text_of : List ℕ → List ℕ) (begun front : List ℕ → List
   }
 
   -- a result that fits one text and front fits the other
-  pub answers-alike : (m : Moved) (result : Result (Unit {0}) StreamError) → AnswersWriting made begun m result → AnswersWriting text_of front m result
-  answers-alike m (Ok done) h = record { whole = h.whole; written = h.written ∙ same (concat m.pieces); failed = h.failed }
+  pub answers-alike : (m : Moved) (result : Result (Unit {0}) StreamError) → AnswersWriting made begun m result
+      → AnswersWriting text_of front m result
+  answers-alike m (Ok done) h =
+      record { whole = h.whole; written = h.written ∙ same (concat m.pieces); failed = h.failed }
   answers-alike m (Err (stream.Config error)) h = h
-  answers-alike m (Err (stream.Read error)) h = record { written = fronts (concat m.pieces) m.taken h.written; failed = h.failed }
+  answers-alike m (Err (stream.Read error)) h =
+      record { written = fronts (concat m.pieces) m.taken h.written; failed = h.failed }
   answers-alike m (Err (stream.Write error)) h = failed-alike m 0 h
   answers-alike m (Err stream.WriteZero) h = failed-alike m 1 h
   answers-alike m (Err stream.Memory) h = h
-  answers-alike m (Err stream.Position) h = record { long = h.long; written = subst (IsBeginning m.taken) (same (concat m.pieces)) h.written; failed = h.failed }
+  answers-alike m (Err stream.Position) h =
+      record {
+        long = h.long;
+        written = subst (IsBeginning m.taken) (same (concat m.pieces)) h.written;
+        failed = h.failed;
+      }
 
 -- the room of the buffer depends on the mode, and on the longest of the rules' patterns
-pub room-in : (plan : Plan) (b : Built) (mode : Mode) → b.dictionary ≡ dictionary_for plan.settings plan.rules → plan.settings.mode ≡ mode → room_for (max (longest (rule_patterns plan.rules)) 1) ≡ room_in mode plan.rules → room_of b ≡ stream_room plan
-room-in plan b mode built is same = ap (λ (d : Dictionary). room_for (max (longest d.patterns) 1)) built ∙ same ∙ ap (λ (asked : Mode). room_in asked plan.rules) (sym is)
+pub room-in : (plan : Plan) (b : Built) (mode : Mode) → b.dictionary ≡ dictionary_for plan.settings plan.rules
+    → plan.settings.mode ≡ mode → room_for (max (longest (rule_patterns plan.rules)) 1) ≡ room_in mode plan.rules
+    → room_of Picks b ≡ stream_room plan
+room-in plan b mode built is same =
+    ap (λ d. room_for (max (longest d.patterns) 1)) built ∙ same ∙ ap (λ asked. room_in asked plan.rules) (sym is)
 
 -- what writes the same text as a plan, and as early, writes the text of the plan
-module _ (plan : Plan) (room : ℕ) (made : List ℕ → List ℕ) (begun : List ℕ → List ℕ → Type 0) (fits : room ≡ stream_room plan) (same : (x : List ℕ) → made x ≡ output_of plan.settings plan.rules x) (fronts : (x text : List ℕ) → begun x text → IsOutputFront plan.settings plan.rules x text) where
-  pub writes-plan : {R W : Type 0} (remaining : R → Option (List ℕ)) (contents : W → Option (List ℕ)) (r0 r1 : Watched R) (w0 w1 : Watched W) (result : Result (Unit {0}) StreamError) → WritesStream remaining contents room made begun r0 r1 w0 w1 result → WritesPlan remaining contents r0 r1 w0 w1 plan result
-  writes-plan remaining contents r0 r1 w0 w1 result (m, moved, short, a) =
-      (m, moved, subst (λ (n : ℕ). AllFit n m.pieces) fits short, answers-alike made (output_of plan.settings plan.rules) begun (IsOutputFront plan.settings plan.rules) same fronts m result a)
+module _ (plan : Plan) (room : ℕ) (made : List ℕ → List ℕ) (begun : List ℕ → List ℕ → Type 0)
+    (fits : room ≡ stream_room plan) (same : (x : List ℕ) → made x ≡ output_of plan.settings plan.rules x)
+    (fronts : (x text : List ℕ) → begun x text → IsOutputFront plan.settings plan.rules x text) where
+  pub writes-plan : {R W : Type 0} (remaining : R → Option (List ℕ)) (contents : W → Option (List ℕ))
+      (r0 r1 : Watched R) (w0 w1 : Watched W) (result : Result (Unit {0}) StreamError)
+      → WritesStream remaining contents room made begun r0 r1 w0 w1 result
+      → WritesPlan remaining contents r0 r1 w0 w1 plan result
+  writes-plan remaining contents r0 r1 w0 w1 result (m, moved, short, a) = (
+    m,
+    moved,
+    subst (λ n. AllFit n m.pieces) fits short,
+    answers-alike made (output_of plan.settings plan.rules) begun (IsOutputFront plan.settings plan.rules) same fronts
+        m result a,
+  )
 
 -- a replacement over a stream writes the text of a plan that replaces
-pub replace-plan : {R W : Type 0} (remaining : R → Option (List ℕ)) (contents : W → Option (List ℕ)) (b : Built) (plan : Plan) (r0 r1 : Watched R) (w0 w1 : Watched W) (result : Result (Unit {0}) StreamError) → b.dictionary ≡ dictionary_for plan.settings plan.rules → plan.settings.mode ≡ modes.Replace
-    → ReplacesStream remaining contents b (replacements_of plan.rules) r0 r1 w0 w1 result → WritesPlan remaining contents r0 r1 w0 w1 plan result
+pub replace-plan : {R W : Type 0} (remaining : R → Option (List ℕ)) (contents : W → Option (List ℕ)) (b : Built)
+    (plan : Plan) (r0 r1 : Watched R) (w0 w1 : Watched W) (result : Result (Unit {0}) StreamError)
+    → b.dictionary ≡ dictionary_for plan.settings plan.rules → plan.settings.mode ≡ modes.Replace
+    → ReplacesStream remaining contents b (replacements_of plan.rules) r0 r1 w0 w1 result
+    → WritesPlan remaining contents r0 r1 w0 w1 plan result
 replace-plan remaining contents b plan r0 r1 w0 w1 result is mode replaces =
-    writes-plan plan (room_of b) (replaced_in b (replacements_of plan.rules)) (IsFront b.dictionary (replaced_in b (replacements_of plan.rules))) (room-in plan b modes.Replace is mode refl)
-    (λ x. replaced-output b plan x is mode) (λ x text. replaced-front b plan x text is mode) remaining contents r0 r1 w0 w1 result (replaces.0, replaces.1, replaces.2, replaces.3)
+    writes-plan plan (room_of Picks b) (replaced_in b (replacements_of plan.rules))
+    (IsFront b.dictionary (replaced_in b (replacements_of plan.rules))) (room-in plan b modes.Replace is mode refl)
+    (λ x. replaced-output b plan x is mode) (λ x text. replaced-front b plan x text is mode) remaining contents r0 r1 w0
+    w1 result (replaces.0, replaces.1, replaces.2, replaces.3)
 
 -- ---- what it costs
 
 -- if nothing was read, nothing was counted
-pub cost-nothing : {R E : Type 0} (b : Built) (r : Watched R) (steps : Steps) (error : E) → CostsSearch b r r steps steps (Err error)
+pub cost-nothing : {R E : Type 0} (b : Built) (r : Watched R) (steps : Steps) (error : E)
+    → CostsSearch b r r steps steps (Err error)
 cost-nothing b r steps error = let cost = cost-none b r steps stream.Memory in (cost.0, cost.1, cost.2, tt)
 
 -- ---- the run's result
 
 module _ (plan : Plan) (m : Moved) (accepted : IsAccepted plan.settings plan.rules) (streamed : IsStreamed plan) where
   -- a write that stopped
-  streamed_failed : (stalls : ℕ) → WroteToFailedWrite (output_of plan.settings plan.rules) (IsOutputFront plan.settings plan.rules) m stalls → RanToFailedWrite plan m stalls
+  streamed_failed : (stalls : ℕ)
+      → WroteToFailedWrite (output_of plan.settings plan.rules) (IsOutputFront plan.settings plan.rules) m stalls
+      → RanToFailedWrite plan m stalls
   streamed_failed stalls h =
-      record { accepted = accepted; streamed = λ _. h.at_least; whole_input = λ held. absurd (held streamed); written = h.at_most; failed = h.failed }
+      record {
+        accepted = accepted;
+        streamed = λ _. h.at_least;
+        whole_input = λ held. absurd (held streamed);
+        written = h.at_most;
+        failed = h.failed;
+      }
 
   -- the result of the run isn't a refusal, and fits what was moved
   abbrev Says : Result (Unit {0}) RunError → Type 0
   Says result = ¬ IsRefusal result × AnswersRules plan m result
 
-  pub streamed-says : (searched : Result (Unit {0}) StreamError) (result : Result (Unit {0}) RunError) → IsReturnedAs searched result → AnswersWriting (output_of plan.settings plan.rules) (IsOutputFront plan.settings plan.rules) m searched → Says result
-  streamed-says (Ok done) result is a = subst Says (sym is) (λ refusal. refusal, record { accepted = accepted; whole = a.whole; written = a.written; failed = a.failed })
+  pub streamed-says : (searched : Result (Unit {0}) StreamError) (result : Result (Unit {0}) RunError)
+      → IsReturnedAs searched result
+      → AnswersWriting (output_of plan.settings plan.rules) (IsOutputFront plan.settings plan.rules) m searched
+      → Says result
+  streamed-says (Ok done) result is a =
+      subst Says (sym is)
+      (λ refusal. refusal, record { accepted = accepted; whole = a.whole; written = a.written; failed = a.failed })
   streamed-says (Err (stream.Config error)) result is a = absurd is
-  streamed-says (Err (stream.Read error)) result is a = subst Says (sym is) (λ refusal. refusal, record { accepted = accepted; streamed = λ _. a.written; whole_input = λ held. absurd (held streamed); written = front-begins plan (concat m.pieces) m.taken plan.settings.mode refl streamed a.written; failed = a.failed })
+  streamed-says (Err (stream.Read error)) result is a =
+      subst Says (sym is) (
+        λ refusal. refusal,
+        record {
+          accepted = accepted;
+          streamed = λ _. a.written;
+          whole_input = λ held. absurd (held streamed);
+          written = front-begins plan (concat m.pieces) m.taken plan.settings.mode refl streamed a.written;
+          failed = a.failed;
+        },
+      )
   streamed-says (Err (stream.Write error)) result is a = subst Says (sym is) (λ refusal. refusal, streamed_failed 0 a)
   streamed-says (Err stream.WriteZero) result is a = subst Says (sym is) (λ refusal. refusal, streamed_failed 1 a)
-  streamed-says (Err stream.Memory) result is a = subst Says (sym is) (λ refusal. refusal, record { accepted = accepted; within = λ some. absurd (some a.pieces); streamed = λ _. a.pieces; filled = subst AreFilled (sym a.pieces) tt; written = a.taken; failed = a.failed })
-  streamed-says (Err stream.Position) result is a = subst Says (sym is) (λ refusal. refusal, record { accepted = accepted; streamed = streamed; long = a.long; written = a.written; failed = a.failed })
+  streamed-says (Err stream.Memory) result is a =
+      subst Says (sym is) (
+        λ refusal. refusal,
+        record {
+          accepted = accepted;
+          within = λ some. absurd (some a.pieces);
+          streamed = λ _. a.pieces;
+          filled = subst AreFilled (sym a.pieces) tt;
+          written = a.taken;
+          failed = a.failed;
+        },
+      )
+  streamed-says (Err stream.Position) result is a =
+      subst Says (sym is) (
+        λ refusal. refusal,
+        record { accepted = accepted; streamed = streamed; long = a.long; written = a.written; failed = a.failed },
+      )
 
 -- the result of a run that writes while it reads
-pub streamed_answer : {R W : Type 0} (remaining : R → Option (List ℕ)) (contents : W → Option (List ℕ)) (plan : Plan) (r r' : Watched R) (w w' : Watched W) (searched : Result (Unit {0}) StreamError) (result : Result (Unit {0}) RunError) → IsAccepted plan.settings plan.rules → IsStreamed plan
-    → IsReturnedAs searched result → WritesPlan remaining contents r r' w w' plan searched → RanPrepared remaining contents r r' w w' plan result
+pub streamed_answer : {R W : Type 0} (remaining : R → Option (List ℕ)) (contents : W → Option (List ℕ)) (plan : Plan)
+    (r r' : Watched R) (w w' : Watched W) (searched : Result (Unit {0}) StreamError)
+    (result : Result (Unit {0}) RunError) → IsAccepted plan.settings plan.rules → IsStreamed plan
+    → IsReturnedAs searched result → WritesPlan remaining contents r r' w w' plan searched
+    → RanPrepared remaining contents r r' w w' plan result
 streamed_answer remaining contents plan r r' w w' searched result accepted streamed returned (m, moved, short, a) =
     let says = streamed-says plan m accepted streamed searched result returned a in
     (m, moved, (λ _. short), says.0, says.1)
 
 -- if the search that ran out of memory touched no device, nor did the run
-pub streamed_memory : {R W : Type 0} (plan : Plan) (r r' : Watched R) (w w' : Watched W) (searched : Result (Unit {0}) StreamError) (result : Result (Unit {0}) RunError) → IsReturnedAs searched result → IfStreamMemory searched (NoneTouched r r' w w') → RunsOutFirst plan r r' w w' result
+pub streamed_memory : {R W : Type 0} (plan : Plan) (r r' : Watched R) (w w' : Watched W)
+    (searched : Result (Unit {0}) StreamError) (result : Result (Unit {0}) RunError) → IsReturnedAs searched result
+    → IfStreamMemory searched (NoneTouched r r' w w') → RunsOutFirst plan r r' w w' result
 streamed_memory plan r r' w w' (Ok done) result is memory out streamed = absurd (cc (is, out))
 streamed_memory plan r r' w w' (Err (stream.Config error)) result is memory out streamed = absurd is
 streamed_memory plan r r' w w' (Err (stream.Read error)) result is memory out streamed = absurd (cc (is, out))
@@ -222,17 +313,22 @@ streamed_memory plan r r' w w' (Err stream.Memory) result is memory out streamed
 streamed_memory plan r r' w w' (Err stream.Position) result is memory out streamed = absurd (cc (is, out))
 
 -- what an `Ok` of the search means, an `Ok` of the run means
-returned-ok : (P : Type 0) (searched : Result (Unit {0}) StreamError) (result : Result (Unit {0}) RunError) → IsReturnedAs searched result → OnOk searched P → OnOk result P
-returned-ok P (Ok done) result is p = subst (λ (r : Result (Unit {0}) RunError). OnOk r P) (sym is) p
+returned-ok : (P : Type 0) (searched : Result (Unit {0}) StreamError) (result : Result (Unit {0}) RunError)
+    → IsReturnedAs searched result → OnOk searched P → OnOk result P
+returned-ok P (Ok done) result is p = subst (λ r. OnOk r P) (sym is) p
 returned-ok P (Err (stream.Config error)) result is p = absurd is
-returned-ok P (Err (stream.Read error)) result is p = subst (λ (r : Result (Unit {0}) RunError). OnOk r P) (sym is) tt
-returned-ok P (Err (stream.Write error)) result is p = subst (λ (r : Result (Unit {0}) RunError). OnOk r P) (sym is) tt
-returned-ok P (Err stream.WriteZero) result is p = subst (λ (r : Result (Unit {0}) RunError). OnOk r P) (sym is) tt
-returned-ok P (Err stream.Memory) result is p = subst (λ (r : Result (Unit {0}) RunError). OnOk r P) (sym is) tt
-returned-ok P (Err stream.Position) result is p = subst (λ (r : Result (Unit {0}) RunError). OnOk r P) (sym is) tt
+returned-ok P (Err (stream.Read error)) result is p = subst (λ r. OnOk r P) (sym is) tt
+returned-ok P (Err (stream.Write error)) result is p = subst (λ r. OnOk r P) (sym is) tt
+returned-ok P (Err stream.WriteZero) result is p = subst (λ r. OnOk r P) (sym is) tt
+returned-ok P (Err stream.Memory) result is p = subst (λ r. OnOk r P) (sym is) tt
+returned-ok P (Err stream.Position) result is p = subst (λ r. OnOk r P) (sym is) tt
 
 -- the run costs what the search of the stream costs
-pub streamed_cost : {R : Type 0} (plan : Plan) (ac : AhoCorasick) (r r' : Watched R) (before after : Steps) (searched : Result (Unit {0}) StreamError) (result : Result (Unit {0}) RunError) → IsServing plan.settings plan.rules ac → IsStreamed plan
-    → IsReturnedAs searched result → CostsSearch (as_built ac) r r' before after searched → CostsRun plan r r' before after result
+pub streamed_cost : {R : Type 0} (plan : Plan) (ac : AhoCorasick) (r r' : Watched R) (before after : Steps)
+    (searched : Result (Unit {0}) StreamError) (result : Result (Unit {0}) RunError)
+    → IsServing plan.settings plan.rules ac → IsStreamed plan
+    → IsReturnedAs searched result → CostsSearch (as_built ac) r r' before after searched
+    → CostsRun plan r r' before after result
 streamed_cost plan ac r r' before after searched result serves streamed returned (pieces, read, cost, whole) =
-    streamed-cost plan ac r r' before after result serves streamed (pieces, read, cost, returned-ok _ searched result returned whole)
+    streamed-cost plan ac r r' before after result serves streamed
+    (pieces, read, cost, returned-ok _ searched result returned whole)

@@ -12,50 +12,79 @@ use Rattle.acsub.specs.Stream.{IsNoRefusal}
 use Rattle.acsub.specs.Tool.{status_of}
 use Rattle.acsub.specs.declared.error.RunError.{RunError}
 use Rattle.acsub.specs.declared.error.RunError.TheVariants as errors
-use Rattle.acsub_words.specs.declared.Words.{Words}
+use Rattle.acsub.specs.declared.args.Words.{Words}
 use Rattle.acsub.specs.declared.tool.Fault.{Fault}
 use Rattle.acsub.specs.declared.tool.Fault.TheVariants as faults
-use Rattle.acsub_words.specs.declared.WordsFault.TheVariants.{Memory}
+use Rattle.acsub.specs.declared.args.WordsFault.TheVariants.{Memory}
 
 -- ---- the outcome after the flush
 
 -- the result of a text that was written is never a refused search
-pub write-accepted : {W : Type 0} (contents : W → Option (List ℕ)) (before after : Watched W) (text : List ℕ) (written : Result (Unit {0}) StreamError) → WritesWhole contents before after text written → IfErr written IsNoRefusal
+pub write-accepted : {W : Type 0} (contents : W → Option (List ℕ)) (before after : Watched W) (text : List ℕ)
+    (written : Result (Unit {0}) StreamError) → WritesWhole contents before after text written
+    → IfErr written IsNoRefusal
 write-accepted contents before after text (Ok done) writes = tt
 write-accepted contents before after text (Err error) writes = λ refusal e. subst (IsOfWrite before after) e writes.1
 
 -- the outcome after help was written and flushed
-pub help-finished : {W : Type 0} (contents : W → Option (List ℕ)) (before between after : Watched W) (text : List ℕ) (answer : Result (Unit {0}) RunError) (outcome : Result (Unit {0}) Fault) → WritesText contents text before between answer → Finishes contents answer between after outcome → AnswersHelp contents before after outcome
+pub help-finished : {W : Type 0} (contents : W → Option (List ℕ)) (before between after : Watched W) (text : List ℕ)
+    (answer : Result (Unit {0}) RunError) (outcome : Result (Unit {0}) Fault)
+    → WritesText contents text before between answer → Finishes contents answer between after outcome
+    → AnswersHelp contents before after outcome
 help-finished contents before between after text (Ok done) (Ok none) writes flush = (text, between, writes, flush)
-help-finished contents before between after text (Ok done) (Err fault) writes flush = subst (λ (f : Fault). AnswersHelp contents before after (Err f)) (sym flush.0) (text, between, writes, flush.1)
+help-finished contents before between after text (Ok done) (Err fault) writes flush =
+    subst (λ f. AnswersHelp contents before after (Err f)) (sym flush.0) (text, between, writes, flush.1)
 help-finished contents before between after text (Err e) (Ok none) writes flush = absurd flush
-help-finished contents before between after text (Err e) (Err fault) writes (told, inl flush) = subst (λ (f : Fault). AnswersHelp contents before after (Err f)) (sym told) (inl (text, between, writes, flush))
-help-finished contents before between after text (Err e) (Err fault) writes (told, inr flush) = subst (λ (f : Fault). AnswersHelp contents before after (Err f)) (sym told) (inr (inl (text, between, writes, flush)))
+help-finished contents before between after text (Err e) (Err fault) writes (told, inl flush) =
+    subst (λ f. AnswersHelp contents before after (Err f)) (sym told) (inl (text, between, writes, flush))
+help-finished contents before between after text (Err e) (Err fault) writes (told, inr flush) =
+    subst (λ f. AnswersHelp contents before after (Err f)) (sym told) (inr (inl (text, between, writes, flush)))
 
-module _ {F R W : Type 0} (held : F → Option (List ℕ)) (remaining : R → Option (List ℕ)) (contents : W → Option (List ℕ)) (asked : Words) where
+module _ {F R W : Type 0} (held : F → Option (List ℕ)) (remaining : R → Option (List ℕ))
+    (contents : W → Option (List ℕ)) (asked : Words) where
   -- the outcome after a run and a flush
-  pub run-finished : (r r' : Watched R) (before between after : Watched W) (answer : Result (Unit {0}) RunError) (outcome : Result (Unit {0}) Fault)
-      → RanFile held remaining contents asked r r' before between answer → Finishes contents answer between after outcome → AnswersFile held remaining contents asked r r' before after outcome
+  pub run-finished : (r r' : Watched R) (before between after : Watched W) (answer : Result (Unit {0}) RunError)
+      (outcome : Result (Unit {0}) Fault)
+      → RanFile held remaining contents asked r r' before between answer
+      → Finishes contents answer between after outcome
+      → AnswersFile held remaining contents asked r r' before after outcome
   run-finished r r' before between after (Ok done) (Ok none) ran flush = (between, ran, flush)
-  run-finished r r' before between after (Ok done) (Err fault) ran flush = subst (λ (f : Fault). AnswersFile held remaining contents asked r r' before after (Err f)) (sym flush.0) (between, ran, flush.1)
+  run-finished r r' before between after (Ok done) (Err fault) ran flush =
+      subst (λ f. AnswersFile held remaining contents asked r r' before after (Err f)) (sym flush.0)
+      (between, ran, flush.1)
   run-finished r r' before between after (Err e) (Ok none) ran flush = absurd flush
-  run-finished r r' before between after (Err e) (Err fault) ran (told, inl flush) = subst (λ (f : Fault). AnswersFile held remaining contents asked r r' before after (Err f)) (sym told) (inl (between, ran, flush))
-  run-finished r r' before between after (Err e) (Err fault) ran (told, inr flush) = subst (λ (f : Fault). AnswersFile held remaining contents asked r r' before after (Err f)) (sym told) (inr (inl (between, ran, flush)))
+  run-finished r r' before between after (Err e) (Err fault) ran (told, inl flush) =
+      subst (λ f. AnswersFile held remaining contents asked r r' before after (Err f)) (sym told)
+      (inl (between, ran, flush))
+  run-finished r r' before between after (Err e) (Err fault) ran (told, inr flush) =
+      subst (λ f. AnswersFile held remaining contents asked r r' before after (Err f)) (sym told)
+      (inr (inl (between, ran, flush)))
 
   -- if the rule file can't be read, that is the fault, and no device is touched
-  pub file-unread : (r : Watched R) (w : Watched W) (fault : Fault) → ReadsFile {F = F} {Z = Global} held (Err fault) → AnswersFile held remaining contents asked r r w w (Err fault)
-  file-unread r w fault (inl is) = subst (λ (f : Fault). AnswersFile held remaining contents asked r r w w (Err f)) (sym is) (refl, refl)
-  file-unread r w fault (inr is) = subst (λ (f : Fault). AnswersFile held remaining contents asked r r w w (Err f)) (sym is) (inr (inr (refl, (refl, refl))))
+  pub file-unread : (r : Watched R) (w : Watched W) (fault : Fault) → ReadsFile {F = F} {Z = Global} held (Err fault)
+      → AnswersFile held remaining contents asked r r w w (Err fault)
+  file-unread r w fault (inl is) =
+      subst (λ f. AnswersFile held remaining contents asked r r w w (Err f)) (sym is) (refl, refl)
+  file-unread r w fault (inr is) =
+      subst (λ f. AnswersFile held remaining contents asked r r w w (Err f)) (sym is) (inr (inr (refl, (refl, refl))))
 
 -- ---- the words
 
-module _ {F R W Z A : Type 0} (held : F → Option (List ℕ)) (remaining : R → Option (List ℕ)) (contents : W → Option (List ℕ)) where
+module _ {F R W Z A : Type 0} (held : F → Option (List ℕ)) (remaining : R → Option (List ℕ))
+    (contents : W → Option (List ℕ)) where
   -- if the words were collected, the program ends as the tool does with these words
-  pub ends-collected : (words : Result (IntoIter (String Z) A) Error) (all : Vec (String Z) Global) (r r' : Watched R) (w w' : Watched W) (status : ℕ) → Collects words (Ok all) → EndsTool held remaining contents all.items r r' w w' status → EndsProgram held remaining contents words r r' w w' status
-  ends-collected (Ok words) all r r' w w' status same ends = subst (λ (ws : List (String Z)). EndsTool held remaining contents ws r r' w w' status) same ends
+  pub ends-collected : (words : Result (IntoIter (String Z) A) Error) (all : Vec (String Z) Global) (r r' : Watched R)
+      (w w' : Watched W) (status : ℕ) → Collects words (Ok all)
+      → EndsTool held remaining contents all.items r r' w w' status
+      → EndsProgram held remaining contents words r r' w w' status
+  ends-collected (Ok words) all r r' w w' status same ends =
+      subst (λ ws. EndsTool held remaining contents ws r r' w w' status) same ends
   ends-collected (Err error) all r r' w w' status none ends = absurd none
 
   -- if the words were not collected, the fault is reported, and no device is touched
-  pub ends-uncollected : (words : Result (IntoIter (String Z) A) Error) (fault : Fault) (r : Watched R) (w : Watched W) (status : ℕ) → Collects {Y = Global} words (Err fault) → status ≡ status_of fault → EndsProgram held remaining contents words r r w w status
-  ends-uncollected (Ok words) fault r w status memory told = (Err (faults.Run errors.Memory), told ∙ ap status_of memory, (Err Memory, tt, (refl, (refl, refl))))
+  pub ends-uncollected : (words : Result (IntoIter (String Z) A) Error) (fault : Fault) (r : Watched R) (w : Watched W)
+      (status : ℕ) → Collects {Y = Global} words (Err fault) → status ≡ status_of fault
+      → EndsProgram held remaining contents words r r w w status
+  ends-uncollected (Ok words) fault r w status memory told =
+      (Err (faults.Run errors.Memory), told ∙ ap status_of memory, (Err Memory, tt, (refl, (refl, refl))))
   ends-uncollected (Err error) fault r w status why told = (fault, told, why, (refl, refl))

@@ -7,7 +7,7 @@ use Rattle.ac_automaton.specs.declared.error.StreamError.{StreamError}
 use Rattle.ac_automaton.specs.declared.watched.Watched.{Watched}
 use Rattle.acsub.specs.Matches.{left_in}
 use Rattle.acsub.specs.Plan.{Plan}
-use Rattle.acsub_rules.specs.Sides.{replacements_of}
+use Rattle.acsub.specs.Rules.Sides.{replacements_of}
 use Rattle.acsub.specs.Run.Transformed.{output_of}
 use Rattle.acsub.specs.declared.matches.Matches.{Matches}
 
@@ -18,9 +18,12 @@ module _ {W : Type 0} (contents : W → Option (List ℕ)) where
   SendsList matches before after result = Sends contents (listed (left_in matches)) before after [] [] result
 
   -- The input was written with each remaining match replaced; or the sending stopped at a write.
-  abbrev pub SendsReplaced : List ℕ → List Rule → Matches → Watched W → Watched W → Result (Unit {0}) StreamError → Type 0
-  SendsReplaced input rules picks before after result = Sends contents (replaced_from 0 input (replacements_of rules) (left_in picks)) before after [] [] result
+  abbrev pub SendsReplaced : List ℕ → List Rule → Matches → Watched W → Watched W → Result (Unit {0}) StreamError
+      → Type 0
+  SendsReplaced input rules picks before after result =
+      Sends contents (replaced_from 0 input (replacements_of rules) (left_in picks)) before after [] [] result
 
   -- The text that the plan makes of an input was written; or the sending stopped at a write.
   abbrev pub SendsText : Plan → List ℕ → Watched W → Watched W → Result (Unit {0}) StreamError → Type 0
-  SendsText plan input before after result = Sends contents (output_of plan.settings plan.rules input) before after [] [] result
+  SendsText plan input before after result =
+      Sends contents (output_of plan.settings plan.rules input) before after [] [] result

@@ -1,7 +1,6 @@
 -- The text that a run makes of its input, the front of it that is decided early, and when a run may write it early.
 use Rattle.std.specs.Prelude.{◌≡◌, ◌≢◌, ◌⊎◌, ℕ, Bool, List, true, max}
 use Rattle.ac_input.specs.declared.search.MatchKind.{MatchKind}
-use Rattle.ac_input.specs.declared.search.MatchKind.TheVariants.{Standard}
 use Rattle.ac_input.specs.Computed.{walk_of, listing_of}
 use Rattle.ac_input.specs.Dictionary.{Dictionary}
 use Rattle.ac_input.specs.Occurrence.{Occurrence, Search}
@@ -9,16 +8,16 @@ use Rattle.ac_input.specs.Rules.{Rule}
 use Rattle.ac_input.specs.Text.{replaced_from, listed}
 use Rattle.ac_input.specs.Work.{longest}
 use Rattle.ac_automaton.specs.Devices.Buffer.{least_room, room_for}
-use Rattle.ac_automaton.specs.Stream.{Decides, IsFront}
-use Rattle.acsub_words.specs.declared.settings.Engine.TheVariants.{Packed}
-use Rattle.acsub_words.specs.declared.settings.Mode.{Mode}
-use Rattle.acsub_words.specs.declared.settings.Mode.TheVariants as modes
-use Rattle.acsub_words.specs.declared.settings.Settings.{Settings}
+use Rattle.ac_automaton.specs.Stream.{Decides, IsFront, Picks, Sequence}
+use Rattle.acsub.specs.declared.args.settings.Engine.TheVariants.{Packed}
+use Rattle.acsub.specs.declared.args.settings.Mode.{Mode}
+use Rattle.acsub.specs.declared.args.settings.Mode.TheVariants as modes
+use Rattle.acsub.specs.declared.args.settings.Settings.{Settings}
 use Rattle.acsub.specs.Finder.{whole_search}
 use Rattle.acsub.specs.Plan.{Plan}
 use Rattle.acsub.specs.Served.{dictionary_for}
-use Rattle.acsub_words.specs.Settings.{HasEmptyPattern}
-use Rattle.acsub_rules.specs.Sides.{rule_patterns, replacements_of}
+use Rattle.acsub.specs.Args.Settings.{FindsEarly, HasEmptyPattern}
+use Rattle.acsub.specs.Rules.Sides.{rule_patterns, replacements_of}
 
 -- the text that a mode makes of a search
 abbrev pub text_in : Mode → MatchKind → List (List ℕ) → Search → List ℕ
@@ -26,22 +25,23 @@ text_in modes.Replace kind replacements s = replaced_from 0 s.haystack replaceme
 text_in modes.List kind replacements s = listed (walk_of kind s)
 text_in modes.Overlap kind replacements s = listed (listing_of s)
 
--- The text that settings and rules make of an input. It doesn't depend on the engine, the prefilter, the dense depth or byte
+-- The text that settings and rules make of an input. It doesn't depend on the engine, the prefilter, the dense depth or
+-- byte
 -- classes.
 abbrev pub output_of : Settings → List Rule → List ℕ → List ℕ
-output_of settings rules input = text_in settings.mode settings.kind (replacements_of rules) (whole_search settings (rule_patterns rules) input)
+output_of settings rules input =
+    text_in settings.mode settings.kind (replacements_of rules) (whole_search settings (rule_patterns rules) input)
 
--- Matches are found while the input is read. Under the standard kind that is always so, as no later byte can change a match. Under
--- a leftmost kind a stream must be asked for, and an automaton must search.
-abbrev pub FindsEarly : Bool → Settings → Type 0
-FindsEarly stream settings = (settings.kind ≡ Standard) ⊎ ((stream ≡ true) × (settings.engine ≢ Packed))
-
--- The text is written while the input is read. Matches are found by then, and no pattern is empty. Overlapping matches are listed
+-- The text is written while the input is read. Matches are found by then, and no pattern is empty. Overlapping matches
+-- are listed
 -- so only if a stream was asked for. Every other text is written after the whole input was read.
 abbrev pub IsStreamed : Plan → Type 0
-IsStreamed plan = FindsEarly plan.stream plan.settings × ((plan.stream ≡ true) ⊎ (plan.settings.mode ≢ modes.Overlap)) × ¬ HasEmptyPattern plan.rules
+IsStreamed plan =
+    FindsEarly plan.stream plan.settings × ((plan.stream ≡ true) ⊎ (plan.settings.mode ≢ modes.Overlap))
+    × ¬ HasEmptyPattern plan.rules
 
--- How many bytes the input buffer has room for in a run that writes while it reads, by the mode. An overlapping search keeps no
+-- How many bytes the input buffer has room for in a run that writes while it reads, by the mode. An overlapping search
+-- keeps no
 -- byte that was searched.
 abbrev pub room_in : Mode → List Rule → ℕ
 room_in modes.Replace rules = room_for (max (longest (rule_patterns rules)) 1)
@@ -51,13 +51,15 @@ room_in modes.Overlap rules = least_room
 abbrev pub stream_room : Plan → ℕ
 stream_room plan = room_in plan.settings.mode plan.rules
 
--- a line for each match that a text decides: under the standard kind, for all of its matches
-abbrev pub IsDecidedList : Dictionary → List ℕ → List ℕ → Type 0
-IsDecidedList m x text = (os : List Occurrence) × Decides m x os × (text ≡ listed os)
+-- a line for each item that a text decides: under the standard kind, for all of its items
+abbrev pub IsDecidedList : Sequence → Dictionary → List ℕ → List ℕ → Type 0
+IsDecidedList q m x text = (os : List Occurrence) × Decides q m x os × (text ≡ listed os)
 
--- What can be written once this much of the input was read: the text up to a cut, with matches replaced; or a line for each decided
+-- What can be written once this much of the input was read: the text up to a cut, with matches replaced; or a line for
+-- each decided
 -- match; or a line for each occurrence, which no later byte can change.
 pub record IsOutputFront (settings : Settings) (rules : List Rule) (x text : List ℕ) : Type 0 where
-  pub replaced : settings.mode ≡ modes.Replace → IsFront (dictionary_for settings rules) (output_of settings rules) x text
-  pub listed : settings.mode ≡ modes.List → IsDecidedList (dictionary_for settings rules) x text
+  pub replaced : settings.mode ≡ modes.Replace
+      → IsFront (dictionary_for settings rules) (output_of settings rules) x text
+  pub listed : settings.mode ≡ modes.List → IsDecidedList Picks (dictionary_for settings rules) x text
   pub overlapping : settings.mode ≡ modes.Overlap → text ≡ output_of settings rules x

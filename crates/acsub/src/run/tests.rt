@@ -3,12 +3,12 @@
 //! What is written stands in `texts`, and in `repeated` for letters that stand many times over. What is refused stands in
 //! `refusals`, and what becomes of a reader or a writer that stops in `devices`.
 use super::{run, run_rules};
+use crate::args::settings::{Engine, SettingError, Settings};
 use crate::error::RunError;
-use crate::scripted::{Same, Sink, Source, Told, expecting, whole};
+use crate::rules::{RuleError, read_rules};
+use crate::scripted::{Same, Sink, Source, Told, equal, expecting, whole};
 use ac_automaton::watched::Watched;
 use ac_input::search::MatchKind;
-use acsub_rules::{RuleError, read_rules};
-use acsub_words::settings::{Engine, SettingError, Settings};
 use std::alloc::{AllocError, Global};
 use std::process::Abort;
 
@@ -90,14 +90,10 @@ fn shows(rt: &impl Abort, rules: &str, did: &Did, want: &Did) {
     } else {
         "long ones"
     };
-    assert_eq!(rt; did.answer, want.answer, "by {rules:?}");
-    assert_eq!(rt; did.written, want.written, "by {rules:?}");
-    let calls = (did.reads, did.writes, did.flushes);
-    assert_eq!(rt;
-        calls,
-        (want.reads, want.writes, want.flushes),
-        "by {rules:?}"
-    );
+    let wrote = (want.answer, want.written);
+    equal(rt, &(did.answer, did.written), &wrote, rules);
+    let calls = (want.reads, want.writes, want.flushes);
+    equal(rt, &(did.reads, did.writes, did.flushes), &calls, rules);
 }
 
 /// How often an input is read, with this many bytes a read and an empty one.

@@ -1,7 +1,7 @@
 //! The whole program over scripted devices: each status, and each line.
 use super::{Fault, tell, tool};
 use crate::error::RunError;
-use crate::scripted::{Sink, Source, command_line, expecting, whole};
+use crate::scripted::{Sink, Source, command_line, equal, expecting, whole};
 use ac_automaton::watched::Watched;
 use ac_input::primitives::PatternID;
 use ac_noncontiguous::error::BuildErrorKind;
@@ -480,21 +480,19 @@ fn try_tool(
 fn shows(rt: &impl Abort, row: &Row, did: &Did) {
     let words = row.words;
     let told = Some(row.told.len());
-    assert_eq!(rt; (did.status, did.told), (row.status, told), "by {words:?}");
     let flushes = row.flushes.unwrap_or(did.flushes);
-    assert_eq!(rt;
-        (did.reads, did.flushes),
-        (row.reads, flushes),
-        "by {words:?}"
-    );
+    let ended = (words, did.status, did.told, did.reads, did.flushes);
+    let want = (words, row.status, told, row.reads, flushes);
+    equal(rt, &ended, &want, "how it ended");
     let written = did.written.unwrap_or(usize::MAX);
-    assert!(rt;
-        row.fewest <= written && written <= row.most,
-        "by {words:?}"
-    );
-    assert!(rt;
-        !row.can_flush || did.flushes == 0 || did.flushed == written,
-        "by {words:?}"
+    let as_much = row.fewest <= written && written <= row.most;
+    let is_flushed = !row.can_flush || did.flushes == 0 || did.flushed == written;
+    let facts = (words, written, as_much, is_flushed);
+    equal(
+        rt,
+        &facts,
+        &(words, written, true, true),
+        "what was written and flushed",
     );
 }
 
@@ -591,7 +589,8 @@ fn does_in_little<F: Abort + Files>(rt: &F, alloc: Global, row: &Row) {
         return;
     };
     if did.status == 7 {
-        assert_eq!(rt; (did.told, did.written), (Some(NO_MEMORY.len()), Some(0)));
+        let nothing = (Some(NO_MEMORY.len()), Some(0));
+        equal(rt, &(did.told, did.written), &nothing, NO_MEMORY);
     } else {
         shows(rt, row, &did);
     }
@@ -613,13 +612,13 @@ fn in_memory_that_may_end(rt: HostRuntime) -> Result<(), Fail> {
 fn tells(rt: &impl Abort, fault: &Fault, status: u8, line: &str) {
     let mut errors = expecting(line.as_bytes());
     let told = (tell(fault, &mut errors), errors.written());
-    assert_eq!(rt; told, (status, Some(line.len())), "{line:?}");
+    equal(rt, &told, &(status, Some(line.len())), line);
     let mut errors = Sink {
         room: 0,
         fails: true,
         ..expecting(line.as_bytes())
     };
-    assert_eq!(rt; tell(fault, &mut errors), status);
+    equal(rt, &tell(fault, &mut errors), &status, line);
 }
 
 /// The limits of a build are too far away for a test, and memory is ample: each is reported as a run would report it.

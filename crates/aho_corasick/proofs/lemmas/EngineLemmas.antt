@@ -16,20 +16,6 @@ use Rattle.aho_corasick.specs.declared.engine.Engine.TheVariants.{Noncontiguous,
 use Rattle.aho_corasick.specs.AhoCorasick.{as_built, serving_engine}
 use Rattle.aho_corasick.specs.Engine.{IsEngineRead, engine_built_as, kind_served, engine_supported_by}
 
--- ---- from the front to the automaton that serves, and back
-
--- what holds of the front holds of the automaton that serves
-pub to-engine : (P : Built → Engine → Type 0) {b : Built} {engine serving is : Engine} → serving ≡ engine → b ≡ engine_built_as serving → serving ≡ is → P b engine → P (engine_built_as is) is
-to-engine P {b} {engine} {serving} same built case holds =
-    subst (λ (e : Engine). P (engine_built_as e) e) case (subst (λ (c : Built). P c serving) built (subst (P b) (sym same) holds))
-
--- and what holds of that holds of the front
-pub to-front : (P : Built → Engine → Type 0) {b : Built} {engine serving is : Engine} → serving ≡ engine → b ≡ engine_built_as serving → serving ≡ is → P (engine_built_as is) is → P b engine
-to-front P {b} {engine} {serving} same built case holds =
-    subst (P b) same (subst (λ (c : Built). P c serving) (sym built) (subst (λ (e : Engine). P (engine_built_as e) e) (sym case) holds))
-
--- ---- what the front says
-
 -- a DFA looks at exactly one state for each byte
 dfa-deterministic : (engine : Engine) → kind_served engine ≡ DFA → IsTrue (engine_built_as engine).deterministic
 dfa-deterministic (Noncontiguous nfa) is = cc
@@ -37,25 +23,34 @@ dfa-deterministic (Contiguous nfa) is = cc
 dfa-deterministic (Dfa dfa) is = refl
 
 -- so does the front where one serves
-pub front-deterministic : (ac : AhoCorasick) → kind_served (serving_engine ac) ≡ DFA → IsTrue (as_built ac).deterministic
-front-deterministic ac is = subst (λ (b : Built). IsTrue b.deterministic) (sym ac.shared.value.same) (dfa-deterministic (serving_engine ac) is)
+pub front-deterministic : (ac : AhoCorasick) → kind_served (serving_engine ac) ≡ DFA
+    → IsTrue (as_built ac).deterministic
+front-deterministic ac is =
+    subst (λ b. IsTrue b.deterministic) (sym ac.shared.value.same) (dfa-deterministic (serving_engine ac) is)
 
 -- if the automaton has the starts of the start kind, it returns no start error for a search of that kind
 pub refusal-served : (engine : Engine) (kind : StartKind) (anchored : Anchored) (error : MatchErrorKind)
     → ((anchored : Anchored) → Serves kind anchored → ∥ engine_supported_by engine anchored ∥₁) → Serves kind anchored
-    → (¬ (engine_supported_by engine) anchored × (error ≡ refusal_of anchored)) → (¬ (Serves kind) anchored × (error ≡ refusal_of anchored))
-refusal-served engine kind anchored error starts serves refused = (λ _. ∥∥₁_elim (starts anchored serves) (λ (x y : ⊥). absurd x) refused.0, refused.1)
+    → (¬ (engine_supported_by engine) anchored × (error ≡ refusal_of anchored))
+    → (¬ (Serves kind) anchored × (error ≡ refusal_of anchored))
+refusal-served engine kind anchored error starts serves refused =
+    (λ _. ∥∥₁_elim (starts anchored serves) (λ (x y : ⊥). absurd x) refused.0, refused.1)
 
 -- for an anchoring of the start kind, the start that the automaton returns is the front's start
 pub start-served : (engine : Engine) (kind : StartKind) (anchored : Anchored) (r : Result ℕ MatchErrorKind)
     → ((anchored : Anchored) → Serves kind anchored → ∥ engine_supported_by engine anchored ∥₁) → Serves kind anchored
-    → AnswersStart (engine_supported_by engine) (IsEngineRead engine) anchored r → AnswersStart (Serves kind) (IsEngineRead engine) anchored r
+    → AnswersStart (engine_supported_by engine) (IsEngineRead engine) anchored r
+    → AnswersStart (Serves kind) (IsEngineRead engine) anchored r
 start-served engine kind anchored (Ok sid) starts serves answered = (serves, answered.1)
-start-served engine kind anchored (Err error) starts serves answered = refusal-served engine kind anchored error starts serves answered
+start-served engine kind anchored (Err error) starts serves answered =
+    refusal-served engine kind anchored error starts serves answered
 
 -- for a search of the start kind, the match that the automaton returns is the front's match
-pub find-served : (b : Built) (engine : Engine) (kind : StartKind) (asked : Asked) (r : Result (Option Occurrence) MatchErrorKind)
-    → ((anchored : Anchored) → Serves kind anchored → ∥ engine_supported_by engine anchored ∥₁) → Serves kind asked.anchored
+pub find-served : (b : Built) (engine : Engine) (kind : StartKind) (asked : Asked)
+    (r : Result (Option Occurrence) MatchErrorKind)
+    → ((anchored : Anchored) → Serves kind anchored → ∥ engine_supported_by engine anchored ∥₁)
+    → Serves kind asked.anchored
     → Finds b.dictionary (engine_supported_by engine) asked r → Finds b.dictionary (Serves kind) asked r
 find-served b engine kind asked (Ok found) starts serves answered = (serves, answered.1)
-find-served b engine kind asked (Err error) starts serves answered = refusal-served engine kind asked.anchored error starts serves answered
+find-served b engine kind asked (Err error) starts serves answered =
+    refusal-served engine kind asked.anchored error starts serves answered

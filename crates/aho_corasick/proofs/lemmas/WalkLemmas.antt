@@ -9,7 +9,9 @@ use Rattle.ac_automaton.specs.declared.error.MatchErrorKind.{MatchErrorKind}
 use Rattle.ac_automaton.specs.Replace.{matches_in}
 
 -- a walk that has not begun has all matches of the text left
-pub left-all : (b : Built) (supports : Anchored → Type 0) (text : List ℕ) (asked : Asked) (result : Result Walk MatchErrorKind) (w : Walk) → AnswersFindIter b supports asked result → result ≡ Ok w → asked ≡ whole_of text → left_of w ≡ matches_in b text
+pub left-all : (b : Built) (supports : Anchored → Type 0) (text : List ℕ) (asked : Asked)
+    (result : Result Walk MatchErrorKind) (w : Walk) → AnswersFindIter b supports asked result → result ≡ Ok w
+    → asked ≡ whole_of text → left_of w ≡ matches_in b text
 left-all b supports text asked result w answers is whole_text =
-    let all = subst (λ (q : Result Walk MatchErrorKind). AnswersFindIter b supports asked q) is answers in
+    let all = subst (λ q. AnswersFindIter b supports asked q) is answers in
     all.2 ∙ ap (walk_in b) whole_text

@@ -17,6 +17,17 @@ use ac_input::search::{Anchored, Input, Match, MatchKind, StartKind};
 use ac_input::steps::Steps;
 use ac_literal::prefilter::Prefilter;
 
+/// Calls a function of the automaton that serves.
+macro_rules! dispatch {
+    ($ac:ident.$call:ident($($value:expr),*)) => {
+        match $ac.serving() {
+            Engine::Noncontiguous(nfa) => nfa.$call($($value),*),
+            Engine::Contiguous(nfa) => nfa.$call($($value),*),
+            Engine::Dfa(dfa) => dfa.$call($($value),*),
+        }
+    };
+}
+
 /// Refuses a search for which an automaton of the start kind has no start.
 fn enforce_anchored_consistency(have: StartKind, want: Anchored) -> Result<(), MatchError>
     ensures served { OnOk result (Serves have want) }
@@ -32,27 +43,23 @@ fn enforce_anchored_consistency(have: StartKind, want: Anchored) -> Result<(), M
 impl Automaton for AhoCorasick {
     ghost use Rattle.aho_corasick.specs.AhoCorasick.{serving_engine, as_built, supported_by};
     ghost use Rattle.aho_corasick.specs.Engine.{IsEngineRead, engine_matches_at, is_engine_special_at, is_engine_start_at};
-    ghost use Rattle.aho_corasick.specs.EngineLaws.{read-tells, read-lives, read-pairs, read-stops};
+    ghost use Rattle.aho_corasick.specs.EngineLaws.{read-tells, read-stops};
 
     ghost built = { as_built };
 
     ghost supports = { supported_by };
 
-    ghost Reaches = { λ ac anchored text sid. IsEngineRead (serving_engine ac) anchored text sid };
+    ghost Reaches = { λ ac. IsEngineRead (serving_engine ac) };
 
-    ghost matches = { λ ac sid. engine_matches_at (serving_engine ac) sid };
+    ghost matches = { λ ac. engine_matches_at (serving_engine ac) };
 
-    ghost starts = { λ ac sid. is_engine_start_at (serving_engine ac) sid };
+    ghost starts = { λ ac. is_engine_start_at (serving_engine ac) };
 
-    ghost special = { λ ac sid. is_engine_special_at (serving_engine ac) sid };
+    ghost special = { λ ac. is_engine_special_at (serving_engine ac) };
 
     fn start_state(&self, anchored: Anchored) -> Result<StateID, MatchError> {
         enforce_anchored_consistency(self.start_kind, anchored)?;
-        match self.serving() {
-            Engine::Noncontiguous(nfa) => nfa.start_state(anchored),
-            Engine::Contiguous(nfa) => nfa.start_state(anchored),
-            Engine::Dfa(dfa) => dfa.start_state(anchored),
-        }
+        dispatch!(self.start_state(anchored))
     }
 
     #[inline]
@@ -63,11 +70,7 @@ impl Automaton for AhoCorasick {
         byte: u8,
         steps: &mut Steps,
     ) -> StateID {
-        match self.serving() {
-            Engine::Noncontiguous(nfa) => nfa.next_state_counted(anchored, sid, byte, steps),
-            Engine::Contiguous(nfa) => nfa.next_state_counted(anchored, sid, byte, steps),
-            Engine::Dfa(dfa) => dfa.next_state_counted(anchored, sid, byte, steps),
-        }
+        dispatch!(self.next_state_counted(anchored, sid, byte, steps))
     }
 
     #[inline]
@@ -78,11 +81,7 @@ impl Automaton for AhoCorasick {
         bytes: &[u8],
         steps: &mut Steps,
     ) -> Advance {
-        match self.serving() {
-            Engine::Noncontiguous(nfa) => nfa.advance(anchored, sid, bytes, steps),
-            Engine::Contiguous(nfa) => nfa.advance(anchored, sid, bytes, steps),
-            Engine::Dfa(dfa) => dfa.advance(anchored, sid, bytes, steps),
-        }
+        dispatch!(self.advance(anchored, sid, bytes, steps))
     }
 
     #[inline]
@@ -93,11 +92,7 @@ impl Automaton for AhoCorasick {
         bytes: &[u8],
         steps: &mut Steps,
     ) -> Advance {
-        match self.serving() {
-            Engine::Noncontiguous(nfa) => nfa.advance_to_match(anchored, sid, bytes, steps),
-            Engine::Contiguous(nfa) => nfa.advance_to_match(anchored, sid, bytes, steps),
-            Engine::Dfa(dfa) => dfa.advance_to_match(anchored, sid, bytes, steps),
-        }
+        dispatch!(self.advance_to_match(anchored, sid, bytes, steps))
     }
 
     fn note_ahead(
@@ -110,126 +105,66 @@ impl Automaton for AhoCorasick {
         notes: &mut [Note],
         steps: &mut Steps,
     ) -> Noted {
-        match self.serving() {
-            Engine::Noncontiguous(nfa) => nfa.note_ahead(sid, bytes, at, len, anew, notes, steps),
-            Engine::Contiguous(nfa) => nfa.note_ahead(sid, bytes, at, len, anew, notes, steps),
-            Engine::Dfa(dfa) => dfa.note_ahead(sid, bytes, at, len, anew, notes, steps),
-        }
+        dispatch!(self.note_ahead(sid, bytes, at, len, anew, notes, steps))
     }
 
     #[inline]
     fn is_special(&self, sid: StateID) -> bool {
-        match self.serving() {
-            Engine::Noncontiguous(nfa) => nfa.is_special(sid),
-            Engine::Contiguous(nfa) => nfa.is_special(sid),
-            Engine::Dfa(dfa) => dfa.is_special(sid),
-        }
+        dispatch!(self.is_special(sid))
     }
 
     #[inline]
     fn is_dead(&self, sid: StateID) -> bool {
-        match self.serving() {
-            Engine::Noncontiguous(nfa) => nfa.is_dead(sid),
-            Engine::Contiguous(nfa) => nfa.is_dead(sid),
-            Engine::Dfa(dfa) => dfa.is_dead(sid),
-        }
+        dispatch!(self.is_dead(sid))
     }
 
     #[inline]
     fn is_match(&self, sid: StateID) -> bool {
-        match self.serving() {
-            Engine::Noncontiguous(nfa) => nfa.is_match(sid),
-            Engine::Contiguous(nfa) => nfa.is_match(sid),
-            Engine::Dfa(dfa) => dfa.is_match(sid),
-        }
+        dispatch!(self.is_match(sid))
     }
 
     #[inline]
     fn is_start(&self, sid: StateID) -> bool {
-        match self.serving() {
-            Engine::Noncontiguous(nfa) => nfa.is_start(sid),
-            Engine::Contiguous(nfa) => nfa.is_start(sid),
-            Engine::Dfa(dfa) => dfa.is_start(sid),
-        }
+        dispatch!(self.is_start(sid))
     }
 
     fn match_kind(&self) -> MatchKind {
-        match self.serving() {
-            Engine::Noncontiguous(nfa) => nfa.match_kind(),
-            Engine::Contiguous(nfa) => nfa.match_kind(),
-            Engine::Dfa(dfa) => dfa.match_kind(),
-        }
+        dispatch!(self.match_kind())
     }
 
     fn match_len(&self, sid: StateID) -> usize {
-        match self.serving() {
-            Engine::Noncontiguous(nfa) => nfa.match_len(sid),
-            Engine::Contiguous(nfa) => nfa.match_len(sid),
-            Engine::Dfa(dfa) => dfa.match_len(sid),
-        }
+        dispatch!(self.match_len(sid))
     }
 
     fn match_pattern(&self, sid: StateID, index: usize) -> PatternID {
-        match self.serving() {
-            Engine::Noncontiguous(nfa) => nfa.match_pattern(sid, index),
-            Engine::Contiguous(nfa) => nfa.match_pattern(sid, index),
-            Engine::Dfa(dfa) => dfa.match_pattern(sid, index),
-        }
+        dispatch!(self.match_pattern(sid, index))
     }
 
     fn patterns_len(&self) -> usize {
-        match self.serving() {
-            Engine::Noncontiguous(nfa) => nfa.patterns_len(),
-            Engine::Contiguous(nfa) => nfa.patterns_len(),
-            Engine::Dfa(dfa) => dfa.patterns_len(),
-        }
+        dispatch!(self.patterns_len())
     }
 
     fn pattern_len(&self, pattern: PatternID) -> usize {
-        match self.serving() {
-            Engine::Noncontiguous(nfa) => nfa.pattern_len(pattern),
-            Engine::Contiguous(nfa) => nfa.pattern_len(pattern),
-            Engine::Dfa(dfa) => dfa.pattern_len(pattern),
-        }
+        dispatch!(self.pattern_len(pattern))
     }
 
     fn min_pattern_len(&self) -> usize {
-        match self.serving() {
-            Engine::Noncontiguous(nfa) => nfa.min_pattern_len(),
-            Engine::Contiguous(nfa) => nfa.min_pattern_len(),
-            Engine::Dfa(dfa) => dfa.min_pattern_len(),
-        }
+        dispatch!(self.min_pattern_len())
     }
 
     fn max_pattern_len(&self) -> usize {
-        match self.serving() {
-            Engine::Noncontiguous(nfa) => nfa.max_pattern_len(),
-            Engine::Contiguous(nfa) => nfa.max_pattern_len(),
-            Engine::Dfa(dfa) => dfa.max_pattern_len(),
-        }
+        dispatch!(self.max_pattern_len())
     }
 
     fn memory_usage(&self) -> usize {
-        match self.serving() {
-            Engine::Noncontiguous(nfa) => nfa.memory_usage(),
-            Engine::Contiguous(nfa) => nfa.memory_usage(),
-            Engine::Dfa(dfa) => dfa.memory_usage(),
-        }
+        dispatch!(self.memory_usage())
     }
 
     fn prefilter(&self) -> Option<&Prefilter> {
-        match self.serving() {
-            Engine::Noncontiguous(nfa) => nfa.prefilter(),
-            Engine::Contiguous(nfa) => nfa.prefilter(),
-            Engine::Dfa(dfa) => dfa.prefilter(),
-        }
+        dispatch!(self.prefilter())
     }
 
     ghost tells = { λ ac anchored text sid reads. read-tells (serving_engine ac) (as_built ac) ac.shared.value.same anchored text sid reads };
-
-    ghost lives = { λ ac anchored text sid reads. read-lives (serving_engine ac) (as_built ac) ac.shared.value.same anchored text sid reads };
-
-    ghost pairs = { λ ac anchored text sid reads. read-pairs (serving_engine ac) (as_built ac) ac.shared.value.same anchored text sid reads };
 
     ghost stops = { λ ac anchored text sid reads. read-stops (serving_engine ac) (as_built ac) ac.shared.value.same anchored text sid reads };
 }
@@ -237,11 +172,7 @@ impl Automaton for AhoCorasick {
 impl Search for AhoCorasick {
     fn search(&self, input: &Input<'_>, steps: &mut Steps) -> Result<Option<Match>, MatchError> {
         enforce_anchored_consistency(self.start_kind, input.get_anchored())?;
-        match self.serving() {
-            Engine::Noncontiguous(nfa) => nfa.search(input, steps),
-            Engine::Contiguous(nfa) => nfa.search(input, steps),
-            Engine::Dfa(dfa) => dfa.search(input, steps),
-        }
+        dispatch!(self.search(input, steps))
     }
 
     fn search_ahead(
@@ -251,11 +182,7 @@ impl Search for AhoCorasick {
         ahead: &mut Ahead,
         steps: &mut Steps,
     ) -> Option<Match> {
-        match self.serving() {
-            Engine::Noncontiguous(nfa) => nfa.search_ahead(input, start, ahead, steps),
-            Engine::Contiguous(nfa) => nfa.search_ahead(input, start, ahead, steps),
-            Engine::Dfa(dfa) => dfa.search_ahead(input, start, ahead, steps),
-        }
+        dispatch!(self.search_ahead(input, start, ahead, steps))
     }
 
     fn search_overlapping(
@@ -265,11 +192,7 @@ impl Search for AhoCorasick {
         place: Position,
         steps: &mut Steps,
     ) -> Shown {
-        match self.serving() {
-            Engine::Noncontiguous(nfa) => nfa.search_overlapping(input, start, place, steps),
-            Engine::Contiguous(nfa) => nfa.search_overlapping(input, start, place, steps),
-            Engine::Dfa(dfa) => dfa.search_overlapping(input, start, place, steps),
-        }
+        dispatch!(self.search_overlapping(input, start, place, steps))
     }
 
     fn search_overlapping_ahead(
@@ -279,13 +202,7 @@ impl Search for AhoCorasick {
         ahead: &mut Ahead,
         steps: &mut Steps,
     ) -> Shown {
-        match self.serving() {
-            Engine::Noncontiguous(nfa) => {
-                nfa.search_overlapping_ahead(input, place, ahead, steps)
-            }
-            Engine::Contiguous(nfa) => nfa.search_overlapping_ahead(input, place, ahead, steps),
-            Engine::Dfa(dfa) => dfa.search_overlapping_ahead(input, place, ahead, steps),
-        }
+        dispatch!(self.search_overlapping_ahead(input, place, ahead, steps))
     }
 
     fn search_stream(
@@ -296,11 +213,7 @@ impl Search for AhoCorasick {
         ahead: &mut Ahead,
         steps: &mut Steps,
     ) -> Searched {
-        match self.serving() {
-            Engine::Noncontiguous(nfa) => nfa.search_stream(start, progress, held, ahead, steps),
-            Engine::Contiguous(nfa) => nfa.search_stream(start, progress, held, ahead, steps),
-            Engine::Dfa(dfa) => dfa.search_stream(start, progress, held, ahead, steps),
-        }
+        dispatch!(self.search_stream(start, progress, held, ahead, steps))
     }
 
     fn search_stream_overlapping(
@@ -310,10 +223,6 @@ impl Search for AhoCorasick {
         ahead: &mut Ahead,
         steps: &mut Steps,
     ) -> Listed {
-        match self.serving() {
-            Engine::Noncontiguous(nfa) => nfa.search_stream_overlapping(place, held, ahead, steps),
-            Engine::Contiguous(nfa) => nfa.search_stream_overlapping(place, held, ahead, steps),
-            Engine::Dfa(dfa) => dfa.search_stream_overlapping(place, held, ahead, steps),
-        }
+        dispatch!(self.search_stream_overlapping(place, held, ahead, steps))
     }
 }

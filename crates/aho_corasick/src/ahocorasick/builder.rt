@@ -9,7 +9,7 @@ ghost use Rattle.std.specs.Prelude.{◌≡◌, None, Some, map, IfOk, IfErr};
 ghost use Rattle.ac_input.specs.Pairing.{IsFolded};
 ghost use Rattle.ac_literal.specs.Packed.{bytes_of};
 ghost use Rattle.ac_noncontiguous.specs.declared.error.BuildErrorKind.TheVariants.{Memory};
-ghost use Rattle.aho_corasick.specs.AhoCorasick.{as_built, IsConfigured};
+ghost use Rattle.aho_corasick.specs.AhoCorasick.{as_built};
 ghost use Rattle.aho_corasick.specs.Builder.{changed, AreFrontDefaults};
 ghost use Rattle.aho_corasick.specs.Callers.{FindsBytes};
 ghost use Rattle.aho_corasick.specs.Served.{IsFitting, IsTriedDfa, IsTriedContiguous, IsEngineOf, IsNotMade, IsFrontBuilt, IsFrontBuildRefused, IsFrontBuiltByDefault, IsFrontRefusedByDefault};
@@ -84,7 +84,11 @@ impl AhoCorasickBuilder {
     /// Standard matches, unanchored searches, no byte paired, the automaton left to the builder, a prefilter wanted, and classes of
     /// bytes.
     ///
-    /// An example: `uses::examples::build::small`.
+    /// ```text
+    /// let mut builder = AhoCorasickBuilder::new();
+    /// builder.prefilter(false).dense_depth(0);
+    /// builder.build(alloc, patterns)
+    /// ```
     pub fn new() -> AhoCorasickBuilder
         ensures { AreFrontDefaults result }
     {
@@ -98,7 +102,9 @@ impl AhoCorasickBuilder {
     /// Overlapping matches need the standard kind, and so do streams by the calls without `any_kind`; under another these return an
     /// error.
     ///
-    /// An example: `uses::examples::build::forgiving`.
+    /// ```text
+    /// builder.match_kind(MatchKind::LeftmostLongest);
+    /// ```
     pub fn match_kind(&mut self, kind: MatchKind) -> &mut AhoCorasickBuilder
         ensures same { result.ghost_name ≡ self.entry.ghost_name }
         ensures value { result.now ≡ changed self.old (λ s. record s { match_kind = kind }) }
@@ -110,7 +116,9 @@ impl AhoCorasickBuilder {
     /// Sets which searches are served, at first unanchored ones; others return an error, whichever automaton serves. A DFA for both
     /// kinds takes about twice the memory and time to build. Replacement and streams are unanchored.
     ///
-    /// An example: `uses::examples::build::small`.
+    /// ```text
+    /// builder.start_kind(StartKind::Both);
+    /// ```
     pub fn start_kind(&mut self, kind: StartKind) -> &mut AhoCorasickBuilder
         ensures same { result.ghost_name ≡ self.entry.ghost_name }
         ensures value { result.now ≡ changed self.old (λ s. record s { start_kind = kind }) }
@@ -122,7 +130,9 @@ impl AhoCorasickBuilder {
     /// Sets whether ASCII letters count as the same in their two cases. It sets the whole pairing: of this call and
     /// [`AhoCorasickBuilder::pairing`] the last one decides.
     ///
-    /// An example: `uses::examples::build::forgiving`.
+    /// ```text
+    /// builder.ascii_case_insensitive(true);
+    /// ```
     pub fn ascii_case_insensitive(&mut self, yes: bool) -> &mut AhoCorasickBuilder
         ensures same { result.ghost_name ≡ self.entry.ghost_name }
         ensures rest { result.now ≡ changed self.old (λ s. record s { pairing = result.now.settings.pairing }) }
@@ -133,7 +143,9 @@ impl AhoCorasickBuilder {
 
     /// Sets which bytes stand for one another. At first none does.
     ///
-    /// An example: `uses::examples::build::small`.
+    /// ```text
+    /// builder.pairing(pairing); // a `Pairing`
+    /// ```
     pub fn pairing(&mut self, pairing: Pairing) -> &mut AhoCorasickBuilder
         ensures same { result.ghost_name ≡ self.entry.ghost_name }
         ensures value { result.now ≡ changed self.old (λ s. record s { pairing = pairing }) }
@@ -148,7 +160,9 @@ impl AhoCorasickBuilder {
     /// A DFA searches fastest. It takes 4 bytes for each class of bytes in each state, and each byte of a pattern may add a state:
     /// a hundred patterns of 1000 bytes each may take 100 MB. For patterns from a stranger name the contiguous NFA.
     ///
-    /// An example: `uses::examples::build::small`.
+    /// ```text
+    /// builder.kind(Some(AhoCorasickKind::ContiguousNFA));
+    /// ```
     pub fn kind(&mut self, kind: Option<AhoCorasickKind>) -> &mut AhoCorasickBuilder
         ensures same { result.ghost_name ≡ self.entry.ghost_name }
         ensures value { result.now ≡ record self.old { kind = kind } }
@@ -159,7 +173,9 @@ impl AhoCorasickBuilder {
 
     /// Sets whether searches have a prefilter, where one serves. It changes no result.
     ///
-    /// An example: `uses::examples::build::small`.
+    /// ```text
+    /// builder.prefilter(false);
+    /// ```
     pub fn prefilter(&mut self, yes: bool) -> &mut AhoCorasickBuilder
         ensures same { result.ghost_name ≡ self.entry.ghost_name }
         ensures value { result.now ≡ changed self.old (λ s. record s { prefilter = yes }) }
@@ -172,7 +188,9 @@ impl AhoCorasickBuilder {
     /// noncontiguous one and 2 for the contiguous one. A row makes a look-up fast, and takes four bytes for each class of bytes. It
     /// changes no result.
     ///
-    /// An example: `uses::examples::build::small`.
+    /// ```text
+    /// builder.dense_depth(0);
+    /// ```
     pub fn dense_depth(&mut self, depth: usize) -> &mut AhoCorasickBuilder
         ensures same { result.ghost_name ≡ self.entry.ghost_name }
         ensures value { result.now ≡ changed self.old (λ s. record s { dense_depth = Some depth }) }
@@ -184,7 +202,9 @@ impl AhoCorasickBuilder {
     /// Sets whether bytes that lead alike from every state are one class, in the contiguous NFA and the DFA. Without classes a state
     /// takes more memory, and a look-up one load less. It changes no result.
     ///
-    /// An example: `uses::examples::build::small`.
+    /// ```text
+    /// builder.byte_classes(true);
+    /// ```
     pub fn byte_classes(&mut self, yes: bool) -> &mut AhoCorasickBuilder
         ensures same { result.ghost_name ≡ self.entry.ghost_name }
         ensures value { result.now ≡ changed self.old (λ s. record s { byte_classes = yes }) }
@@ -284,9 +304,16 @@ impl AhoCorasickBuilder {
     /// Time and memory are in proportion to the bytes of the patterns; for a DFA times the classes of bytes, at most 256. While the
     /// automaton that serves is made, the noncontiguous NFA is held too.
     ///
-    /// An example: `uses::examples::build::small`.
+    /// ```text
+    /// let mut builder = AhoCorasickBuilder::new();
+    /// builder
+    ///     .pairing(pairing)
+    ///     .start_kind(StartKind::Both)
+    ///     .kind(Some(AhoCorasickKind::ContiguousNFA))
+    ///     .prefilter(false);
+    /// builder.build(alloc, patterns)
+    /// ```
     pub fn build(&self, alloc: Global, patterns: &[&[u8]]) -> Result<AhoCorasick, BuildError>
-        ensures configured { IfOk result (IsConfigured self.now.settings (bytes_of patterns.now)) }
         ensures served { IfOk result (IsFrontBuilt self.now (bytes_of patterns.now)) }
         ensures refused { IfErr result (IsFrontBuildRefused self.now (bytes_of patterns.now)) }
     {
@@ -309,14 +336,18 @@ impl AhoCorasickBuilder {
     /// The same of patterns of any type that lends its bytes, such as `&str`, `String` or `Vec<u8>`. It allocates 16 bytes for each
     /// pattern first, and releases them after the build.
     ///
-    /// An example: `uses::examples::build::forgiving`.
+    /// ```text
+    /// let mut builder = AhoCorasick::builder();
+    /// builder
+    ///     .match_kind(MatchKind::LeftmostLongest)
+    ///     .ascii_case_insensitive(true);
+    /// builder.build_from_patterns(alloc, words)
+    /// ```
     pub fn build_from_patterns<P: AsSlice<u8>>(
         &self,
         alloc: Global,
         patterns: &[P],
     ) -> Result<AhoCorasick, BuildError>
-        ensures configured { IfOk result
-            (IsConfigured self.now.settings (map P.items patterns.now)) }
         ensures served { IfOk result (IsFrontBuilt self.now (map P.items patterns.now)) }
         ensures refused { IfErr result (IsFrontBuildRefused self.now (map P.items patterns.now)) }
     {
@@ -334,7 +365,11 @@ impl AhoCorasick {
     /// Returns an error if the patterns pass a limit or memory runs out, and costs what [`AhoCorasickBuilder::build`] does. For up to
     /// 100 patterns that is a DFA: see [`AhoCorasickBuilder::kind`].
     ///
-    /// An example: `uses::examples::build::which_word`.
+    /// ```text
+    /// let ac = AhoCorasick::new(alloc, &[b"foo", b"bar", b"baz"])?;
+    /// let found = ac.find(Input::from(text));
+    /// Ok(found.map(|found| found.pattern().as_usize()))
+    /// ```
     pub fn new(alloc: Global, patterns: &[&[u8]]) -> Result<AhoCorasick, BuildError>
         ensures finds { IfOk result (λ ac. FindsBytes (bytes_of patterns.now) (as_built ac).dictionary) }
         ensures served { IfOk result (IsFrontBuiltByDefault (bytes_of patterns.now)) }
@@ -357,7 +392,10 @@ impl AhoCorasick {
 
     /// A builder with the settings that it has at first: those of [`AhoCorasick::new`].
     ///
-    /// An example: `uses::examples::build::forgiving`.
+    /// ```text
+    /// let mut builder = AhoCorasick::builder();
+    /// builder.match_kind(MatchKind::LeftmostLongest);
+    /// ```
     pub fn builder() -> AhoCorasickBuilder
         ensures { AreFrontDefaults result }
     {

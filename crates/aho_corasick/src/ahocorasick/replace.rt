@@ -36,8 +36,6 @@ impl AhoCorasick {
     /// let text = ac.replace_all(alloc, "The quick brown fox.", &["sloth", "grey", "slow"])?;
     /// // "The slow grey sloth."
     /// ```
-    ///
-    /// An example: `uses::examples::replace::masked`.
     pub fn replace_all(
         &self,
         alloc: Global,
@@ -57,7 +55,10 @@ impl AhoCorasick {
 
     /// The same of bytes: there every match is replaced.
     ///
-    /// An example: `uses::examples::replace::without`.
+    /// ```text
+    /// let replacements = vec![in alloc; nothing; ac.patterns_len()]?; // `nothing` is b""
+    /// let rest = ac.replace_all_bytes(alloc, bytes, &replacements)?;
+    /// ```
     pub fn replace_all_bytes(
         &self,
         alloc: Global,
@@ -79,7 +80,14 @@ impl AhoCorasick {
     /// [`AhoCorasick::try_replace_all_with`], also for what it requires of the closure. It requires a start for unanchored searches,
     /// too.
     ///
-    /// An example: `uses::examples::replace::bracketed`.
+    /// ```text
+    /// ac.replace_all_with(alloc, text, dst, |_, matched, dst| {
+    ///     dst.push('[')?;
+    ///     dst.push_str(matched)?;
+    ///     dst.push(']')?;
+    ///     Ok(true)
+    /// })
+    /// ```
     pub fn replace_all_with<F>(
         &self,
         alloc: Global,
@@ -127,7 +135,12 @@ impl AhoCorasick {
     /// It requires one replacement for each pattern: as many as [`patterns_len`](AhoCorasick::patterns_len). Returns
     /// `InvalidInputUnanchored` if the automaton has no start for unanchored searches, and `Memory` if memory runs out.
     ///
-    /// An example: `uses::examples::replace::replaced`.
+    /// ```text
+    /// if replacements.len() != ac.patterns_len() {
+    ///     return Ok(None);
+    /// }
+    /// Ok(Some(ac.try_replace_all(alloc, text, replacements)?))
+    /// ```
     pub fn try_replace_all(
         &self,
         alloc: Global,
@@ -170,7 +183,12 @@ impl AhoCorasick {
     /// memory runs out, also in the closure, what was appended stays. The destination grows with the allocator that it was made
     /// with.
     ///
-    /// An example: `uses::examples::replace::marked_up_to`.
+    /// ```text
+    /// ac.try_replace_all_with(alloc, text, dst, |found, _, dst| {
+    ///     dst.push('*')?;
+    ///     Ok(found.pattern() != last)
+    /// })
+    /// ```
     pub fn try_replace_all_with<F>(
         &self,
         alloc: Global,
@@ -189,7 +207,12 @@ impl AhoCorasick {
 
     /// The same of bytes: there the closure is called for every match.
     ///
-    /// An example: `uses::examples::replace::numbered`.
+    /// ```text
+    /// ac.try_replace_all_with_bytes(alloc, bytes, dst, |found, _, dst| {
+    ///     dst.extend_from_slice(&found.pattern().as_u32().to_be_bytes())?;
+    ///     Ok(true)
+    /// })
+    /// ```
     pub fn try_replace_all_with_bytes<F>(
         &self,
         alloc: Global,

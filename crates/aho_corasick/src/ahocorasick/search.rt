@@ -33,8 +33,6 @@ impl AhoCorasick {
     /// ac.is_match(Input::from("xxx bar xxx")) // true
     /// ac.is_match(Input::from("xxx qux xxx")) // false
     /// ```
-    ///
-    /// An example: `uses::examples::find::contains_any`.
     pub fn is_match(&self, input: Input<'_>) -> bool
         requires { supported_by self.now input.anchored }
         ensures { IsTrue result ↔ HasOccurrence (searched (as_built self.now) input.entry) }
@@ -54,8 +52,6 @@ impl AhoCorasick {
     ///
     /// The match of a text begins and ends between characters if each pattern is UTF-8, none is empty, and no bytes are paired but
     /// ASCII letters in their two cases: the laws of `ac_input::utf8_laws`.
-    ///
-    /// An example: `uses::examples::find::first_text`.
     pub fn find(&self, input: Input<'_>) -> Option<Match>
         requires { supported_by self.now input.anchored }
         ensures found { IsFound (as_built self.now) input.entry result }
@@ -69,7 +65,12 @@ impl AhoCorasick {
     /// It requires that the start kind has the input's anchoring, and that the kind is the standard one. The state is fresh, or
     /// came only from calls with this automaton and this input. [`AhoCorasick::find_overlapping_iter`] keeps the state itself.
     ///
-    /// An example: `uses::examples::iterate::second`.
+    /// ```text
+    /// let mut state = OverlappingState::start();
+    /// ac.find_overlapping(Input::from(text), &mut state);
+    /// ac.find_overlapping(Input::from(text), &mut state);
+    /// state.get_match() // the second occurrence
+    /// ```
     pub fn find_overlapping(&self, input: Input<'_>, state: &mut OverlappingState)
         requires can { supported_by self.now input.anchored }
         requires standard { kind_of self.now ≡ MatchKind.Standard }
@@ -94,8 +95,6 @@ impl AhoCorasick {
     /// ```
     ///
     /// Where the patterns are texts, no match of a text cuts a character: see [`AhoCorasick::find`].
-    ///
-    /// An example: `uses::examples::iterate::places`.
     pub fn find_iter<'a, 'h>(&'a self, input: Input<'h>) -> FindIter<'a, 'h>
         requires { supported_by self.now input.anchored }
         ensures over { IsWalkOver (as_built self.now) input.entry result }
@@ -130,7 +129,11 @@ impl AhoCorasick {
     /// searched. It counts each look when it makes it, and no byte is looked at again for that. The iterator takes some 3 KiB and
     /// no other memory. [`AhoCorasick::try_find_overlapping`] never reads ahead.
     ///
-    /// An example: `uses::examples::iterate::all_patterns`.
+    /// ```text
+    /// ac.find_overlapping_iter(Input::from(text))
+    ///     .map(|found| found.pattern())
+    ///     .collect(alloc)
+    /// ```
     pub fn find_overlapping_iter<'a, 'h>(&'a self, input: Input<'h>) -> FindOverlappingIter<'a, 'h>
         requires can { supported_by self.now Anchored.No }
         requires standard { kind_of self.now ≡ MatchKind.Standard }
@@ -146,7 +149,12 @@ impl AhoCorasick {
     ///
     /// Returns `InvalidInputAnchored` or `InvalidInputUnanchored` if the start kind doesn't have the input's anchoring.
     ///
-    /// An example: `uses::examples::find::match_at`.
+    /// ```text
+    /// let input = Input::from(text)
+    ///     .range(place..text.len())
+    ///     .anchored(Anchored::Yes);
+    /// ac.try_find(input)
+    /// ```
     pub fn try_find(&self, input: Input<'_>) -> Result<Option<Match>, MatchError>
         ensures answer { Finds (as_built self.now).dictionary (supported_by self.now) input.entry result }
         ensures within { FindsWithin (as_built self.now).dictionary input.entry result }
@@ -156,7 +164,10 @@ impl AhoCorasick {
 
     /// The same, and counts what it does.
     ///
-    /// An example: `uses::examples::find::first_end`.
+    /// ```text
+    /// let found = ac.try_find_counted(Input::from(text).earliest(true), steps)?;
+    /// Ok(found.map(|found| found.end()))
+    /// ```
     pub fn try_find_counted(
         &self,
         input: Input<'_>,
@@ -183,8 +194,6 @@ impl AhoCorasick {
     /// ac.try_find_overlapping(Input::from("append the app to the appendage"), &mut state)?;
     /// let first = state.get_match();
     /// ```
-    ///
-    /// An example: `uses::examples::iterate::first`.
     pub fn try_find_overlapping(
         &self,
         input: Input<'_>,
@@ -203,7 +212,10 @@ impl AhoCorasick {
     ///
     /// Returns `InvalidInputAnchored` or `InvalidInputUnanchored` if the start kind doesn't have the input's anchoring.
     ///
-    /// An example: `uses::examples::iterate::adjacent`.
+    /// ```text
+    /// let input = Input::from(text).anchored(Anchored::Yes);
+    /// let found = ac.try_find_iter(input)?.collect(alloc)?;
+    /// ```
     pub fn try_find_iter<'a, 'h>(&'a self, input: Input<'h>) -> Result<FindIter<'a, 'h>, MatchError>
         ensures answer { AnswersFindIter (as_built self.now) (supported_by self.now) input.entry
             result }
@@ -261,7 +273,12 @@ impl AhoCorasick {
     ///
     /// Returns an error as [`AhoCorasick::try_find_overlapping`] does, and then `InvalidInputAnchored` if the input is anchored.
     ///
-    /// An example: `uses::examples::iterate::count_all`.
+    /// ```text
+    /// let mut count: u64 = 0;
+    /// for _ in ac.try_find_overlapping_iter(Input::from(text))? {
+    ///     count = count.saturating_add(1);
+    /// }
+    /// ```
     pub fn try_find_overlapping_iter<'a, 'h>(
         &'a self,
         input: Input<'h>,

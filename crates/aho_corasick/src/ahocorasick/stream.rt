@@ -17,14 +17,13 @@ ghost use Rattle.ac_literal.specs.Packed.{bytes_of};
 ghost use Rattle.ac_automaton.specs.declared.error.StreamError.TheVariants.{Memory};
 ghost use Rattle.ac_automaton.specs.Replace.{IsForMatches};
 ghost use Rattle.ac_automaton.specs.Stream.{AnswersNew, CanStream};
-ghost use Rattle.ac_automaton.specs.Stream.StreamIter.{FindsStream};
-ghost use Rattle.ac_automaton.specs.Stream.StreamOverlappingIter.{AnswersStreamListing};
+ghost use Rattle.ac_automaton.specs.Stream.StreamIter.{AnswersStreamListing, FindsStream, IsStreamOver};
 ghost use Rattle.ac_automaton.specs.Stream.StreamReplace.{AcceptsStream, CostsStream, ReplacesStream};
 ghost use Rattle.ac_automaton.specs.Stream.StreamReplaceWith.{ReplacesStreamWith};
 ghost use Rattle.ac_automaton.specs.Stream.StreamReplacer.{AnswersReplacer};
 ghost use Rattle.ac_automaton.specs.declared.stream.StreamKinds.TheVariants.{AnyKind, OnlyStandard};
 ghost use Rattle.aho_corasick.specs.AhoCorasick.{as_built, supported_by, pattern_count};
-ghost use Rattle.aho_corasick.specs.Streamed.{IsStreamOver, IsStreamReplaced};
+ghost use Rattle.aho_corasick.specs.Streamed.{IsStreamReplaced};
 
 use super::{AhoCorasick, StreamFindIter, StreamFindOverlappingIter};
 use ac_automaton::automaton::Automaton;
@@ -52,7 +51,9 @@ impl AhoCorasick {
     /// It requires that the reader has not ended, that the start kind has unanchored searches, that the kind is the standard one, and
     /// that no pattern is empty. Returns an error only if memory runs out.
     ///
-    /// An example: `uses::examples::streams::matches_of`.
+    /// ```text
+    /// let matches = ac.stream_find_iter(alloc, reader)?;
+    /// ```
     pub fn stream_find_iter<'a, R>(
         &'a self,
         alloc: Global,
@@ -74,7 +75,13 @@ impl AhoCorasick {
     /// Returns an error if the automaton has no start for an unanchored search, isn't of the standard kind, or has an empty
     /// pattern, checked in that order, and then if there is no memory for the buffer. Nothing was read then.
     ///
-    /// An example: `uses::examples::streams::places`.
+    /// ```text
+    /// let mut reader = Watched::new(reader);
+    /// for found in ac.try_stream_find_iter(alloc, &mut reader)? {
+    ///     let found = found?;
+    ///     places.push(found.start()).map_err(AllocError::from)?;
+    /// }
+    /// ```
     pub fn try_stream_find_iter<'a, R>(
         &'a self,
         alloc: Global,
@@ -116,7 +123,12 @@ impl AhoCorasick {
     /// Returns an error where [`AhoCorasick::try_stream_find_iter`] does; the reader and the writer are then unchanged. Where a
     /// read or a write fails, nothing is tried again.
     ///
-    /// An example: `uses::examples::streams::masked`.
+    /// ```text
+    /// let masks = vec![in alloc; mask; ac.patterns_len()]?; // `mask` is b"***"
+    /// let mut reader = Watched::new(reader);
+    /// let mut writer = Watched::new(writer);
+    /// ac.try_stream_replace_all(alloc, &mut reader, &mut writer, &masks)
+    /// ```
     pub fn try_stream_replace_all<R: Read, W: Write>(
         &self,
         alloc: Global,
@@ -164,7 +176,13 @@ impl AhoCorasick {
     /// It reads, writes and fails as [`AhoCorasick::try_stream_replace_all`] does. The closure's first error ends the call and is
     /// returned unchanged.
     ///
-    /// An example: `uses::examples::streams::bracketed`.
+    /// ```text
+    /// ac.try_stream_replace_all_with(alloc, reader, writer, |_, matched, writer| {
+    ///     write_whole(writer, b"[")?;
+    ///     write_whole(writer, matched)?;
+    ///     write_whole(writer, b"]")
+    /// })
+    /// ```
     pub fn try_stream_replace_all_with<R: Read, W: Write, F>(
         &self,
         alloc: Global,
@@ -262,7 +280,10 @@ impl AhoCorasick {
     /// It takes, reads, writes and fails as [`AhoCorasick::try_stream_replace_all`] does, but is an error only where
     /// [`AhoCorasick::try_stream_find_iter_any_kind`] is.
     ///
-    /// An example: `uses::examples::streams::longest_masked`.
+    /// ```text
+    /// let masks = vec![in alloc; mask; ac.patterns_len()]?; // `mask` is b"***"
+    /// ac.try_stream_replace_all_any_kind(alloc, &mut Watched::new(text), writer, &masks)
+    /// ```
     pub fn try_stream_replace_all_any_kind<R: Read, W: Write>(
         &self,
         alloc: Global,

@@ -1,4 +1,3 @@
 //! The noncontiguous NFA: built soonest, and what the others are built from.
 pub use ac_noncontiguous::builder::Builder;
-pub use ac_noncontiguous::nfa::NFA;
-pub use ac_noncontiguous::nfa::read::{MatchIter, Special, TransIter};
+pub use ac_noncontiguous::nfa::{MatchIter, NFA, Special, TransIter};

@@ -10,7 +10,10 @@ use Rattle.ac_automaton.proofs.ahead.advance_to_match.Given as goal
 abbrev pub invariant-loop-read : goal.invariant-loop-read
 invariant-loop-read g l = record {
   within : l.read ≤ length l.bytes - l.from;
-  has : IsPaid l.fn.ahead l.ahead l.steps (λ paid. HasAdvanced (g.A.Automaton.built l.automaton) (g.A.Automaton.Reaches l.automaton) No (is_matching (g.A.Automaton.matches l.automaton)) l.fn.sid (drop l.from l.bytes) l.read l.current l.initial.steps paid);
+  has : IsPaid l.fn.ahead l.ahead l.steps
+      (λ paid. HasAdvanced (g.A.Automaton.built l.automaton) (g.A.Automaton.Reaches l.automaton) No
+      (is_matching (g.A.Automaton.matches l.automaton)) l.fn.sid (drop l.from l.bytes) l.read l.current l.initial.steps
+      paid);
   ahead : IsAheadOf g.A.Automaton l.automaton l.anew l.bytes (l.from + l.read) l.current l.ahead;
   once : StaysReadOnce l.bytes l.fn.ahead l.ahead;
 }

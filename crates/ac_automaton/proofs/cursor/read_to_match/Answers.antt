@@ -27,10 +27,17 @@ returns-clause-stands g c =
     let reads = rw c.haystack.ensures at c.advance_to_match-advance.ensures.goes.reads in
     let inside = c.requires.stands.inside in
     let fits : to ≤ length asked.haystack = omega (arith, inside, within) in
-    let long = slice_range-length asked.haystack at to before fits in
-    subst (λ (x : Anchored). IsCursor (g.A.Automaton.Reaches a x) s (record { sid = c.advance_to_match-advance.result.sid; from = c.args.cursor.from; at = at + c.advance_to_match-advance.result.taken })) (sym c.requires.free)
-    (cursor-read_to (g.A.Automaton.Reaches a No) s c.args.cursor c.advance_to_match-advance.result.sid to c.advance_to_match-advance.result.taken
-    (subst (λ (x : Anchored). IsCursor (g.A.Automaton.Reaches a x) s c.args.cursor) c.requires.free c.requires.stands) before within (omega (arith, taken.0, long)) reads)
+    let long = slice_range-length asked.haystack at before fits in
+    subst (λ x. IsCursor (g.A.Automaton.Reaches a x) s
+    (record {
+      sid = c.advance_to_match-advance.result.sid;
+      from = c.args.cursor.from;
+      at = at + c.advance_to_match-advance.result.taken;
+    })) (sym c.requires.free)
+    (cursor-read_to (g.A.Automaton.Reaches a No) s c.args.cursor c.advance_to_match-advance.result.sid to
+    c.advance_to_match-advance.result.taken
+    (subst (λ x. IsCursor (g.A.Automaton.Reaches a x) s c.args.cursor) c.requires.free c.requires.stands) before within
+    (omega (arith, taken.0, long)) reads)
 
 pub returns-clause-on : goal.returns-clause-on
 returns-clause-on g c =
@@ -52,12 +59,22 @@ returns-clause-on g c =
     let cost = rw c.haystack.ensures at c.advance_to_match-advance.ensures.cost in
     let inside = c.requires.stands.inside in
     let fits : to ≤ length asked.haystack = omega (arith, inside, within) in
-    let long = slice_range-length asked.haystack at to before fits in
+    let long = slice_range-length asked.haystack at before fits in
     let some : 0 < length (slice_range asked.haystack at to) = omega (arith, long, past) in
-    let next : Cursor = record { sid = c.advance_to_match-advance.result.sid; from = c.args.cursor.from; at = at + c.advance_to_match-advance.result.taken } in
-    subst (λ (x : Anchored). HasReadOn b x s c.args.cursor next c.args.steps.now c.advance_to_match-advance.new.steps) (sym c.requires.free)
-    (cursor-read_to_match b (g.A.Automaton.Reaches a) (g.A.Automaton.matches a) s c.args.cursor c.advance_to_match-advance.result.sid to c.advance_to_match-advance.result.taken c.args.steps.now c.advance_to_match-advance.new.steps
-    c.requires.standard (subst (λ (x : Anchored). IsCursor (g.A.Automaton.Reaches a x) s c.args.cursor) c.requires.free c.requires.stands) before within (taken.1 some) (omega (arith, taken.0, long))
-    (λ (text : List ℕ) (state : StateID) (reads : g.A.Automaton.Reaches a No text state). g.met.A.Automaton.tells a No text state reads)
-    (λ (text : List ℕ) (state : StateID) (reads : g.A.Automaton.Reaches a No text state). g.met.A.Automaton.lives a No text state reads)
+    let next : Cursor =
+    record {
+      sid = c.advance_to_match-advance.result.sid;
+      from = c.args.cursor.from;
+      at = at + c.advance_to_match-advance.result.taken;
+    } in
+    subst (λ x. HasReadOn b x s c.args.cursor next c.args.steps.now c.advance_to_match-advance.new.steps)
+    (sym c.requires.free)
+    (cursor-read_to_match b (g.A.Automaton.Reaches a) (g.A.Automaton.matches a) s c.args.cursor
+    c.advance_to_match-advance.result.sid to c.advance_to_match-advance.result.taken c.args.steps.now
+    c.advance_to_match-advance.new.steps
+    c.requires.standard
+    (subst (λ x. IsCursor (g.A.Automaton.Reaches a x) s c.args.cursor) c.requires.free c.requires.stands) before within
+    (taken.1 some) (omega (arith, taken.0, long))
+    (λ (text : List ℕ) (state : StateID) (reads : g.A.Automaton.Reaches a No text state).
+    g.met.A.Automaton.tells a No text state reads)
     plain cost)

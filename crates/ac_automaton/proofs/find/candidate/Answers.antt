@@ -19,12 +19,16 @@ returns-then-eq-clause-says g c =
     let n = c.args.prefilter.now.dictionary in
     let kind = c.match_kind-kind.result in
     let early = c.get_earliest.result in
-    let same = ahead-same b.dictionary n asked c.haystack.result.now c.args.at c.end.result c.requires.made c.haystack.ensures c.end.ensures.value c.requires.free in
-    let kinds : n.kind ≡ kind = ap (λ (m : Dictionary). m.kind) c.requires.made ∙ sym c.match_kind-kind.ensures in
-    let is : IsCandidate kind (starting_at (searched b asked) c.args.at) (candidates.Match c.in-Match.found) = subst (λ (k : MatchKind). IsCandidate k (starting_at (searched b asked) c.args.at) (candidates.Match c.in-Match.found)) kinds (subst (λ (s : Search). IsCandidate n.kind s (candidates.Match c.in-Match.found)) same c.in-Match.ensures.candidate) in
-    let kind_is : asked_kind kind early ≡ kind_asked b asked = ap (λ (k : MatchKind). asked_kind k early) c.match_kind-kind.ensures ∙ ap (λ (e : Bool). asked_kind b.dictionary.kind e) c.get_earliest.ensures in
+    let same = ahead-same b.dictionary n asked c.haystack.result.now c.args.at c.end.result c.requires.made
+    c.haystack.ensures c.end.ensures.value c.requires.free in
+    let kinds : n.kind ≡ kind = ap (λ m. m.kind) c.requires.made ∙ sym c.match_kind-kind.ensures in
+    let is : IsCandidate kind (starting_at (searched b asked) c.args.at) (candidates.Match c.in-Match.found) = subst
+    (λ k. IsCandidate k (starting_at (searched b asked) c.args.at) (candidates.Match c.in-Match.found)) kinds
+    (subst (λ s. IsCandidate n.kind s (candidates.Match c.in-Match.found)) same c.in-Match.ensures.candidate) in
+    let kind_is : asked_kind kind early ≡ kind_asked b asked = ap (λ k. asked_kind k early) c.match_kind-kind.ensures
+    ∙ ap (λ e. asked_kind b.dictionary.kind e) c.get_earliest.ensures in
     let own : asked_kind kind early ≡ kind = search rules in
-    subst (λ (k : MatchKind). IsBest k (starting_at (searched b asked) c.args.at) (Some c.in-Match.found)) kind_is
+    subst (λ k. IsBest k (starting_at (searched b asked) c.args.at) (Some c.in-Match.found)) kind_is
     (match-asked_best kind early (starting_at (searched b asked) c.args.at) c.in-Match.found is own)
 
 pub returns-else-eq-clause-says : goal.returns-else-eq-clause-says
@@ -33,9 +37,12 @@ returns-else-eq-clause-says g c =
     let asked = c.args.input.now in
     let n = c.args.prefilter.now.dictionary in
     let kind = c.match_kind-kind.result in
-    let same = ahead-same b.dictionary n asked c.haystack.result.now c.args.at c.end.result c.requires.made c.haystack.ensures c.end.ensures.value c.requires.free in
-    let kinds : n.kind ≡ kind = ap (λ (m : Dictionary). m.kind) c.requires.made ∙ sym c.match_kind-kind.ensures in
-    let is : IsCandidate kind (starting_at (searched b asked) c.args.at) (candidates.Match c.in-Match.found) = subst (λ (k : MatchKind). IsCandidate k (starting_at (searched b asked) c.args.at) (candidates.Match c.in-Match.found)) kinds (subst (λ (s : Search). IsCandidate n.kind s (candidates.Match c.in-Match.found)) same c.in-Match.ensures.candidate) in
+    let same = ahead-same b.dictionary n asked c.haystack.result.now c.args.at c.end.result c.requires.made
+    c.haystack.ensures c.end.ensures.value c.requires.free in
+    let kinds : n.kind ≡ kind = ap (λ m. m.kind) c.requires.made ∙ sym c.match_kind-kind.ensures in
+    let is : IsCandidate kind (starting_at (searched b asked) c.args.at) (candidates.Match c.in-Match.found) = subst
+    (λ k. IsCandidate k (starting_at (searched b asked) c.args.at) (candidates.Match c.in-Match.found)) kinds
+    (subst (λ s. IsCandidate n.kind s (candidates.Match c.in-Match.found)) same c.in-Match.ensures.candidate) in
     rw c.start.ensures.value (match-goes_on kind (starting_at (searched b asked) c.args.at) c.in-Match.found is)
 
 pub returns-in-None-clause-counts : goal.returns-in-None-clause-counts
@@ -49,14 +56,21 @@ returns-in-None-clause-counts g c = λ some.
     omega (arith, done.scanned)
 
 pub returns-then-eq-clause-counts : goal.returns-then-eq-clause-counts
-returns-then-eq-clause-counts g c = λ some. absurd (scan-no_match c.args.prefilter.now.needles _ c.in-Match.ensures.counted.0 c.in-Match.found some c.in-Match.ensures.counted.2)
+returns-then-eq-clause-counts g c =
+    λ some. absurd
+    (scan-no_match c.args.prefilter.now.needles _ c.in-Match.ensures.counted.0 c.in-Match.found some
+    c.in-Match.ensures.counted.2)
 
 pub returns-else-eq-clause-counts : goal.returns-else-eq-clause-counts
-returns-else-eq-clause-counts g c = λ some. absurd (scan-no_match c.args.prefilter.now.needles _ c.in-Match.ensures.counted.0 c.in-Match.found some c.in-Match.ensures.counted.2)
+returns-else-eq-clause-counts g c =
+    λ some. absurd
+    (scan-no_match c.args.prefilter.now.needles _ c.in-Match.ensures.counted.0 c.in-Match.found some
+    c.in-Match.ensures.counted.2)
 
 pub returns-in-PossibleStartOfMatch-clause-counts : goal.returns-in-PossibleStartOfMatch-clause-counts
 returns-in-PossibleStartOfMatch-clause-counts g c = λ some.
     let counted = c.in-PossibleStartOfMatch.ensures.counted in
     let done = counted.1 in
-    let covers = scan-covers_before c.args.prefilter.now.needles _ counted.0 c.in-PossibleStartOfMatch.place some counted.2 in
+    let covers =
+    scan-covers_before c.args.prefilter.now.needles _ counted.0 c.in-PossibleStartOfMatch.place some counted.2 in
     omega (arith, done.scanned)

@@ -12,5 +12,5 @@ returns-in-No g c =
     let cursor = c.args.cursor.now in
     let ns = g.A.Automaton.matches c.args.automaton.now cursor.sid in
     let free : c.args.input.now.anchored ≡ No = sym c.get_anchored.ensures ∙ c.in-No.is in
-    taken-free m cursor.at (cursor.at - cursor.from) ns c.first_match.result c.first_match.ensures
-    ∙ ap (λ (a : Anchored). taken m a cursor.at (cursor.at - cursor.from) ns) (sym free)
+    taken-free m cursor.at (cursor.at - cursor.from) ns c.first_match.ensures
+    ∙ ap (λ a. taken m a cursor.at (cursor.at - cursor.from) ns) (sym free)

@@ -11,15 +11,20 @@ pub returns-in-Found-clause-found : goal.returns-in-Found-clause-found
 returns-in-Found-clause-found g c =
     let b = g.A.Automaton.built c.args.automaton.now in
     let asked = c.args.input.now in
-    has_come-best (kind_asked b asked) b.deterministic (searched b asked) c.loop-found.at c.in-Found.found _ _ c.loop-found.invariant.0 c.in-Found.ensures.says
+    has_come-best (kind_asked b asked) b.deterministic (searched b asked) c.loop-found.at c.in-Found.found _ _
+    c.loop-found.invariant.0 c.in-Found.ensures.says
 
 pub returns-in-Found-clause-cost : goal.returns-in-Found-clause-cost
 returns-in-Found-clause-cost g c =
     let b = g.A.Automaton.built c.args.automaton.now in
     let asked = c.args.input.now in
     record {
-      work = find_work-from (kind_asked b asked) b.deterministic (searched b asked) c.loop-found.at c.in-Found.found _ _ _ c.loop-found.invariant.0.goes_on c.in-Found.ensures.says c.loop-found.invariant.0.work c.in-Found.ensures.work;
-      counted = counted-join (prefilter_for b asked.anchored) _ _ _ _ _ _ (come-further (searched b asked) c.loop-found.at (Found c.in-Found.found)) c.loop-found.invariant.1 c.in-Found.ensures.counts;
+      work = find_work-from (kind_asked b asked) b.deterministic (searched b asked) c.loop-found.at c.in-Found.found _ _
+          _ c.loop-found.invariant.0.goes_on c.in-Found.ensures.says c.loop-found.invariant.0.work
+          c.in-Found.ensures.work;
+      counted = counted-join (prefilter_for b asked.anchored) _ _ _ _ _ _
+          (come-further (searched b asked) c.loop-found.at (Found c.in-Found.found)) c.loop-found.invariant.1
+          c.in-Found.ensures.counts;
     }
 
 pub loop-found-preserved : goal.loop-found-preserved
@@ -27,6 +32,9 @@ loop-found-preserved g c =
     let b = g.A.Automaton.built c.args.automaton.now in
     let asked = c.args.input.now in
     let free = ap is_anchored (c.in-Idle.ensures.free c.in-Idle.place refl) in (
-      has_come-further (kind_asked b asked) b.deterministic (searched b asked) c.loop-found.at c.in-Idle.place _ _ _ free c.loop-found.invariant.0 c.in-Idle.ensures.says c.in-Idle.ensures.work,
-      counted-join (prefilter_for b asked.anchored) _ _ _ _ _ _ (come-further (searched b asked) c.loop-found.at (Idle c.in-Idle.place)) c.loop-found.invariant.1 c.in-Idle.ensures.counts,
+      has_come-further (kind_asked b asked) b.deterministic (searched b asked) c.loop-found.at c.in-Idle.place _ _ _
+          free c.loop-found.invariant.0 c.in-Idle.ensures.says c.in-Idle.ensures.work,
+      counted-join (prefilter_for b asked.anchored) _ _ _ _ _ _
+          (come-further (searched b asked) c.loop-found.at (Idle c.in-Idle.place)) c.loop-found.invariant.1
+          c.in-Idle.ensures.counts,
     )

@@ -6,10 +6,14 @@ use Rattle.ac_automaton.proofs.find.whole_match.Goals as goal
 pub returns-then-pattern_len-span : goal.returns-then-pattern_len-span
 returns-then-pattern_len-span g c =
     ap Some c.new.ensures
-    ∙ taken-here (g.A.Automaton.built c.args.automaton.now).dictionary c.args.span.start c.args.span.end (g.A.Automaton.matches c.args.automaton.now c.args.sid) c.loop-index.index c.match_pattern-pattern.result
-    c.requires.ordered c.loop-index.invariant c.match_pattern-pattern.ensures.value (sym c.pattern_len.ensures ∙ c.if-pattern_len-span.true)
+    ∙ taken-here (g.A.Automaton.built c.args.automaton.now).dictionary
+    (g.A.Automaton.matches c.args.automaton.now c.args.sid) c.loop-index.index
+    c.requires.ordered c.loop-index.invariant c.match_pattern-pattern.ensures.value
+    (sym c.pattern_len.ensures ∙ c.if-pattern_len-span.true)
 
 pub loop-index-preserved : goal.loop-index-preserved
 loop-index-preserved g c =
-    taken-next (g.A.Automaton.built c.args.automaton.now).dictionary _ (g.A.Automaton.matches c.args.automaton.now c.args.sid) c.loop-index.index c.match_pattern-pattern.result
-    c.loop-index.invariant c.match_pattern-pattern.ensures.value (λ e. c.if-pattern_len-span.false (c.pattern_len.ensures ∙ e))
+    taken-next (g.A.Automaton.built c.args.automaton.now).dictionary
+    (g.A.Automaton.matches c.args.automaton.now c.args.sid) c.loop-index.index
+    c.loop-index.invariant c.match_pattern-pattern.ensures.value
+    (λ e. c.if-pattern_len-span.false (c.pattern_len.ensures ∙ e))

@@ -4,4 +4,6 @@ use Rattle.ac_automaton.proofs.find.TakenLemmas.{NoneCountsBefore}
 use Rattle.ac_automaton.proofs.find.whole_match.Given as goal
 
 abbrev pub invariant-loop-index : goal.invariant-loop-index
-invariant-loop-index g l = NoneCountsBefore (g.A.Automaton.built l.automaton).dictionary (l.span.end - l.span.start) (g.A.Automaton.matches l.automaton l.sid) l.index
+invariant-loop-index g l =
+    NoneCountsBefore (g.A.Automaton.built l.automaton).dictionary (l.span.end - l.span.start)
+    (g.A.Automaton.matches l.automaton l.sid) l.index

@@ -15,5 +15,6 @@ returns-clause-gathered c =
     let b_c : lanes.b.slot ≤ begun.c.slot = omega (arith, made.b.1, apart.1) in
     let c_d : lanes.c.slot ≤ begun.d.slot = omega (arith, made.c.1, apart.2) in
     let b_d : lanes.b.slot ≤ begun.d.slot = omega (arith, b_c, made.c.0, c_d) in
-    gathered begun lanes c.args.notes.now c.move_down-b.new.notes c.move_down-c.new.notes c.move_down.new.notes c.move_down-b.result c.move_down-c.result c.move_down.result c.requires.first
+    gathered begun lanes c.args.notes.now c.move_down-b.new.notes c.move_down-c.new.notes c.move_down.new.notes
+    c.move_down-b.result c.move_down-c.result c.move_down.result c.requires.first
     b.moved d.moved (b.later begun.c.slot b_c) e.moved (d.later begun.d.slot c_d ∙ b.later begun.d.slot b_d)

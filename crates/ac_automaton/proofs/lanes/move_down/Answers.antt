@@ -13,6 +13,8 @@ returns c =
     let moved = c.copy_within.ensures.after in
     record {
       end = refl;
-      moved = ap (λ (l : List Note). take (to + (end - from)) l) moved ∙ moved-front c.args.notes.now from end to order.0 order.1 order.2;
-      later = λ k past. ap (λ (l : List Note). drop k l) moved ∙ moved-later c.args.notes.now from end to order.0 order.1 order.2 k past;
+      moved = ap (λ l. take (to + (end - from)) l) moved
+          ∙ moved-front c.args.notes.now from end to order.0 order.1 order.2;
+      later = λ k past. ap (λ l. drop k l) moved
+          ∙ moved-later c.args.notes.now from end to order.0 order.1 order.2 k past;
     }

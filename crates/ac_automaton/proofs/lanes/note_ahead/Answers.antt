@@ -11,12 +11,17 @@ use Rattle.ac_automaton.proofs.lanes.note_ahead.Goals as goal
 pub returns-then-as_u32-clause-reads : goal.returns-then-as_u32-clause-reads
 returns-then-as_u32-clause-reads g c =
     let a = c.args.automaton.now in
-    reads-nothing (IsLaneCut c.args.after.now c.args.start (g.A.LookUp.matches a)) (g.A.LookUp.built a) (g.A.LookUp.Reaches a No) (g.A.LookUp.matches a) c.args.anew c.args.sid c.args.bytes.now c.args.at c.args.len c.none.result.read c.none.result.notes c.args.notes.now c.args.steps.now c.none.ensures
+    reads-nothing (IsLaneCut c.args.after.now c.args.start (g.A.LookUp.matches a)) (g.A.LookUp.built a)
+    (g.A.LookUp.Reaches a No) (g.A.LookUp.matches a) c.args.anew c.args.sid c.args.bytes.now c.args.at c.args.len
+    c.none.result.read c.none.result.notes c.args.notes.now c.args.steps.now c.none.ensures
 
 pub returns-in_default-clause-reads : goal.returns-in_default-clause-reads
 returns-in_default-clause-reads g c =
     let a = c.args.automaton.now in
-    reads-nothing (IsLaneCut c.args.after.now c.args.start (g.A.LookUp.matches a)) (g.A.LookUp.built a) (g.A.LookUp.Reaches a No) (g.A.LookUp.matches a) c.args.anew c.args.sid c.args.bytes.now c.args.at c.args.len c.none-in_default.result.read c.none-in_default.result.notes c.args.notes.now c.args.steps.now c.none-in_default.ensures
+    reads-nothing (IsLaneCut c.args.after.now c.args.start (g.A.LookUp.matches a)) (g.A.LookUp.built a)
+    (g.A.LookUp.Reaches a No) (g.A.LookUp.matches a) c.args.anew c.args.sid c.args.bytes.now c.args.at c.args.len
+    c.none-in_default.result.read c.none-in_default.result.notes c.args.notes.now c.args.steps.now
+    c.none-in_default.ensures
 
 pub read_lanes-lanes-requires-clause-walked : goal.read_lanes-lanes-requires-clause-walked
 read_lanes-lanes-requires-clause-walked g c =
@@ -25,14 +30,19 @@ read_lanes-lanes-requires-clause-walked g c =
     let bytes = c.args.bytes.now in
     let slots = length c.args.notes.now in
     let begun = c.in-Some.begun in
-    let begin : CutBytes c.args.after.now bytes c.args.at c.args.sid c.args.start (c.args.at + c.args.len) slots begun = c.in-Some.ensures in
+    let begin : CutBytes c.args.after.now bytes c.args.at c.args.sid c.args.start (c.args.at + c.args.len) slots begun =
+    c.in-Some.ensures in
     let start : IsReached R c.args.start = ∣ ([], c.requires.may.starts) ∣₁ in
     let within = c.requires.within in
     record {
-      a = walked-begun R stops bytes c.args.at c.args.sid slots begun.a begin.a (omega (arith, begin.cut_b.within, within)) c.requires.reached;
-      b = walked-begun R stops bytes begun.a.end c.args.start slots begun.b begin.b (omega (arith, begin.cut_c.within, within)) start;
-      c = walked-begun R stops bytes begun.b.end c.args.start slots begun.c begin.c (omega (arith, begin.cut_d.within, within)) start;
-      d = walked-begun R stops bytes begun.c.end c.args.start slots begun.d begin.d (omega (arith, begin.last, within)) start;
+      a = walked-begun R stops bytes c.args.at c.args.sid slots begun.a begin.a
+          (omega (arith, begin.cut_b.within, within)) c.requires.reached;
+      b = walked-begun R stops bytes begun.a.end c.args.start slots begun.b begin.b
+          (omega (arith, begin.cut_c.within, within)) start;
+      c = walked-begun R stops bytes begun.b.end c.args.start slots begun.c begin.c
+          (omega (arith, begin.cut_d.within, within)) start;
+      d = walked-begun R stops bytes begun.c.end c.args.start slots begun.d begin.d (omega (arith, begin.last, within))
+          start;
     }
 
 pub returns-clause-reads : goal.returns-clause-reads
@@ -43,8 +53,12 @@ returns-clause-reads g c =
     let may = c.requires.may in
     let past : c.args.last < c.args.start = omega arith in
     let lanes = c.read_lanes-lanes.ensures in
-    subst (λ (l : List Note). ReadsAheadBy (IsLaneCut c.args.after.now c.args.start M) (g.A.LookUp.built a) R M c.args.anew c.args.sid c.args.bytes.now c.args.at c.args.len (4 * (c.read_lanes-lanes.result.a.at - c.args.at)) l c.args.steps.now c.read_lanes-lanes.new.steps) (sym c.gather.ensures.gathered)
-    (lanes-read (IsLaneCut c.args.after.now c.args.start M) (g.A.LookUp.built a) R M c.args.anew c.args.sid c.args.start c.args.bytes.now c.args.at c.args.len (length c.args.notes.now) c.args.after.now c.in-Some.begun c.read_lanes-lanes.result c.read_lanes-lanes.new.notes c.args.steps.now c.read_lanes-lanes.new.steps
+    subst (λ l. ReadsAheadBy (IsLaneCut c.args.after.now c.args.start M) (g.A.LookUp.built a) R M c.args.anew c.args.sid
+    c.args.bytes.now c.args.at c.args.len (4 * (c.read_lanes-lanes.result.a.at - c.args.at)) l c.args.steps.now
+    c.read_lanes-lanes.new.steps) (sym c.gather.ensures.gathered)
+    (lanes-read (IsLaneCut c.args.after.now c.args.start M) (g.A.LookUp.built a) R M c.args.anew c.args.sid c.args.start
+    c.args.bytes.now c.args.at c.args.len (length c.args.notes.now) c.args.after.now c.in-Some.begun
+    c.read_lanes-lanes.result c.read_lanes-lanes.new.notes c.args.steps.now c.read_lanes-lanes.new.steps
     (λ kind byte small is. record { only = may.frees kind byte small is; quiet = may.quiet c.args.start past })
     (λ byte small is. record { small = small; is = is; state = refl; quiet = may.quiet c.args.start past })
     c.in-Some.ensures lanes.noted lanes.all lanes.read)

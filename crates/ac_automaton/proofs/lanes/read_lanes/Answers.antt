@@ -10,12 +10,18 @@ use Rattle.ac_automaton.proofs.lanes.read_lanes.Goals as goal
 pub loop-left-init : goal.loop-left-init
 loop-left-init g c =
     let a = c.args.automaton.now in
-    let none = noted-none (g.A.LookUp.Reaches a No) (g.A.LookUp.matches a) c.args.anew ((g.A.LookUp.built a).dictionary.kind ≡ Standard) c.args.bytes.now c.args.notes.now (length c.args.notes.now) in
+    let none = noted-none (g.A.LookUp.Reaches a No) (g.A.LookUp.matches a) c.args.anew
+    ((g.A.LookUp.built a).dictionary.kind ≡ Standard) c.args.bytes.now c.args.notes.now (length c.args.notes.now) in
     let begun = c.requires.begun in
     record {
       left = c.left-left.ensures;
       walked = c.requires.walked;
-      noted = record { a = none c.args.begun.a begun.a; b = none c.args.begun.b begun.b; c = none c.args.begun.c begun.c; d = none c.args.begun.d begun.d };
+      noted = record {
+        a = none c.args.begun.a begun.a;
+        b = none c.args.begun.b begun.b;
+        c = none c.args.begun.c begun.c;
+        d = none c.args.begun.d begun.d;
+      };
       read = read-none c.args.begun c.args.steps.now;
     }
 
@@ -24,35 +30,52 @@ loop-left-preserved g c =
     let may = c.requires.may.2 in
     let lanes = c.loop-left.lanes in
     let gone = c.walk-gone.result in
-    let after : Lanes = record { a = c.settle.result; b = c.settle-in-loop-left.result; c = c.settle-in-loop-left-2.result; d = c.settle-in-loop-left-3.result } in
+    let after : Lanes =
+    record {
+      a = c.settle.result;
+      b = c.settle-in-loop-left.result;
+      c = c.settle-in-loop-left-2.result;
+      d = c.settle-in-loop-left-3.result;
+    } in
     let inv = c.loop-left.invariant in
     let went = c.walk-gone.ensures in
     let sa = c.settle.ensures in
     let sb = c.settle-in-loop-left.ensures in
     let sc = c.settle-in-loop-left-2.ensures in
     let sd = c.settle-in-loop-left-3.ensures in
-    let own = own-places _ _ _ _ _ _ may.quiet may.some c.args.begun lanes c.args.notes.now c.loop-left.notes c.requires.begun inv.noted c.loop-left.auto.notes in
+    let own = own-places _ _ _ _ _ _ may.quiet may.some c.args.begun lanes c.args.notes.now c.loop-left.notes
+    c.requires.begun inv.noted c.loop-left.auto.notes in
     record {
       left = c.left-left-in-loop-left.ensures;
-      walked = turn-walked _ _ _ _ _ _ may.quiet may.some c.args.begun lanes after _ _ _ _ _ c.requires.apart own inv.walked inv.noted gone c.requires.anew went.gone sa sb sc sd;
-      noted = turn-noted _ _ _ _ _ _ may.quiet may.some c.args.begun lanes after _ _ _ _ _ c.requires.apart own inv.walked inv.noted gone c.loop-left.left c.loop-left-test.true inv.left went.gone sa sb sc sd;
+      walked = turn-walked _ _ _ _ _ _ may.quiet may.some c.args.begun lanes after _ _ _ _ _ c.requires.apart own
+          inv.walked inv.noted gone c.requires.anew went.gone sa sb sc sd;
+      noted = turn-noted _ _ _ _ _ _ may.quiet may.some c.args.begun lanes after _ _ _ _ _ c.requires.apart own
+          inv.walked inv.noted gone c.loop-left.left c.loop-left-test.true inv.left went.gone sa sb sc sd;
       read = stays-read c.args.begun lanes gone after _ _ _ inv.read went.read
-          (record { a = stays _ _ _ _ _ _ sa; b = stays _ _ _ _ _ _ sb; c = stays _ _ _ _ _ _ sc; d = stays _ _ _ _ _ _ sd });
+          (record {
+            a = stays _ _ _ _ _ _ sa;
+            b = stays _ _ _ _ _ _ sb;
+            c = stays _ _ _ _ _ _ sc;
+            d = stays _ _ _ _ _ _ sd;
+          });
     }
 
 pub returns : goal.returns
 returns g c =
     let may = c.requires.may.2 in
     let lanes = c.loop-left.lanes in
-    let after : Lanes = record { a = c.finish.result; b = c.finish-2.result; c = c.finish-3.result; d = c.finish-4.result } in
+    let after : Lanes =
+    record { a = c.finish.result; b = c.finish-2.result; c = c.finish-3.result; d = c.finish-4.result } in
     let inv = c.loop-left.invariant in
     let sa = c.finish.ensures in
     let sb = c.finish-2.ensures in
     let sc = c.finish-3.ensures in
     let sd = c.finish-4.ensures in
-    let own = own-places _ _ _ _ _ _ may.quiet may.some c.args.begun lanes c.args.notes.now c.loop-left.notes c.requires.begun inv.noted c.loop-left.auto.notes in
+    let own = own-places _ _ _ _ _ _ may.quiet may.some c.args.begun lanes c.args.notes.now c.loop-left.notes
+    c.requires.begun inv.noted c.loop-left.auto.notes in
     record {
-      noted = last-noted _ _ _ _ _ _ may.quiet may.some c.args.begun lanes after _ _ _ _ _ c.requires.apart own inv.walked inv.noted sa sb sc sd;
+      noted = last-noted _ _ _ _ _ _ may.quiet may.some c.args.begun lanes after _ _ _ _ _ c.requires.apart own
+          inv.walked inv.noted sa sb sc sd;
       all = record {
         a = last-all _ _ c.args.anew _ _ _ may.quiet may.some _ _ lanes.a after.a inv.walked.a inv.noted.a.full sa;
         b = last-all _ _ c.args.anew _ _ _ may.quiet may.some _ _ lanes.b after.b inv.walked.b inv.noted.b.full sb;
@@ -60,5 +83,10 @@ returns g c =
         d = last-all _ _ c.args.anew _ _ _ may.quiet may.some _ _ lanes.d after.d inv.walked.d inv.noted.d.full sd;
       };
       read = stays-last c.args.begun lanes after _ _ inv.read
-          (record { a = stays _ _ _ _ _ _ sa; b = stays _ _ _ _ _ _ sb; c = stays _ _ _ _ _ _ sc; d = stays _ _ _ _ _ _ sd });
+          (record {
+            a = stays _ _ _ _ _ _ sa;
+            b = stays _ _ _ _ _ _ sb;
+            c = stays _ _ _ _ _ _ sc;
+            d = stays _ _ _ _ _ _ sd;
+          });
     }

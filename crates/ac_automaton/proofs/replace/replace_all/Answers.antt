@@ -10,7 +10,8 @@ pub loop-found-init : goal.loop-found-init
 loop-found-init g c =
     let x = c.args.haystack.now in
     let b = g.A.Automaton.built c.args.automaton.now in
-    let all : left_of c.in_ok-matches.matches ≡ matches_in b x = same-input b x _ _ _ c.in_ok-matches.ensures.answer.2 c.new.ensures c.as_bytes.ensures.value in
+    let all : left_of c.in_ok-matches.matches ≡ matches_in b x =
+    same-input b c.in_ok-matches.ensures.answer.2 c.new.ensures c.as_bytes.ensures.value in
     record {
       order = rw (c.in_ok-replaced.ensures.bytes, all);
       lies = rw (c.requires, all) (lies-filter (cuts_none x) _ _ _ (matches_in b x) (matches-lie b x));

@@ -8,8 +8,10 @@ use Rattle.ac_automaton.proofs.replace.replace_all.Given as goal
 
 abbrev pub invariant-loop-found : goal.invariant-loop-found
 invariant-loop-found g l = record {
-  order : string_bytes l.replaced ++ replaced_from l.at l.haystack (map (λ r. r.now) l.replacements) (text_left_of l.haystack l.matches)
-      ≡ replaced_from 0 l.haystack (map (λ r. r.now) l.replacements) (text_matches_in (g.A.Automaton.built l.automaton) l.haystack);
+  order : string_bytes l.replaced
+      ++ replaced_from l.at l.haystack (map (λ r. r.now) l.replacements) (text_left_of l.haystack l.matches)
+      ≡ replaced_from 0 l.haystack (map (λ r. r.now) l.replacements)
+      (text_matches_in (g.A.Automaton.built l.automaton) l.haystack);
   lies : LieInOrder (length l.replacements) (length l.haystack) l.at (text_left_of l.haystack l.matches);
   boundary : IsCharBoundary l.haystack l.at;
 }

@@ -8,7 +8,8 @@ use Rattle.ac_automaton.proofs.replace.replace_all_bytes.Given as goal
 abbrev pub invariant-loop-found : goal.invariant-loop-found
 invariant-loop-found g l = record {
   order : l.replaced.items ++ replaced_from l.at l.haystack (map (λ r. r.now) l.replacements) (left_of l.matches)
-      ≡ replaced_from 0 l.haystack (map (λ r. r.now) l.replacements) (matches_in (g.A.Automaton.built l.automaton) l.haystack);
+      ≡ replaced_from 0 l.haystack (map (λ r. r.now) l.replacements)
+      (matches_in (g.A.Automaton.built l.automaton) l.haystack);
   lies : LieInOrder (length l.replacements) (length l.haystack) l.at (left_of l.matches);
   within : l.at ≤ length l.haystack;
 }

@@ -9,9 +9,12 @@ use Rattle.ac_automaton.proofs.replace.replace_all_with.Given as goal
 abbrev pub invariant-loop-found : goal.invariant-loop-found
 invariant-loop-found g l = record {
   callable : IsForMatches g.F.FnMut (length (g.A.Automaton.built l.automaton).dictionary.patterns) l.replace_with;
-  lies : LieInOrder (length (g.A.Automaton.built l.automaton).dictionary.patterns) (length l.haystack) l.at (text_left_of l.haystack l.matches);
+  lies : LieInOrder (length (g.A.Automaton.built l.automaton).dictionary.patterns) (length l.haystack) l.at
+      (text_left_of l.haystack l.matches);
   boundary : IsCharBoundary l.haystack l.at;
-  comes : ComesTo (calls_of string_bytes g.F.FnMut) l.haystack (text_matches_in (g.A.Automaton.built l.automaton) l.haystack) l.fn.replace_with (string_bytes l.fn.dst) l.at (text_left_of l.haystack l.matches) l.replace_with (string_bytes l.dst);
+  comes : ComesTo (calls_of string_bytes g.F.FnMut) l.haystack
+      (text_matches_in (g.A.Automaton.built l.automaton) l.haystack) l.fn.replace_with (string_bytes l.fn.dst) l.at
+      (text_left_of l.haystack l.matches) l.replace_with (string_bytes l.dst);
 }
 
 abbrev pub decreases-loop-found : goal.decreases-loop-found

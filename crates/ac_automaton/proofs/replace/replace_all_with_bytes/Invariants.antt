@@ -8,9 +8,13 @@ use Rattle.ac_automaton.proofs.replace.replace_all_with_bytes.Given as goal
 abbrev pub invariant-loop-found : goal.invariant-loop-found
 invariant-loop-found g l = record {
   callable : IsForMatches g.F.FnMut (length (g.A.Automaton.built l.automaton).dictionary.patterns) l.replace_with;
-  lies : LieInOrder (length (g.A.Automaton.built l.automaton).dictionary.patterns) (length l.haystack) l.at (left_of l.matches);
+  lies : LieInOrder (length (g.A.Automaton.built l.automaton).dictionary.patterns) (length l.haystack) l.at
+      (left_of l.matches);
   within : l.at ≤ length l.haystack;
-  comes : ComesTo (calls_of (λ v. v.items) g.F.FnMut) l.haystack (matches_in (g.A.Automaton.built l.automaton) l.haystack) l.fn.replace_with l.fn.dst.items l.at (left_of l.matches) l.replace_with l.dst.items;
+  comes : ComesTo (calls_of (λ v. v.items) g.F.FnMut) l.haystack
+      (matches_in (g.A.Automaton.built l.automaton) l.haystack) l.fn.replace_with l.fn.dst.items l.at
+      (left_of l.matches)
+      l.replace_with l.dst.items;
 }
 
 abbrev pub decreases-loop-found : goal.decreases-loop-found

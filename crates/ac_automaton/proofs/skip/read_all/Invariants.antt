@@ -7,4 +7,5 @@ use Rattle.ac_automaton.proofs.skip.read_all.Given as goal
 
 abbrev pub invariant-loop-byte : goal.invariant-loop-byte
 invariant-loop-byte g l =
-    HasAdvanced (g.A.LookUp.built l.automaton) (g.A.LookUp.Reaches l.automaton) No (λ (i : StateID). false) l.fn.sid l.bytes l.byte-index l.current l.initial.steps l.steps
+    HasAdvanced (g.A.LookUp.built l.automaton) (g.A.LookUp.Reaches l.automaton) No (λ (i : StateID). false) l.fn.sid
+    l.bytes l.byte-index l.current l.initial.steps l.steps

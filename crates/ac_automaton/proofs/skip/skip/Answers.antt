@@ -3,27 +3,37 @@ use Rattle.std.proofs.Common.{◌≡◌, ◌+◌, [], sym, refl, ◌∙◌, arit
 use Rattle.std.proofs.lemmas.Bool.{eqb-true, not-false}
 use Rattle.std.proofs.lemmas.List.{take_rest}
 use Rattle.ac_input.specs.declared.search.Anchored.TheVariants.{No}
-use Rattle.ac_automaton.specs.ReadOn.{is_between}
+use Rattle.ac_automaton.specs.Look.{is_between}
 use Rattle.ac_automaton.proofs.lemmas.CursorLemmas.{advanced-none, reached-on}
 use Rattle.ac_automaton.proofs.skip.ReadOnLemmas.{after-some, reads-all}
 use Rattle.ac_automaton.proofs.skip.PassingLemmas.{advanced-on}
 use Rattle.ac_automaton.proofs.skip.skip.Goals as goal
 
 pub loop-read-init : goal.loop-read-init
-loop-read-init g c = (omega arith, advanced-none (g.A.LookUp.built c.args.automaton.now) (g.A.LookUp.Reaches c.args.automaton.now) No (is_between c.args.to) c.args.sid c.args.bytes.now c.args.steps.now)
+loop-read-init g c = (
+  omega arith,
+  advanced-none (g.A.LookUp.built c.args.automaton.now) (g.A.LookUp.Reaches c.args.automaton.now) No
+      (is_between c.args.to) c.args.sid c.args.bytes.now c.args.steps.now,
+)
 
 pub read_some-stop-requires-clause-reached : goal.read_some-stop-requires-clause-reached
-read_some-stop-requires-clause-reached g c = reached-on (g.A.LookUp.Reaches c.args.automaton.now No) c.args.sid _ c.loop-read.current c.requires.reached c.loop-read.invariant.1.reads
+read_some-stop-requires-clause-reached g c =
+    reached-on (g.A.LookUp.Reaches c.args.automaton.now No) c.args.sid _ c.loop-read.current c.requires.reached
+    c.loop-read.invariant.1.reads
 
 pub returns-then-has : goal.returns-then-has
 returns-then-has g c =
     let a = c.args.automaton.now in
-    (after-some g.A.LookUp a No c.args.to c.args.sid c.args.bytes.now c.loop-read.current _ c.loop-read.read c.read_some-stop.result c.has.result _ _ _ (take_rest c.args.bytes.now c.loop-read.read) c.loop-read.invariant.0 (λ text reads. g.met.A.LookUp.lives a No text c.loop-read.current reads) c.read_some-stop.ensures c.loop-read.invariant.1 c.has.ensures).0 c.if-has.true
+    (after-some g.A.LookUp a No c.args.to c.args.sid c.args.bytes.now c.loop-read.current _ c.loop-read.read
+    c.read_some-stop.result c.has.result _ _ _ (take_rest c.args.bytes.now c.loop-read.read) c.loop-read.invariant.0
+    c.read_some-stop.ensures c.loop-read.invariant.1 c.has.ensures).0 c.if-has.true
 
 pub loop-read-preserved-then-alone-gt0 : goal.loop-read-preserved-then-alone-gt0
 loop-read-preserved-then-alone-gt0 g c =
     let a = c.args.automaton.now in
-    (after-some g.A.LookUp a No c.args.to c.args.sid c.args.bytes.now c.loop-read.current _ c.loop-read.read c.read_some-stop.result c.has.result _ _ _ (take_rest c.args.bytes.now c.loop-read.read) c.loop-read.invariant.0 (λ text reads. g.met.A.LookUp.lives a No text c.loop-read.current reads) c.read_some-stop.ensures c.loop-read.invariant.1 c.has.ensures).1 c.if-has.false
+    (after-some g.A.LookUp a No c.args.to c.args.sid c.args.bytes.now c.loop-read.current _ c.loop-read.read
+    c.read_some-stop.result c.has.result _ _ _ (take_rest c.args.bytes.now c.loop-read.read) c.loop-read.invariant.0
+    c.read_some-stop.ensures c.loop-read.invariant.1 c.has.ensures).1 c.if-has.false
 
 pub pass-stop-requires : goal.pass-stop-requires
 pass-stop-requires g c = ∣ ([], c.requires.may.may.begins) ∣₁
@@ -31,13 +41,17 @@ pass-stop-requires g c = ∣ ([], c.requires.may.may.begins) ∣₁
 pub loop-read-preserved : goal.loop-read-preserved
 loop-read-preserved g c =
     let a = c.args.automaton.now in
-    let more = (after-some g.A.LookUp a No c.args.to c.args.sid c.args.bytes.now c.loop-read.current _ c.loop-read.read c.read_some-stop.result c.has.result _ _ _ (take_rest c.args.bytes.now c.loop-read.read) c.loop-read.invariant.0 (λ text reads. g.met.A.LookUp.lives a No text c.loop-read.current reads) c.read_some-stop.ensures c.loop-read.invariant.1 c.has.ensures).1 c.if-has.false in
-    let at : c.read_some-stop.result.sid ≡ c.args.start = eqb-true c.read_some-stop.result.sid c.args.start (not-false _ (sym c.ne.ensures ∙ c.if-ne.false)) in
-    advanced-on g.A.LookUp a c.args.openings.now c.args.start c.args.to c.args.sid c.read_some-stop.result.sid c.args.bytes.now _ (c.loop-read.read + c.read_some-stop.result.taken) c.pass-stop.result _ _ _ c.requires.may (g.met.A.LookUp.pairs a No [] c.args.start c.requires.may.may.begins) (let wide = c.args.openings.now.wide in omega (arith, wide))
-    (λ text i reads. g.met.A.LookUp.tells a No text i reads) (λ k. (c.type_inv.bytes k).fits) more.0 (take_rest c.args.bytes.now (c.loop-read.read + c.read_some-stop.result.taken)) at c.pass-stop.ensures more.1
+    let more =
+    (after-some g.A.LookUp a No c.args.to c.args.sid c.args.bytes.now c.loop-read.current _ c.loop-read.read
+    c.read_some-stop.result c.has.result _ _ _ (take_rest c.args.bytes.now c.loop-read.read) c.loop-read.invariant.0
+    c.read_some-stop.ensures c.loop-read.invariant.1 c.has.ensures).1 c.if-has.false in
+    let at : c.read_some-stop.result.sid ≡ c.args.start =
+    eqb-true c.read_some-stop.result.sid c.args.start (not-false _ (sym c.ne.ensures ∙ c.if-ne.false)) in
+    advanced-on c.requires.may (let wide = c.args.openings.now.wide in omega (arith, wide))
+    (λ text i reads. g.met.A.LookUp.tells a No text i reads) (λ k. (c.type_inv.bytes k).fits) more.0
+    (take_rest c.args.bytes.now (c.loop-read.read + c.read_some-stop.result.taken)) at c.pass-stop.ensures more.1
 
 pub returns : goal.returns
 returns g c =
-    let a = c.args.automaton.now in
     let done = c.loop-read-test.false in
-    reads-all (g.A.LookUp.built a) (g.A.LookUp.Reaches a) No c.args.to c.args.sid c.args.bytes.now c.loop-read.read _ c.loop-read.current _ _ refl (omega (arith, c.loop-read.invariant.0)) c.loop-read.invariant.1
+    reads-all refl (omega (arith, c.loop-read.invariant.0)) c.loop-read.invariant.1

@@ -1,21 +1,39 @@
--- A turn finds a match of what was read, or reads once.
+-- A turn finds an item of what was read, or reads once.
 use Rattle.std.proofs.Common.{rules, subst, sym, ◌∙◌}
 use Rattle.ac_automaton.specs.Stream.{StreamCounts, StreamProgress}
-use Rattle.ac_automaton.proofs.stream.StreamIterLemmas.{counts-join, turn-failed}
+use Rattle.ac_automaton.proofs.stream.StreamIterLemmas.{turn-failed}
 use Rattle.ac_automaton.proofs.stream.search_or_read.Goals as goal
+use Rattle.ac_automaton.proofs.stream.StreamCountLemmas.{StreamCounts-then}
 
 pub returns-in-Ok-eq0-clause-goes : goal.returns-in-Ok-eq0-clause-goes
 returns-in-Ok-eq0-clause-goes g c = (
-  subst (λ (t : StreamProgress). StreamCounts c.args.stream.now t c.args.steps.now c.read_more.new.steps) (sym c.finish.ensures.closed)
-      (counts-join c.args.stream.now c.next_counted.new.self c.read_more.new.self c.args.steps.now c.next_counted.new.steps c.read_more.new.steps c.next_counted.ensures.counts c.read_more.ensures.counts),
-  c.finish.ensures.kept,
+  subst (λ t. StreamCounts (g.S.ItemSearch.progress c.args.stream.now) t c.args.steps.now c.read_on.new.steps)
+      (sym c.close.ensures.closed)
+      (StreamCounts-then (g.S.ItemSearch.progress c.args.stream.now) (g.S.ItemSearch.progress c.next_held.new.self)
+      (g.S.ItemSearch.progress c.read_on.new.self) c.args.steps.now c.next_held.new.steps c.read_on.new.steps
+      c.next_held.ensures.goes.0 c.read_on.ensures.goes.0),
+  c.close.ensures.kept,
 )
 
 pub returns-in-Ok-clause-goes : goal.returns-in-Ok-clause-goes
-returns-in-Ok-clause-goes g c = (counts-join c.args.stream.now c.next_counted.new.self c.read_more.new.self c.args.steps.now c.next_counted.new.steps c.read_more.new.steps c.next_counted.ensures.counts c.read_more.ensures.counts, c.read_more.ensures.kept)
+returns-in-Ok-clause-goes g c = (
+  StreamCounts-then (g.S.ItemSearch.progress c.args.stream.now) (g.S.ItemSearch.progress c.next_held.new.self)
+      (g.S.ItemSearch.progress c.read_on.new.self) c.args.steps.now c.next_held.new.steps c.read_on.new.steps
+      c.next_held.ensures.goes.0 c.read_on.ensures.goes.0,
+  c.read_on.ensures.goes.1,
+)
 
 pub returns-in-Err-clause-goes : goal.returns-in-Err-clause-goes
-returns-in-Err-clause-goes g c = (counts-join c.args.stream.now c.next_counted.new.self c.read_more.new.self c.args.steps.now c.next_counted.new.steps c.read_more.new.steps c.next_counted.ensures.counts c.read_more.ensures.counts, c.read_more.ensures.kept)
+returns-in-Err-clause-goes g c = (
+  StreamCounts-then (g.S.ItemSearch.progress c.args.stream.now) (g.S.ItemSearch.progress c.next_held.new.self)
+      (g.S.ItemSearch.progress c.read_on.new.self) c.args.steps.now c.next_held.new.steps c.read_on.new.steps
+      c.next_held.ensures.goes.0 c.read_on.ensures.goes.0,
+  c.read_on.ensures.goes.1,
+)
 
 pub returns-in-Err-clause-gives : goal.returns-in-Err-clause-gives
-returns-in-Err-clause-gives g c = turn-failed g.R.Read.remaining c.args.stream.now c.next_counted.new.self c.read_more.new.self c.args.reader.now c.read_more.new.reader c.in-Err.error (search rules) (sym c.is_closed.ensures.closed ∙ c.if-is_closed.false) c.in_default.ensures.finds (c.is_over.ensures.open c.if-is_over.false) c.in-Err.ensures.read
+returns-in-Err-clause-gives g c =
+    turn-failed g.R.Read.remaining (g.S.ItemSearch.progress c.args.stream.now)
+    (g.S.ItemSearch.progress c.next_held.new.self) (g.S.ItemSearch.progress c.read_on.new.self) c.args.reader.now
+    c.read_on.new.reader c.in-Err.error (search rules) (sym c.has_closed.ensures.closed ∙ c.if-has_closed.false)
+    c.in_default.ensures.finds (c.is_past_places.ensures.open c.if-is_past_places.false) c.in-Err.ensures.read

@@ -4,4 +4,5 @@ use Rattle.ac_automaton.proofs.watched.write_whole.Goals as goal
 
 pub loop-written-preserved : goal.loop-written-preserved
 loop-written-preserved g c =
-    written_more _ _ _ _ _ _ _ c.loop-written.invariant c.in-Ok.ensures.took (omega arith) c.in-Ok.ensures.reads c.in-Ok.ensures.device
+    written_more c.loop-written.invariant c.in-Ok.ensures.took (omega arith) c.in-Ok.ensures.reads
+    c.in-Ok.ensures.device

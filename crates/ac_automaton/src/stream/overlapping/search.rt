@@ -4,25 +4,24 @@
 //! occurrence once, at the state where it ends. The walk never begins anew: a state stands for everything that was read, so no byte
 //! is held once the automaton has read it. Each read fills the buffer from its front, and nothing in it is moved.
 //!
-//! A [`ListingSearch`] returns the next occurrence of what was read, without a read ([`ListingSearch::next_held`]), and makes one read
-//! ([`ListingSearch::read_more`]). An automaton that can walk over several parts of the buffer side by side reads ahead of the search:
+//! A [`ListingSearch`] returns the next occurrence of what was read, without a read, and makes one read, as an [`ItemSearch`]. An automaton that can walk over several parts of the buffer side by side reads ahead of the search:
 //! see [`ahead`](crate::ahead). It counts a look when it makes it, so up to 8 KiB before the search comes to that byte.
 ghost use Rattle.std.specs.Prelude.{◌≡◌, ◌+◌, ◌<◌, ◌≤◌, [], false, true, length, take, vec_len, IfErr, IfOk, OnOk};
 ghost use Rattle.ac_input.specs.declared.search.Anchored.TheVariants.{No};
 ghost use Rattle.ac_automaton.specs.Ahead.{IsPaid};
 ghost use Rattle.ac_automaton.specs.Automaton.{IsState};
-ghost use Rattle.ac_automaton.specs.Stream.{CanBeCounted, CanStream, IsOutOfMemory};
-ghost use Rattle.ac_automaton.specs.Stream.StreamListing.{AnswersNewListing, IsAllListed, IsListingConfigRefusal, IsOnListing, ListingCounts, ListingProgress, ListingReadsMore, ListsHeld, all_read, fresh_listing};
+ghost use Rattle.ac_automaton.specs.Stream.{AreAllGiven, CanBeCounted, CanStream, CountsNothing, FindsHeld, GoesOn, IsOnCourse, IsOutOfMemory, IsSearched, ReadsMore, fresh_progress, read_by, Occurrences};
+ghost use Rattle.ac_automaton.specs.Stream.StreamListing.{AnswersNewListing, IsListingConfigRefusal};
 ghost use Rattle.ac_automaton.specs.Stream.StreamListingSearch.{FillsFront};
 ghost use Rattle.ac_automaton.specs.Stream.StreamListingWalk.{GivesOfState, IsAheadFor, ListsNext, MayGive, MayList, ReadsHeld};
-ghost use Rattle.ac_automaton.specs.Stream.StreamSearch.{some_of};
 ghost use Rattle.ac_automaton.specs.declared.stream.StreamKinds.TheVariants.{OnlyStandard};
 
 use crate::ahead::{Ahead, advance_to_match};
 use crate::automaton::Automaton;
 use crate::error::{MatchError, StreamError};
 use crate::search::Search;
-use crate::stream::LEAST_ROOM;
+use crate::stream::search::given_then;
+use crate::stream::{ItemSearch, LEAST_ROOM};
 use crate::watched::Watched;
 use ac_input::history::{Count, Pieces};
 use ac_input::primitives::StateID;
@@ -53,7 +52,7 @@ pub struct Listed {
 
 /// How far a search of a stream for every occurrence has come.
 #[derive(Drop)]
-pub(crate) struct ListingSearch<'a, A: Search> {
+pub struct ListingSearch<'a, A: Search> {
     automaton: &'a A,
     bytes: Vec<u8>,
     filled: usize,
@@ -70,16 +69,16 @@ impl<'a, A: Search> Model for ListingSearch<'a, A> {
     ghost use Rattle.ac_input.specs.declared.search.Anchored.TheVariants.{No};
     ghost use Rattle.std.specs.Prelude.{◌-◌, ◌≤◌, None};
     ghost use Rattle.ac_automaton.specs.Ahead.{IsAhead, bytes_ahead, less_ahead};
-    ghost use Rattle.ac_automaton.specs.Stream.StreamListing.{IsOnListing, ListingProgress};
+    ghost use Rattle.ac_automaton.specs.Stream.{IsOnCourse, Occurrences, StreamProgress};
     ghost use Rattle.ac_automaton.specs.Stream.StreamListingSearch.{IsListingSearch, listing_at};
 
-    ghost Value = { ListingProgress };
+    ghost Value = { StreamProgress Occurrences };
 
     ghost view = { λ i. listing_at (A.built i.automaton.now) i.pieces.items i.given.value i.place
         i.sums };
 
     ghost invariant = { λ i.
-        IsOnListing (listing_at (A.built i.automaton.now) i.pieces.items i.given.value i.place i.sums)
+        IsOnCourse (listing_at (A.built i.automaton.now) i.pieces.items i.given.value i.place i.sums)
         × IsListingSearch (A.Reaches i.automaton.now No)
         (A.matches i.automaton.now)
         (listing_at (A.built i.automaton.now) i.pieces.items i.given.value i.place (less_ahead i.sums i.ahead))
@@ -223,16 +222,6 @@ pub(crate) fn next_listed<A: Automaton>(
     }
 }
 
-/// How many occurrences were given after this one, or none.
-fn given_then(given: &Count, found: &Option<Match>) -> Count
-    ensures { result.value ≡ given.now.value + length (some_of found.now) }
-{
-    match found {
-        Some(_) => given.next(),
-        None => given.more(&0),
-    }
-}
-
 impl<'a, A: Search> ListingSearch<'a, A> {
     /// A search that begins in this start state, which has read nothing yet.
     fn beginning(
@@ -242,8 +231,8 @@ impl<'a, A: Search> ListingSearch<'a, A> {
     ) -> Result<ListingSearch<'a, A>, StreamError>
         requires starts { A.Reaches automaton.now No [] start }
         requires can { CanStream OnlyStandard (A.built automaton.now) (A.supports automaton.now) }
-        ensures fresh { IfOk result (λ s. s ≡ fresh_listing (A.built automaton.now)) }
-        ensures kept { IfOk result IsOnListing }
+        ensures fresh { IfOk result (λ s. s ≡ fresh_progress (A.built automaton.now)) }
+        ensures kept { IfOk result IsOnCourse }
         ensures error { IfErr result IsOutOfMemory }
     {
         let bytes = allocated(alloc)?;
@@ -275,48 +264,16 @@ impl<'a, A: Search> ListingSearch<'a, A> {
         ListingSearch::beginning(automaton, start, alloc)
     }
 
-    /// Whether there are more bytes than places: then no occurrence is left.
-    pub fn is_over(&self) -> bool
-        ensures over { result ≡ true → ¬ CanBeCounted (all_read self.now) }
-        ensures open { result ≡ false → CanBeCounted (all_read self.now) }
-    {
-        self.over
-    }
-
-    /// The next occurrence in the bytes that were read, without a read. None means that all of them were returned.
-    ///
-    /// After a read that leaves more bytes than places it is always none.
-    pub fn next_held(&mut self, steps: &mut Steps) -> Option<Match>
-        ensures lists { ListsHeld self.old result self.new }
-        ensures counts { ListingCounts self.old self.new steps.old steps.new }
-        ensures kept { IsOnListing self.new }
-    {
-        if self.over {
-            return None;
-        }
-        let mut taken = Steps::new();
-        let listed = self.automaton.search_stream_overlapping(
-            &self.place,
-            &self.bytes.as_slice()[..self.filled],
-            &mut self.ahead,
-            &mut taken,
-        );
-        steps.add(&taken);
-        self.sums.add(&taken);
-        self.given = given_then(&self.given, &listed.found);
-        self.place = listed.place;
-        listed.found
-    }
-
-    /// One read, from the front of the buffer. All occurrences in what was read before must have been returned.
+    /// One read, from the front of the buffer. All that was read before must have been searched.
     ///
     /// Returns how many bytes it read: none at the end of the input. An error is `Read`, or `Position` if there are now more bytes
     /// than places; nothing may be read after either.
-    pub fn read_more<R: Read>(&mut self, reader: &mut Watched<R>) -> Result<usize, StreamError>
+    fn read_more<R: Read>(&mut self, reader: &mut Watched<R>) -> Result<usize, StreamError>
         requires open { reader.old.ended ≡ false }
-        requires all { IsAllListed self.old }
-        ensures read { ListingReadsMore R.remaining self.old self.new reader.old reader.new result }
-        ensures kept { IsOnListing self.new }
+        requires searched { IsSearched self.old }
+        ensures read { ReadsMore R.remaining self.old self.new reader.old reader.new result }
+        ensures steps { CountsNothing self.old self.new }
+        ensures kept { IsOnCourse self.new }
     {
         self.ahead.forget(0);
         self.place.from = self.place.at;
@@ -336,4 +293,48 @@ impl<'a, A: Search> ListingSearch<'a, A> {
         }
         Ok(n)
     }
+}
+
+impl<'a, A: Search> ItemSearch for ListingSearch<'a, A> {
+    ghost use Rattle.ac_automaton.specs.Stream.{Occurrences};
+
+    ghost sequence = { Occurrences };
+
+    ghost progress = { λ s. s };
+
+    fn next_held(&mut self, steps: &mut Steps) -> Option<Match> {
+        if self.over {
+            return None;
+        }
+        let mut taken = Steps::new();
+        let listed = self.automaton.search_stream_overlapping(
+            &self.place,
+            &self.bytes.as_slice()[..self.filled],
+            &mut self.ahead,
+            &mut taken,
+        );
+        steps.add(&taken);
+        self.sums.add(&taken);
+        self.given = given_then(&self.given, &listed.found);
+        self.place = listed.place;
+        listed.found
+    }
+
+    fn is_past_places(&self) -> bool {
+        self.over
+    }
+
+    fn has_closed(&self) -> bool {
+        false
+    }
+
+    fn read_on<R: Read>(
+        &mut self,
+        reader: &mut Watched<R>,
+        steps: &mut Steps,
+    ) -> Result<usize, StreamError> {
+        self.read_more(reader)
+    }
+
+    fn close(&mut self) {}
 }

@@ -20,7 +20,8 @@ pub returns-in-Ok : goal.returns-in-Ok
 returns-in-Ok c =
     let i = c.loop-at.invariant in
     let all : c.loop-at.at ≡ c.min-count.result = omega (arith, c.loop-at.auto.at-end, c.loop-at-test.false) in
-    let same = pairs-all c.args.pairs.now _ c.min-count.result c.min-count.ensures (rw all at i.copied) (rw all at i.bytes) c.in-Ok.ensures.made.0 in
+    let same = pairs-all c.args.pairs.now _ c.min-count.result c.min-count.ensures (rw all at i.copied)
+    (rw all at i.bytes) c.in-Ok.ensures.made.0 in
     rw same c.in-Ok.ensures.made
 
 pub returns-in-Err-Twice : goal.returns-in-Err-Twice

@@ -6,27 +6,50 @@ use Rattle.ac_c.proofs.walk.FillLemmas.{fill-end, fill-enough, fill-given, fill-
 use Rattle.ac_c.proofs.list.fill.Goals as goal
 
 pub loop-at-init : goal.loop-at-init
-loop-at-init c = record { rest = refl; enough = omega arith; given = refl; cost = runs-none _ _ c.requires; counted = λ some. absurd (omega (arith, some)); near = λ some. absurd (omega (arith, some)) }
+loop-at-init c =
+    record {
+      rest = refl;
+      enough = omega arith;
+      given = refl;
+      cost = runs-none _ _ c.requires;
+      counted =
+          λ some. absurd (omega (arith, some));
+      near = λ some. absurd (omega (arith, some));
+    }
 
 pub returns-in-None : goal.returns-in-None
 returns-in-None c =
     let i = c.loop-at.invariant in
-    let end : c.loop-at.at ≡ length (later_of c.args.place c.args.matches.now) = fill-end _ c.loop-at.at (sym i.rest ∙ c.in-None.ensures.later.0) i.enough in
+    let end : c.loop-at.at ≡ length (later_of c.args.place c.args.matches.now) =
+    fill-end _ c.loop-at.at (sym i.rest ∙ c.in-None.ensures.later.0) i.enough in
     record {
       given = record { count = omega arith; given = i.given };
       cost = runs-on _ _ _ _ _ _ i.cost c.in-None.ensures.cost;
-      counted = record { last = λ some full. absurd (omega arith); near = λ some full. absurd (omega arith); all = λ less. c.in-None.ensures.counted };
+      counted =
+          record {
+            last = λ some full. absurd (omega arith);
+            near = λ some full. absurd (omega arith);
+            all =
+                λ less. c.in-None.ensures.counted;
+          };
     }
 
 pub loop-at-preserved : goal.loop-at-preserved
 loop-at-preserved c =
     let i = c.loop-at.invariant in
-    let next : drop c.loop-at.at (later_of c.args.place c.args.matches.now) ≡ c.in-Some.found ∷ later_of c.args.place c.next_later.new.matches = sym i.rest ∙ c.in-Some.ensures.later in
+    let next : drop c.loop-at.at (later_of c.args.place c.args.matches.now)
+    ≡ c.in-Some.found ∷ later_of c.args.place c.next_later.new.matches = sym i.rest ∙ c.in-Some.ensures.later in
     record {
       rest = fill-rest _ c.loop-at.at c.in-Some.found _ next;
       enough = fill-enough _ c.loop-at.at c.in-Some.found _ next;
-      given = rw c.of.ensures (fill-given _ c.loop-at.out c.loop-at.at c.in-Some.found _ (omega arith) next i.given);
+      given =
+          rw c.from_match.ensures (fill-given _ c.loop-at.out c.loop-at.at c.in-Some.found _ (omega arith) next
+          i.given);
       cost = runs-on _ _ _ _ _ _ i.cost c.in-Some.ensures.cost;
-      counted = λ some. rw c.of.ensures (rw (last-written c.args.place c.loop-at.out c.loop-at.at c.in-Some.found (omega arith)) c.in-Some.ensures.counted);
-      near = λ some. rw c.of.ensures (rw (last-written c.args.place c.loop-at.out c.loop-at.at c.in-Some.found (omega arith)) c.in-Some.ensures.near);
+      counted =
+          λ some. rw c.from_match.ensures (rw (last-written c.args.place c.loop-at.out c.loop-at.at c.in-Some.found
+          (omega arith)) c.in-Some.ensures.counted);
+      near =
+          λ some. rw c.from_match.ensures (rw (last-written c.args.place c.loop-at.out c.loop-at.at c.in-Some.found
+          (omega arith)) c.in-Some.ensures.near);
     }

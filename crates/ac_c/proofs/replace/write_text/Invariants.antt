@@ -10,7 +10,8 @@ use Rattle.ac_c.proofs.replace.write_text.Given as goal
 
 abbrev pub invariant-loop-found : goal.invariant-loop-found
 invariant-loop-found g l = let walk = g.W.Walking.walk in record {
-  written : IsWritten (text_of l.haystack l.replacements (left_of (walk l.fn.matches))) l.fn.out l.out l.len (replaced_from l.at l.haystack (map (λ r. r.now) l.replacements) (left_of (walk l.matches)));
+  written : IsWritten (text_of l.haystack l.replacements (left_of (walk l.fn.matches))) l.fn.out l.out l.len
+      (replaced_from l.at l.haystack (map (λ r. r.now) l.replacements) (left_of (walk l.matches)));
   lies : LieInOrder (length l.replacements) (length l.haystack) l.at (left_of (walk l.matches));
   within : l.at ≤ length l.haystack;
   cost : WalksTo g.W.Walking.ahead (walk l.fn.matches) (walk l.matches) l.fn.steps l.steps;

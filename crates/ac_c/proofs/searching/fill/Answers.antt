@@ -6,7 +6,13 @@ use Rattle.ac_c.proofs.searching.StreamLemmas.{more-than-none, returns-more, ret
 use Rattle.ac_c.proofs.searching.fill.Goals as goal
 
 pub loop-at-init : goal.loop-at-init
-loop-at-init c = ([], returns-none c.args.search.now, record { count = refl; room = omega arith; shown = refl }, λ e. refl, StreamCounts-none c.args.search.now c.args.steps.now)
+loop-at-init c = (
+  [],
+  returns-none c.args.search.now,
+  record { count = refl; room = omega arith; shown = refl },
+  λ e. refl,
+  StreamCounts-none c.args.search.now c.args.steps.now,
+)
 
 pub loop-at-preserved : goal.loop-at-preserved
 loop-at-preserved c =
@@ -14,20 +20,27 @@ loop-at-preserved c =
     let s = c.args.search.now in let t = c.loop-at.search in let o = c.in-Some.found in (
       i.0 ++ o ∷ [],
       returns-more s t c.next_counted.new.self i.0 o i.1 i.3 f.0 f.1 f.4 f.5 f.6,
-      rw c.of.ensures (shown-more i.0 o c.args.out.now c.loop-at.out c.loop-at.at (omega arith) c.loop-at.auto.out i.2),
+      rw c.from_match.ensures (shown-more i.0 o c.args.out.now c.loop-at.out c.loop-at.at (omega arith)
+          c.loop-at.auto.out i.2),
       λ e. absurd (more-than-none i.0 o e),
-      StreamCounts-then s t c.next_counted.new.self c.args.steps.now c.loop-at.steps c.next_counted.new.steps i.4 c.in-Some.ensures.counts,
+      StreamCounts-then s t c.next_counted.new.self c.args.steps.now c.loop-at.steps c.next_counted.new.steps i.4
+          c.in-Some.ensures.counts,
     )
 
 pub returns-in-None-clause-next : goal.returns-in-None-clause-next
 returns-in-None-clause-next c =
     let i = c.loop-at.invariant in let f = c.in-None.ensures.finds in
-    let s = c.args.search.now in let t = c.loop-at.search in
-    (i.0, returns-rest s t c.next_counted.new.self i.0 i.1 f.0 f.1, i.2, λ less. λ counted. f.2 (same-counted s t i.1.nothing counted))
+    let s = c.args.search.now in let t = c.loop-at.search in (
+      i.0,
+      returns-rest s t c.next_counted.new.self i.0 i.1 f.0 f.1,
+      i.2,
+      λ less. λ counted. f.2 (same-counted s t i.1.nothing counted),
+    )
 
 pub returns-in-None-clause-cost : goal.returns-in-None-clause-cost
 returns-in-None-clause-cost c =
-    StreamCounts-then c.args.search.now c.loop-at.search c.next_counted.new.self c.args.steps.now c.loop-at.steps c.next_counted.new.steps c.loop-at.invariant.4 c.in-None.ensures.counts
+    StreamCounts-then c.args.search.now c.loop-at.search c.next_counted.new.self c.args.steps.now c.loop-at.steps
+    c.next_counted.new.steps c.loop-at.invariant.4 c.in-None.ensures.counts
 
 pub returns-clause-cost : goal.returns-clause-cost
 returns-clause-cost c = c.loop-at.invariant.4
@@ -35,5 +48,9 @@ returns-clause-cost c = c.loop-at.invariant.4
 pub returns-clause-next : goal.returns-clause-next
 returns-clause-next c =
     let i = c.loop-at.invariant in
-    let all : c.loop-at.at ≡ length c.loop-at.out = omega (arith, c.loop-at.auto.out, c.loop-at.auto.at-end) in
-    (i.0, i.1, subst (AreShown i.0 c.args.out.now c.loop-at.out) all i.2, λ less. absurd (omega (arith, c.loop-at.auto.out)))
+    let all : c.loop-at.at ≡ length c.loop-at.out = omega (arith, c.loop-at.auto.out, c.loop-at.auto.at-end) in (
+      i.0,
+      i.1,
+      subst (AreShown i.0 c.args.out.now c.loop-at.out) all i.2,
+      λ less. absurd (omega (arith, c.loop-at.auto.out)),
+    )

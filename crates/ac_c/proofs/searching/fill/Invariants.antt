@@ -6,5 +6,7 @@ use Rattle.ac_c.specs.Searching.{AreShown, Returns}
 use Rattle.ac_c.proofs.searching.fill.Given as goal
 
 abbrev pub invariant-loop-at : goal.invariant-loop-at
-invariant-loop-at l = (os : List Occurrence) × Returns l.fn.search l.search os × AreShown os l.fn.out l.out l.at × (os ≡ [] → l.search ≡ l.fn.search)
+invariant-loop-at l =
+    (os : List Occurrence) × Returns l.fn.search l.search os × AreShown os l.fn.out l.out l.at
+    × (os ≡ [] → l.search ≡ l.fn.search)
     × StreamCounts l.fn.search l.search l.fn.steps l.steps

@@ -9,6 +9,8 @@ loop-a-preserved c =
     let before = c.loop-a.invariant in
     let apart = last_apart pairs i (omega arith) c.requires in
     record {
-      pairing = IsPairing-more c.loop-a.table _ _ before.pairing (omega arith) (omega arith) (before.partners _ ∙ partner-alone _ _ apart.0) (before.partners _ ∙ partner-alone _ _ apart.1) apart.2;
-      partners = λ b. partner-more c.loop-a.table pairs i b (omega arith) c.requires (omega (arith, before.pairing.len)) (omega (arith, before.pairing.len)) before.partners;
+      pairing = IsPairing-more before.pairing (omega arith) (omega arith) (before.partners _ ∙ partner-alone _ apart.0)
+          (before.partners _ ∙ partner-alone _ apart.1) apart.2;
+      partners = λ b. partner-more c.loop-a.table pairs i b (omega arith) c.requires (omega (arith, before.pairing.len))
+          (omega (arith, before.pairing.len)) before.partners;
     }

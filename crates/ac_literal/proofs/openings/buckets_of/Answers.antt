@@ -20,15 +20,12 @@ pub loop-number-preserved : goal.loop-number-preserved
 loop-number-preserved c =
     let patterns = c.args.patterns.now in
     let all = bytes_of patterns in
-    let pairing = c.args.pairing.now in
-    let len = c.args.len in
     let number = c.loop-number.number in
     let d : Bor (List ℕ) = record { ref_ptr = (0, 0); now = [] } in
-    let old = c.loop-number.teddy in
-    let new = c.add.new.teddy in
     record {
-      near = keeps-near old new len c.add.ensures.kept c.loop-number.invariant.near;
-      all = opened-more pairing len all number _ old new _ (pattern-lent patterns d number c.loop-number-test.true) c.loop-number.invariant.all c.add.ensures.kept c.add.ensures.own;
+      near = keeps-near c.add.ensures.kept c.loop-number.invariant.near;
+      all = opened-more all (pattern-lent patterns d number c.loop-number-test.true) c.loop-number.invariant.all
+          c.add.ensures.kept c.add.ensures.own;
     }
 
 pub returns-clause-all : goal.returns-clause-all

@@ -15,5 +15,6 @@ loop-pattern-preserved c =
     let few = c.loop-pattern.invariant.few in
     record {
       few = omega (arith, least, few);
-      short = short-more (bytes_of patterns) number c.loop-pattern.len c.min-len.result c.loop-pattern.invariant.short (omega (arith, least)) (omega (arith, least, same));
+      short = short-more (bytes_of patterns) c.loop-pattern.invariant.short (omega (arith, least))
+          (omega (arith, least, same));
     }

@@ -14,7 +14,10 @@ loop-at-preserved c =
     let inside : at < length bytes = omega (arith, long, short, few) in (
       length-set bytes at c.other.result ∙ long,
       λ k within. elim (cases_eq k at) [
-        | inl here ↦ ap (λ i. get_or (set bytes at c.other.result) i 0) here ∙ get_or-set_same bytes at c.other.result 0 inside ∙ c.other.ensures.value ∙ sym (ap (λ i. other c.args.pairing.now (get_or c.args.pattern.now i 0)) here)
-        | inr apart ↦ get_or-set_other bytes at k c.other.result 0 apart ∙ c.loop-at.invariant.1 k (omega (arith, within, apart))
+        | inl here ↦
+            ap (λ i. get_or (set bytes at c.other.result) i 0) here ∙ get_or-set_same bytes at c.other.result 0 inside
+            ∙ c.other.ensures.value ∙ sym (ap (λ i. other c.args.pairing.now (get_or c.args.pattern.now i 0)) here)
+        | inr apart ↦
+            get_or-set_other bytes at k c.other.result 0 apart ∙ c.loop-at.invariant.1 k (omega (arith, within, apart))
       ],
     )

@@ -35,4 +35,5 @@ loop-pattern-preserved c =
     let patterns = c.args.patterns.now in
     let d : Bor (List ℕ) = record { ref_ptr = (0, 0); now = [] } in
     let i = c.loop-pattern.pattern-index in
-    printed-more c.args.pairing.now c.args.len (bytes_of patterns) i c.loop-pattern.prints c.add.new.self (get_or patterns i d).now (pattern-lent patterns d i c.loop-pattern-test.true) c.loop-pattern.invariant c.add.ensures.kept c.add.ensures.own
+    printed-more c.args.len (bytes_of patterns) (pattern-lent patterns d i c.loop-pattern-test.true)
+    c.loop-pattern.invariant c.add.ensures.kept c.add.ensures.own

@@ -5,4 +5,10 @@ use Rattle.ac_noncontiguous.proofs.builder.BuilderLemmas.{if_ok-both}
 use Rattle.ac_noncontiguous.proofs.builder.tables_of.Goals as goal
 
 pub returns-clause-made : goal.returns-clause-made
-returns-clause-made c = if_ok-both c.from_trie.result _ _ _ c.from_trie.ensures.stands c.from_trie.ensures.classed (λ tables stands classed. λ m is. (stands m is (c.in_ok-links.ensures.links m is), classed m is, subst IsPairing (sym is.pairing) c.args.trie.now.paired))
+returns-clause-made c =
+    if_ok-both c.from_trie.result c.from_trie.ensures.stands c.from_trie.ensures.classed
+    (λ tables stands classed. λ m is. (
+      stands m is (c.in_ok-links.ensures.links m is),
+      classed m is,
+      subst IsPairing (sym is.pairing) c.args.trie.now.paired,
+    ))

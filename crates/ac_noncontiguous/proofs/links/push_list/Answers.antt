@@ -6,16 +6,17 @@ use Rattle.ac_noncontiguous.proofs.links.push_list.Goals as goal
 pub overflow_cast-len : goal.overflow_cast-len
 overflow_cast-len c =
     let a = c.in_ok-push_own.ensures in
-    let fits = list-fits _ _ c.args.id a.0 c.args.matches.now.items c.push_own.new.list.items c.extend_from_within.new.self.items c.args.rest.now a.1 c.requires.above a.2 c.in_ok-extend_from_within.ensures.items c.requires.inside in
+    let fits = list-fits c.args.matches.now.items c.args.rest.now a.1 c.requires.above a.2
+    c.in_ok-extend_from_within.ensures.items c.requires.inside in
     let counted = c.args.trie.now.counted in
     omega (arith, fits, counted, c.len-2.ensures, c.len-from.ensures)
 
 pub returns : goal.returns
 returns c =
     let a = c.in_ok-push_own.ensures in
-    listed-copied _ c.args.id c.args.rest.now _ c.args.matches.now.items c.push_own.new.list.items c.extend_from_within.new.self.items a.0 a.1 a.2 c.in_ok-extend_from_within.ensures.items c.requires.inside (omega arith) (omega arith)
+    listed-copied a.1 a.2 c.in_ok-extend_from_within.ensures.items c.requires.inside (omega arith) (omega arith)
 
 pub returns-then-len-from : goal.returns-then-len-from
 returns-then-len-from c =
     let a = c.in_ok-push_own.ensures in
-    listed-shared _ c.args.id c.args.rest.now c.args.matches.now.items c.push_own.new.list.items a.0 a.1 a.2 (omega arith) c.requires.inside
+    listed-shared a.1 a.2 (omega arith) c.requires.inside

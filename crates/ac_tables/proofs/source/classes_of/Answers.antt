@@ -11,4 +11,5 @@ returns-in_ok-clone-clause-serve c =
     own-serve c.args.nfa.now c.in_ok-clone.field-0 c.byte_classes.ensures.classes c.byte_classes.ensures.alike same
 
 pub returns-else-byte_classes-clause-serve : goal.returns-else-byte_classes-clause-serve
-returns-else-byte_classes-clause-serve c = singles-serve (dictionary c.args.nfa.now) c.singletons.result c.singletons.ensures
+returns-else-byte_classes-clause-serve c =
+    singles-serve (dictionary c.args.nfa.now) c.singletons.result c.singletons.ensures

@@ -1,6 +1,6 @@
 -- Settings that ask packed search are accepted with rules that it serves.
 use Rattle.std.proofs.Common.{◌≡◌, rules}
-use Rattle.acsub_words.specs.declared.settings.Engine.TheVariants.{Packed}
+use Rattle.acsub.specs.declared.args.settings.Engine.TheVariants.{Packed}
 use Rattle.acsub.proofs.prepared.FinderLemmas.{packed-kind, packed-served, packed-unpaired}
 use Rattle.acsub.proofs.prepared.finder_for.Goals as goal
 

@@ -10,7 +10,7 @@ use Rattle.acsub.proofs.rewrite.SendingLemmas.{sends-last, sends-stopped}
 use Rattle.acsub.proofs.rewrite.send_list.Goals as goal
 
 pub loop-found-init : goal.loop-found-init
-loop-found-init g c = record { front = []; sent = rw c.requires (Sent-none _ c.args.writer.now []); order = refl; counted = λ plan n begun h. h }
+loop-found-init g c = record { front = []; sent = rw c.requires Sent-none; order = refl; counted = λ plan n begun h. h }
 
 pub returns-in_err-send-clause-sent : goal.returns-in_err-send-clause-sent
 returns-in_err-send-clause-sent g c =
@@ -18,10 +18,13 @@ returns-in_err-send-clause-sent g c =
     let before = c.loop-found.invariant in
     let found = c.in-Some.found in
     let stopped = rw (c.as_bytes.ensures, c.new.ensures) at c.in_err-send.ensures.sent in
-    rw (p.1, p.2) (sends-stopped _ _ _ _ _ _ before.front (line found) _ before.sent (listed (left_in c.next_counted.new.self)) [] _ (listed-step found _ _ before.front _ c.in-Some.ensures.yields before.order) (stopped.0, stopped.1, refl))
+    rw (p.1, p.2)
+    (sends-stopped _ _ _ _ _ _ before.front (line found) _ before.sent (listed (left_in c.next_counted.new.self)) [] _
+    (listed-step found _ _ before.front _ c.in-Some.ensures.yields before.order) (stopped.0, stopped.1, refl))
 
 pub returns-in_err-send-clause-counts : goal.returns-in_err-send-clause-counts
-returns-in_err-send-clause-counts g c = λ plan n begun h. c.next_counted.ensures.counts plan n begun (c.loop-found.invariant.counted plan n begun h)
+returns-in_err-send-clause-counts g c =
+    λ plan n begun h. c.next_counted.ensures.counts plan n begun (c.loop-found.invariant.counted plan n begun h)
 
 pub loop-found-preserved : goal.loop-found-preserved
 loop-found-preserved g c =
@@ -30,7 +33,7 @@ loop-found-preserved g c =
     let sent = rw (c.as_bytes.ensures, c.new.ensures) at c.in_ok-send.ensures.sent in
     record {
       front = before.front ++ line found;
-      sent = Sent-then _ _ _ _ _ _ _ before.front (line found) before.sent sent;
+      sent = Sent-then before.sent sent;
       order = listed-step found _ _ before.front _ c.in-Some.ensures.yields before.order;
       counted = λ plan n begun h. c.next_counted.ensures.counts plan n begun (before.counted plan n begun h);
     }
@@ -39,7 +42,9 @@ pub returns-clause-sent : goal.returns-clause-sent
 returns-clause-sent g c =
     let before = c.loop-found.invariant in
     let end = listed-end _ before.front _ c.in_default.ensures.yields.0 before.order in
-    sends-last _ _ _ _ _ _ before.front [] _ before.sent [] c.send_held.result (append-nil before.front ∙ end) (rw c.send_held.ensures.none at c.send_held.ensures.sent)
+    sends-last _ _ _ _ _ _ before.front [] _ before.sent [] c.send_held.result (append-nil before.front ∙ end)
+    (rw c.send_held.ensures.none at c.send_held.ensures.sent)
 
 pub returns-clause-counts : goal.returns-clause-counts
-returns-clause-counts g c = λ plan n begun h. c.next_counted.ensures.counts plan n begun (c.loop-found.invariant.counted plan n begun h)
+returns-clause-counts g c =
+    λ plan n begun h. c.next_counted.ensures.counts plan n begun (c.loop-found.invariant.counted plan n begun h)

@@ -6,4 +6,5 @@ use Rattle.acsub.proofs.run.run_rules.Goals as goal
 pub returns-clause-written : goal.returns-clause-written
 returns-clause-written g c =
     let ran = c.run_rules_counted in
-    wrote-text g.R.Read.remaining g.W.Write.contents (plan_of c.args.stream c.args.settings.now c.args.rules.now) c.args.reader.now ran.new.reader c.args.writer.now ran.new.writer ran.result ran.ensures.answered
+    wrote-text g.R.Read.remaining g.W.Write.contents (plan_of c.args.stream c.args.settings.now c.args.rules.now)
+    c.args.reader.now ran.new.reader c.args.writer.now ran.new.writer ran.result ran.ensures.answered

@@ -4,9 +4,9 @@
 //! written after a failed write, and a run flushes nothing.
 use super::refusals::reads_where_there_is_memory;
 use super::*;
+use crate::args::settings::Mode;
+use crate::args::settings::Mode::{List, Overlap, Replace};
 use crate::scripted::PLAIN;
-use acsub_words::settings::Mode;
-use acsub_words::settings::Mode::{List, Overlap, Replace};
 use std::test::Fail;
 
 /// Fox by sloth, and nothing else.
@@ -401,8 +401,9 @@ fn stops(rt: &impl Abort, alloc: Global, settings: &Settings, row: &Row<'_>, mos
         ..did
     };
     shows(rt, row.rules, &did, &want);
-    let (written, input) = (did.written.unwrap_or(usize::MAX), row.input);
-    assert!(rt; row.lengths.contains(&written), "{written} of {input:?}");
+    let written = did.written.unwrap_or(usize::MAX);
+    let found = (row.input, written, row.lengths.contains(&written));
+    equal(rt, &found, &(row.input, written, true), row.rules);
 }
 
 /// The same by each engine, over pieces of some lengths.
@@ -416,14 +417,6 @@ fn stops_by_each(rt: &impl Abort, alloc: Global, row: &Row<'_>) -> Result<(), Fa
         for most in PIECES {
             stops(rt, alloc, &settings, row, *most);
         }
-    }
-    Ok(())
-}
-
-#[test]
-fn writes_what_is_decided(rt: HostRuntime) -> Result<(), Fail> {
-    for row in ROWS {
-        stops_by_each(&rt, rt.alloc(), row)?;
     }
     Ok(())
 }
@@ -525,14 +518,6 @@ fn holds_all(rt: &impl Abort, alloc: Global, held: &Held) -> Result<(), Fail> {
     Ok(())
 }
 
-#[test]
-fn writes_nothing_before_the_end(rt: HostRuntime) -> Result<(), Fail> {
-    for held in HELD {
-        holds_all(&rt, rt.alloc(), held)?;
-    }
-    Ok(())
-}
-
 /// Asserts that the lines of all matches that end before a read that fails were written, and no others, wherever it fails.
 fn lists_to_a_failed_read(rt: &impl Abort, alloc: Global, lines: &Lines) -> Result<(), Fail> {
     for read in 0..=APPENDED.len() {
@@ -553,8 +538,15 @@ fn lists_to_a_failed_read(rt: &impl Abort, alloc: Global, lines: &Lines) -> Resu
     Ok(())
 }
 
+/// Where a reader stops, all that is decided was written; of a run that holds its input, nothing.
 #[test]
-fn lists_up_to_a_failed_read(rt: HostRuntime) -> Result<(), Fail> {
+fn writes_what_is_decided(rt: HostRuntime) -> Result<(), Fail> {
+    for row in ROWS {
+        stops_by_each(&rt, rt.alloc(), row)?;
+    }
+    for held in HELD {
+        holds_all(&rt, rt.alloc(), held)?;
+    }
     for lines in LINES {
         lists_to_a_failed_read(&rt, rt.alloc(), lines)?;
     }
@@ -622,12 +614,37 @@ fn stops_anywhere(
             for most in [1usize, 5, 64] {
                 let full = Full { room, fails, most };
                 let did = stops_at(rt, alloc, settings, &case, &full);
-                if room == 0 {
-                    assert!(rt; did.writes == 1 && fewest <= did.reads && did.reads <= last);
-                }
-                if room == 13 && most == 1 {
-                    assert!(rt; did.writes == 13);
-                }
+                let stopped_soon = did.writes == 1 && fewest <= did.reads && did.reads <= last;
+                let by_one = did.writes == RAN.len();
+                let facts = (
+                    room != 0 || stopped_soon,
+                    room != RAN.len() || most != 1 || by_one,
+                );
+                equal(rt, &facts, &(true, true), "a writer that stops");
+            }
+        }
+    }
+}
+
+/// Asserts that a write that fails, or takes nothing, is made as soon as the line is known: no byte is read that the line doesn't
+/// need.
+fn stops_at_its_line(rt: &impl Abort, alloc: Global, settings: &Settings, lines: &Lines) {
+    let case = Case {
+        stream: lines.stream,
+        rules: APPEND,
+        input: APPENDED,
+        writes: lines.text,
+        calls: None,
+    };
+    for fails in [false, true] {
+        for room in 0..lines.text.len() {
+            for most in [1usize, 5, 64] {
+                let full = Full { room, fails, most };
+                let did = stops_at(rt, alloc, settings, &case, &full);
+                let before = known_after(lines.known, did.reads.saturating_sub(1));
+                let after = known_after(lines.known, did.reads);
+                let facts = (before <= room, room < after);
+                equal(rt, &facts, &(true, true), "a line's reads");
             }
         }
     }
@@ -653,33 +670,6 @@ fn stops_where_a_write_fails(rt: HostRuntime) -> Result<(), Fail> {
             stops_anywhere(&rt, rt.alloc(), &told.settings()?, stream, fewest, last);
         }
     }
-    Ok(())
-}
-
-/// Asserts that a write that fails, or takes nothing, is made as soon as the line is known: no byte is read that the line doesn't
-/// need.
-fn stops_at_its_line(rt: &impl Abort, alloc: Global, settings: &Settings, lines: &Lines) {
-    let case = Case {
-        stream: lines.stream,
-        rules: APPEND,
-        input: APPENDED,
-        writes: lines.text,
-        calls: None,
-    };
-    for fails in [false, true] {
-        for room in 0..lines.text.len() {
-            for most in [1usize, 5, 64] {
-                let full = Full { room, fails, most };
-                let did = stops_at(rt, alloc, settings, &case, &full);
-                let before = known_after(lines.known, did.reads.saturating_sub(1));
-                assert!(rt; before <= room && room < known_after(lines.known, did.reads));
-            }
-        }
-    }
-}
-
-#[test]
-fn reads_no_further_than_the_line_that_fails(rt: HostRuntime) -> Result<(), Fail> {
     for lines in LINES {
         let told = Told {
             mode: lines.mode,
@@ -709,7 +699,7 @@ fn writes_where_there_is_memory(
         expecting(text),
     );
     let want = if did.answer == Answer::Memory {
-        assert!(rt; did.reads <= pieces);
+        equal(rt, &(did.reads <= pieces), &true, "no piece too much");
         Did { writes: 0, ..did }
     } else {
         Did {

@@ -1,12 +1,13 @@
 //! Rule files and settings that are an error before anything is read or written, and those that are accepted.
 use super::*;
-use crate::scripted::PLAIN;
-use ac_input::search::MatchKind::{LeftmostFirst, LeftmostLongest, Standard};
-use acsub_words::settings::Mode::{List, Overlap, Replace};
-use acsub_words::settings::SettingError::{
+use crate::args::settings::Mode::{List, Overlap, Replace};
+use crate::args::settings::SettingError::{
     OverlapLeftmost, PackedCount, PackedEmpty, PackedFold, PackedStandard,
 };
-use acsub_words::settings::check;
+use crate::args::settings::check;
+use crate::rules;
+use crate::scripted::PLAIN;
+use ac_input::search::MatchKind::{LeftmostFirst, LeftmostLongest, Standard};
 use std::test::Fail;
 
 /// Why the rule file and the settings are an error, if they are.
@@ -24,7 +25,7 @@ fn refusal(alloc: Global, settings: &Settings, file: &str) -> Answer {
 /// Asserts that rule file and settings are an error, and that a run then touches neither the reader nor the writer; or that they
 /// are accepted.
 fn refuses(rt: &impl Abort, alloc: Global, settings: &Settings, file: &str, answer: Answer) {
-    assert_eq!(rt; refusal(alloc, settings, file), answer, "by {file:?}");
+    equal(rt, &refusal(alloc, settings, file), &answer, file);
     if answer == Answer::Done {
         return;
     }
@@ -68,18 +69,6 @@ const BAD: &[Bad] = &[
     Bad("61\t62\n61\t6g\n6\t62\n", 2),
 ];
 
-/// A bad line is reported by its number, whatever the run is for.
-#[test]
-fn refuses_bad_lines(rt: HostRuntime) -> Result<(), Fail> {
-    for told in [PLAIN, PACKED] {
-        let settings = told.settings()?;
-        for Bad(file, line) in BAD {
-            refuses(&rt, rt.alloc(), &settings, file, Answer::Line(*line));
-        }
-    }
-    Ok(())
-}
-
 /// A rule file, and its rules.
 struct Good(&'static str, &'static [(&'static [u8], &'static [u8])]);
 
@@ -95,17 +84,15 @@ const GOOD: &[Good] = &[
     Good("61\t\n61\t\n", &[(b"a", b""), (b"a", b"")]),
 ];
 
-/// Asserts that these are the rules.
-fn has_sides(rt: &impl Abort, rules: &acsub_rules::Rules, sides: &[(&[u8], &[u8])]) {
+/// Asserts that these are the rules. Their number is asserted here, since only then each has its place.
+fn has_sides(rt: &impl Abort, rules: &rules::Rules, sides: &[(&[u8], &[u8])]) {
     assert_eq!(rt;
         (rules.len(), rules.is_empty()),
         (sides.len(), sides.is_empty())
     );
-    for (i, (pattern, replacement)) in sides.iter().enumerate() {
-        assert_eq!(rt;
-            (rules.pattern(i), rules.replacement(i)),
-            (*pattern, *replacement)
-        );
+    for (i, side) in sides.iter().enumerate() {
+        let found = (rules.pattern(i), rules.replacement(i));
+        equal(rt, &found, side, "a rule");
     }
 }
 
@@ -162,38 +149,36 @@ const PLAIN_TEXT: &[Plain] = &[
     Plain(b"a\t\t", Err(1)),
 ];
 
-/// Asserts that a bad line is reported whatever memory does, and that rules are read or there was no memory.
-pub fn reads_where_there_is_memory(rt: &impl Abort, alloc: Global) {
-    for Bad(file, line) in BAD {
-        let refused = read_rules(alloc, false, file.as_bytes()).err();
-        assert_eq!(rt; refused, Some(RuleError::Line(*line)), "by {file:?}");
-    }
-    for Good(file, sides) in GOOD {
-        match &read_rules(alloc, false, file.as_bytes()) {
-            Ok(rules) => has_sides(rt, rules, sides),
-            Err(error) => assert_eq!(rt; *error, RuleError::Memory, "by {file:?}"),
-        }
-    }
-    for Plain(file, want) in PLAIN_TEXT {
-        match (&read_rules(alloc, true, file), want) {
-            (Ok(rules), Ok(sides)) => has_sides(rt, rules, sides),
-            (Ok(rules), Err(_)) => assert_eq!(rt; rules.len(), usize::MAX, "by {file:?}"),
-            (Err(error), Ok(_)) => assert_eq!(rt; *error, RuleError::Memory, "by {file:?}"),
-            (Err(error), Err(line)) => {
-                assert_eq!(rt; *error, RuleError::Line(*line), "by {file:?}");
-            }
+/// Asserts that a file has these rules or was read in no memory; or that this is its first line that is no rule.
+fn reads_to(
+    rt: &impl Abort,
+    alloc: Global,
+    text: bool,
+    file: &[u8],
+    want: &Result<&[(&[u8], &[u8])], usize>,
+) {
+    match (&read_rules(alloc, text, file), want) {
+        (Ok(rules), Ok(sides)) => has_sides(rt, rules, sides),
+        (Err(RuleError::Memory), Ok(_)) => {}
+        (read, want) => {
+            let line = read.as_ref().err().copied();
+            let wanted = want.as_ref().err().map(|line| RuleError::Line(*line));
+            equal(rt, &(file, line), &(file, wanted), "a bad line");
         }
     }
 }
 
-/// Rules are read in the order of their lines.
-#[test]
-fn reads_rules(rt: HostRuntime) -> Result<(), Fail> {
-    for Good(file, sides) in GOOD {
-        let rules = read_rules(rt.alloc(), false, file.as_bytes())?;
-        has_sides(&rt, &rules, sides);
+/// Asserts that a bad line is reported whatever memory does, and that rules are read or there was no memory.
+pub fn reads_where_there_is_memory(rt: &impl Abort, alloc: Global) {
+    for Bad(file, line) in BAD {
+        reads_to(rt, alloc, false, file.as_bytes(), &Err(*line));
     }
-    Ok(())
+    for Good(file, sides) in GOOD {
+        reads_to(rt, alloc, false, file.as_bytes(), &Ok(*sides));
+    }
+    for Plain(file, want) in PLAIN_TEXT {
+        reads_to(rt, alloc, true, file, want);
+    }
 }
 
 /// Settings and rules, and the result: why they don't go together, if they don't.
@@ -391,8 +376,20 @@ const ROWS: &[Row] = &[
     },
 ];
 
+/// Rules are read in the order of their lines. A bad line is reported by its number, whatever the run is for; and settings are
+/// refused.
 #[test]
-fn refuses_settings(rt: HostRuntime) -> Result<(), Fail> {
+fn reads_rules_and_refuses(rt: HostRuntime) -> Result<(), Fail> {
+    for Good(file, sides) in GOOD {
+        let rules = read_rules(rt.alloc(), false, file.as_bytes())?;
+        has_sides(&rt, &rules, sides);
+    }
+    for told in [PLAIN, PACKED] {
+        let settings = told.settings()?;
+        for Bad(file, line) in BAD {
+            refuses(&rt, rt.alloc(), &settings, file, Answer::Line(*line));
+        }
+    }
     for row in ROWS {
         let settings = row.told.settings()?;
         let file = row.lines.repeat(rt.alloc(), row.times)?;

@@ -1,7 +1,7 @@
 //! Letters that stand many times over, where a search has most to look at and to go back for.
 use super::*;
+use crate::args::settings::Mode::{List, Overlap};
 use crate::scripted::PLAIN;
-use acsub_words::settings::Mode::{List, Overlap};
 use std::test::Fail;
 
 /// What is written.
@@ -355,11 +355,7 @@ fn writes_rows(rt: &impl Abort, alloc: Global, rows: &[Row]) -> Result<(), Fail>
 
 #[test]
 fn finds_letters_over_and_over(rt: HostRuntime) -> Result<(), Fail> {
-    writes_rows(&rt, rt.alloc(), MATCHES)
-}
-
-#[test]
-fn lists_all_of_letters_over_and_over(rt: HostRuntime) -> Result<(), Fail> {
+    writes_rows(&rt, rt.alloc(), MATCHES)?;
     writes_rows(&rt, rt.alloc(), OCCURRENCES)
 }
 

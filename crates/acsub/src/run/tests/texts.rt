@@ -1,8 +1,8 @@
 //! What is written, by every engine that takes the settings, whatever else they say, over pieces of one, two and seven bytes.
 use super::Rules::{File, Find, Swap};
 use super::*;
+use crate::args::settings::Mode::{List, Overlap, Replace};
 use crate::scripted::PLAIN;
-use acsub_words::settings::Mode::{List, Overlap, Replace};
 use std::test::Fail;
 
 /// Rules, an input, and the text that is written.
@@ -325,25 +325,11 @@ fn writes(rt: &impl Abort, alloc: Global, table: &Table) -> Result<(), Fail> {
 }
 
 #[test]
-fn replaces(rt: HostRuntime) -> Result<(), Fail> {
-    for table in REPLACED {
-        writes(&rt, rt.alloc(), table)?;
-    }
-    Ok(())
-}
-
-#[test]
-fn lists(rt: HostRuntime) -> Result<(), Fail> {
-    for table in LISTED {
-        writes(&rt, rt.alloc(), table)?;
-    }
-    Ok(())
-}
-
-#[test]
-fn takes_pairs_for_the_same(rt: HostRuntime) -> Result<(), Fail> {
-    for table in PAIRED {
-        writes(&rt, rt.alloc(), table)?;
+fn writes_each_text(rt: HostRuntime) -> Result<(), Fail> {
+    for tables in [REPLACED, LISTED, PAIRED] {
+        for table in tables {
+            writes(&rt, rt.alloc(), table)?;
+        }
     }
     Ok(())
 }

@@ -14,7 +14,9 @@ loop-self-preserved c =
     let inv = c.loop-self.invariant in
     let long = ap length inv.same.notes in
     let room : c.loop-self.self.end ≤ length c.loop-self.self.notes = omega (arith, c.requires, long, inv.same.end) in
-    let one = skip-one c.loop-self.self (record c.loop-self.self { next = c.loop-self.self.next + 1; lost = c.more-self.result }) 0 c.index-self-self.result c.more-self.result.value room c.loop-self-test.true c.more-self.ensures refl refl refl refl in
+    let one =
+    skip-one c.loop-self.self (record c.loop-self.self { next = c.loop-self.self.next + 1; lost = c.more-self.result })
+    0 c.index-self-self.result room c.loop-self-test.true c.more-self.ensures refl refl refl refl in
     record {
       same = record { notes = inv.same.notes; end = inv.same.end; until = inv.same.until; block = inv.same.block };
       ahead = one.0 ∙ inv.ahead;
@@ -25,4 +27,9 @@ returns c =
     let inv = c.loop-self.invariant in
     let long = ap length inv.same.notes in
     let room : c.loop-self.self.end ≤ length c.loop-self.self.notes = omega (arith, c.requires, long, inv.same.end) in
-    record { left = left-over c.loop-self.self room c.loop-self-test.false; ahead = inv.ahead; until = refl; room = room }
+    record {
+      left = left-over c.loop-self.self room c.loop-self-test.false;
+      ahead = inv.ahead;
+      until = refl;
+      room = room;
+    }

@@ -4,22 +4,25 @@ use Rattle.ac_automaton.proofs.ahead.AheadLemmas.{first-none, skipped-ahead, ski
 use Rattle.ac_automaton.proofs.ahead.Ahead.next_note.Goals as goal
 
 pub returns-then-is_some-clause-ahead : goal.returns-then-is_some-clause-ahead
-returns-then-is_some-clause-ahead g c = skipped-ahead _ _ _ _ _ c.args.at _ _ _ c.upcoming-note.ensures.skipped c.requires.ahead
+returns-then-is_some-clause-ahead g c = skipped-ahead c.upcoming-note.ensures.skipped c.requires.ahead
 
 pub returns-then-is_some-clause-later : goal.returns-then-is_some-clause-later
-returns-then-is_some-clause-later g c = skipped-later c.args.at _ _ _ c.upcoming-note.ensures.skipped c.upcoming-note.ensures.noted
+returns-then-is_some-clause-later g c = skipped-later c.upcoming-note.ensures.skipped c.upcoming-note.ensures.noted
 
 pub read_block-requires-clause-none : goal.read_block-requires-clause-none
-read_block-requires-clause-none g c = first-none _ c.upcoming-note.result (sym c.if-is_some.false ∙ c.is_some.ensures) c.upcoming-note.ensures.noted
+read_block-requires-clause-none g c =
+    first-none _ (sym c.if-is_some.false ∙ c.is_some.ensures) c.upcoming-note.ensures.noted
 
 pub read_block-requires-clause-ahead : goal.read_block-requires-clause-ahead
-read_block-requires-clause-ahead g c = skipped-ahead _ _ _ _ _ c.args.at _ _ _ c.upcoming-note.ensures.skipped c.requires.ahead
+read_block-requires-clause-ahead g c = skipped-ahead c.upcoming-note.ensures.skipped c.requires.ahead
 
 pub returns-clause-ahead : goal.returns-clause-ahead
-returns-clause-ahead g c = skipped-ahead _ _ _ _ _ c.args.at _ _ _ c.upcoming.ensures.skipped c.read_block.ensures.ahead
+returns-clause-ahead g c = skipped-ahead c.upcoming.ensures.skipped c.read_block.ensures.ahead
 
 pub returns-clause-later : goal.returns-clause-later
-returns-clause-later g c = skipped-later c.args.at _ _ _ c.upcoming.ensures.skipped c.upcoming.ensures.noted
+returns-clause-later g c = skipped-later c.upcoming.ensures.skipped c.upcoming.ensures.noted
 
 pub returns-clause-once : goal.returns-clause-once
-returns-clause-once g c = λ base once. skipped-once c.args.bytes.now c.args.at _ _ c.upcoming.ensures.skipped base (c.read_block.ensures.once base (skipped-once c.args.bytes.now c.args.at _ _ c.upcoming-note.ensures.skipped base once))
+returns-clause-once g c =
+    λ base once. skipped-once c.args.bytes.now c.upcoming.ensures.skipped base
+    (c.read_block.ensures.once base (skipped-once c.args.bytes.now c.upcoming-note.ensures.skipped base once))

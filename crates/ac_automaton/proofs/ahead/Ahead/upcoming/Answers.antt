@@ -19,7 +19,8 @@ returns-then-at-note-clause-skipped c =
     let long = ap length inv.same.notes in
     let room : c.loop-self.self.end ≤ length c.loop-self.self.notes = omega (arith, c.requires, long, inv.same.end) in
     record {
-      left = notes-here c.args.at _ _ _ (left-first c.loop-self.self c.index-self-self.result room c.loop-self-test.true) c.if-at-note.true ∙ inv.left;
+      left = notes-here (left-first c.loop-self.self c.index-self-self.result room c.loop-self-test.true)
+          c.if-at-note.true ∙ inv.left;
       ahead = inv.ahead;
       same = inv.same;
     }
@@ -29,14 +30,17 @@ returns-then-at-note-clause-noted c =
     let inv = c.loop-self.invariant in
     let long = ap length inv.same.notes in
     let room : c.loop-self.self.end ≤ length c.loop-self.self.notes = omega (arith, c.requires, long, inv.same.end) in
-    sym (ap (λ notes. slice_get notes 0) (left-first c.loop-self.self c.index-self-self.result room c.loop-self-test.true))
+    sym (ap (λ notes. slice_get notes 0)
+    (left-first c.loop-self.self c.index-self-self.result room c.loop-self-test.true))
 
 pub loop-self-preserved : goal.loop-self-preserved
 loop-self-preserved c =
     let inv = c.loop-self.invariant in
     let long = ap length inv.same.notes in
     let room : c.loop-self.self.end ≤ length c.loop-self.self.notes = omega (arith, c.requires, long, inv.same.end) in
-    let one = skip-one c.loop-self.self (record c.loop-self.self { next = c.loop-self.self.next + 1; lost = c.more-self.result }) c.args.at c.index-self-self.result c.more-self.result.value room c.loop-self-test.true c.more-self.ensures refl refl refl refl in
+    let one =
+    skip-one c.loop-self.self (record c.loop-self.self { next = c.loop-self.self.next + 1; lost = c.more-self.result })
+    c.args.at c.index-self-self.result room c.loop-self-test.true c.more-self.ensures refl refl refl refl in
     record {
       same = record { notes = inv.same.notes; end = inv.same.end; until = inv.same.until; block = inv.same.block };
       left = one.1 c.if-at-note.false ∙ inv.left;
@@ -49,7 +53,7 @@ returns-clause-skipped c =
     let long = ap length inv.same.notes in
     let room : c.loop-self.self.end ≤ length c.loop-self.self.notes = omega (arith, c.requires, long, inv.same.end) in
     record {
-      left = notes-none c.args.at _ (left-over c.loop-self.self room c.loop-self-test.false) ∙ inv.left;
+      left = notes-none c.args.at (left-over c.loop-self.self room c.loop-self-test.false) ∙ inv.left;
       ahead = inv.ahead;
       same = inv.same;
     }

@@ -4,10 +4,16 @@ use Rattle.ac_automaton.proofs.iter.ItemsLemmas.{from-answers, from-few, from-in
 use Rattle.ac_automaton.proofs.automaton.Automaton.try_find_iter_ahead.Goals as goal
 
 pub returns-clause-answer : goal.returns-clause-answer
-returns-clause-answer g c = from-answers (g.Self.Automaton.built c.args.self.now) (g.Self.Automaton.supports c.args.self.now) c.args.input c.start-start.result c.try_find_iter_ahead_from.result (search rules) c.try_find_iter_ahead_from.ensures
+returns-clause-answer g c =
+    from-answers (g.Self.Automaton.built c.args.self.now) (g.Self.Automaton.supports c.args.self.now) c.args.input
+    c.try_find_iter_ahead_from.result (search rules) c.try_find_iter_ahead_from.ensures
 
 pub returns-clause-few : goal.returns-clause-few
-returns-clause-few g c = from-few (g.Self.Automaton.built c.args.self.now) (g.Self.Automaton.supports c.args.self.now) c.args.input c.start-start.result c.try_find_iter_ahead_from.result (search rules) (search rules) c.try_find_iter_ahead_from.ensures
+returns-clause-few g c =
+    from-few (g.Self.Automaton.built c.args.self.now) (g.Self.Automaton.supports c.args.self.now) c.args.input
+    c.try_find_iter_ahead_from.result (search rules) (search rules) c.try_find_iter_ahead_from.ensures
 
 pub returns-clause-lie : goal.returns-clause-lie
-returns-clause-lie g c = from-in-order (g.Self.Automaton.built c.args.self.now) (g.Self.Automaton.supports c.args.self.now) c.args.input c.start-start.result c.try_find_iter_ahead_from.result (search rules) (search rules) c.try_find_iter_ahead_from.ensures
+returns-clause-lie g c =
+    from-in-order (g.Self.Automaton.built c.args.self.now) (g.Self.Automaton.supports c.args.self.now) c.args.input
+    c.try_find_iter_ahead_from.result (search rules) (search rules) c.try_find_iter_ahead_from.ensures

@@ -13,17 +13,20 @@ returns-clause-gave g c =
     let n = c.in_ok-n.n in
     let held : filled ≤ c.self.inside.bytes.len = c.self.invariant.0 in
     let len : length buffer ≡ c.self.inside.bytes.len = omega (arith, c.deref_mut.ensures.len) in
-    let rest : length c.read.new.buf ≡ length buffer - filled = c.read.auto.buf ∙ simp (length-take, length-drop) (omega arith) in
+    let rest : length c.read.new.buf ≡ length buffer - filled = c.read.auto.buf
+    ∙ simp (length-take, length-drop) (omega arith) in
     let within : n ≤ length c.read.new.buf = c.in_ok-n.ensures.gave.within in
     let is = c.self.view_is in
-    let front : length c.args.self.now.bytes ≡ filled = sym (ap (λ (h : Held). length h.bytes) is) ∙ ap (λ (l : List ℕ). length (take filled l)) (sym c.deref_mut.ensures.value) ∙ length-take-le filled buffer (omega arith) in
-    let room : c.self.inside.bytes.len ≡ c.args.self.now.room = ap (λ (h : Held). h.room) is in
+    let front : length c.args.self.now.bytes ≡ filled = sym (ap (λ h. length h.bytes) is)
+    ∙ ap (λ l. length (take filled l)) (sym c.deref_mut.ensures.value) ∙ length-take-le filled buffer (omega arith) in
+    let room : c.self.inside.bytes.len ≡ c.args.self.now.room = ap (λ h. h.room) is in
     let open_ = c.requires.room in
-    filled-by _ c.args.self.now _ _ _ c.read.new.buf (take filled buffer) n within
-    (given-gave g.R.Read.remaining c.args.reader.now c.read.new.self c.read.new.buf n c.requires.open c.in_ok-n.ensures.gave c.read.ensures.writes c.in_ok-n.ensures.device.0 (λ z. c.in_ok-n.ensures.device.1 z (omega arith)))
-    (sym (ap (λ (h : Held). h.bytes) is) ∙ ap (take filled) (sym c.deref_mut.ensures.value))
-    (front-more buffer c.read.new.buf _ _ c.self.inside.bytes.len filled n (omega arith) (omega arith) within)
-    (ap (λ (h : Held). h.room) is)
-    (ap (λ (h : Held). h.keep) is)
-    (c.more-self-inside.ensures ∙ ap (λ (h : Held). h.read + n) is)
-    (ap (λ (h : Held). h.moved) is)
+    filled-by c.read.new.buf within
+    (given-gave c.requires.open c.in_ok-n.ensures.gave c.read.ensures.writes c.in_ok-n.ensures.device.0
+    (λ z. c.in_ok-n.ensures.device.1 z (omega arith)))
+    (sym (ap (λ h. h.bytes) is) ∙ ap (take filled) (sym c.deref_mut.ensures.value))
+    (front-more buffer c.read.new.buf _ _ (omega arith) (omega arith) within)
+    (ap (λ h. h.room) is)
+    (ap (λ h. h.keep) is)
+    (c.more-self-inside.ensures ∙ ap (λ h. h.read + n) is)
+    (ap (λ h. h.moved) is)

@@ -6,27 +6,32 @@ use Rattle.ac_automaton.proofs.iter.FindIter.next_counted.Goals as goal
 
 pub returns-in-Some-clause-gives : goal.returns-in-Some-clause-gives
 returns-in-Some-clause-gives g c =
-    let i = c.self.inside in
-    (pick-of_walk (g.A.Automaton.built i.automaton.now) i.first.value i.input i.last i.sums _ _ c.self.view_is c.next_pick-found.ensures.pick, search rules)
+    (pick-of_walk c.self.view_is c.next_pick-found.ensures.pick, search rules)
 
 pub returns-in-None-clause-gives : goal.returns-in-None-clause-gives
 returns-in-None-clause-gives g c =
-    let i = c.self.inside in
-    (pick-of_walk (g.A.Automaton.built i.automaton.now) i.first.value i.input i.last i.sums _ _ c.self.view_is c.next_pick-found.ensures.pick, search rules)
+    (pick-of_walk c.self.view_is c.next_pick-found.ensures.pick, search rules)
 
 pub returns-in-Some-clause-cost : goal.returns-in-Some-clause-cost
 returns-in-Some-clause-cost g c =
     let i = c.self.inside in
     let w = walk_at (g.A.Automaton.built i.automaton.now) i.first.value i.input i.last i.sums in
     let picked = c.next_pick-found.ensures in
-    rw (← c.self.view_is) (pick-costs w _ _ c.new-taken.result c.next_pick-found.new.steps _ _ (search rules) c.self.invariant.1.begun (search rules) c.new-taken.ensures c.add.ensures c.add-2.ensures.looked c.add-2.ensures.scanned c.add-2.ensures.moved picked.work picked.counts c.self.invariant.3 (search rules))
+    rw (← c.self.view_is)
+    (pick-costs (search rules) c.self.invariant.1.begun (search rules) c.new-taken.ensures c.add.ensures
+    (record { looked = c.add-2.ensures.looked; scanned = c.add-2.ensures.scanned; moved = c.add-2.ensures.moved })
+    picked.work picked.counts c.self.invariant.3 (search rules))
 
 pub returns-in-None-clause-cost : goal.returns-in-None-clause-cost
 returns-in-None-clause-cost g c =
     let i = c.self.inside in
     let w = walk_at (g.A.Automaton.built i.automaton.now) i.first.value i.input i.last i.sums in
     let picked = c.next_pick-found.ensures in
-    rw (← c.self.view_is) (pick-costs w _ _ c.new-taken.result c.next_pick-found.new.steps _ _ (search rules) c.self.invariant.1.begun (search rules) c.new-taken.ensures c.add.ensures c.add-2.ensures.looked c.add-2.ensures.scanned c.add-2.ensures.moved picked.work picked.counts c.self.invariant.3 (search rules))
+    rw (← c.self.view_is)
+    (pick-costs (search rules) c.self.invariant.1.begun (search rules) c.new-taken.ensures c.add.ensures
+    (record { looked = c.add-2.ensures.looked; scanned = c.add-2.ensures.scanned; moved = c.add-2.ensures.moved })
+    picked.work picked.counts c.self.invariant.3 (search rules))
 
 pub returns-then-is_done-clause-cost : goal.returns-then-is_done-clause-cost
-returns-then-is_done-clause-cost g c = rw (← c.self.view_is) (idle-cost _ _ (search rules) c.self.invariant.2 c.self.invariant.3)
+returns-then-is_done-clause-cost g c =
+    rw (← c.self.view_is) (idle-cost _ _ (search rules) c.self.invariant.2 c.self.invariant.3)

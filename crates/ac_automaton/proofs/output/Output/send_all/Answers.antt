@@ -12,4 +12,5 @@ returns-in_err-send-clause-sent g c =
 
 pub returns-clause-sent : goal.returns-clause-sent
 returns-clause-sent g c =
-    Sends-and_held g.W.Write.contents c.args.writer.now c.send.new.writer c.send_held.new.writer c.args.self.now c.send.new.self _ c.args.bytes.now c.send_held.result c.in_ok-send.ensures.sent (rw c.send_held.ensures.none at c.send_held.ensures.sent)
+    Sends-and_held c.send_held.new.writer _ c.send_held.result c.in_ok-send.ensures.sent
+    (rw c.send_held.ensures.none at c.send_held.ensures.sent)

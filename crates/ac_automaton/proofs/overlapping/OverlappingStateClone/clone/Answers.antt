@@ -18,7 +18,9 @@ returns c =
     let f = sums.scanned in
     let h = sums.moved in
     record {
-      cases = ap₂ (λ (shown : Count) (steps : Steps). let r : OverlappingState = record { place = state.place; found = state.found; shown = shown; sums = steps } in r)
+      cases = ap₂
+          (λ shown steps. let r : OverlappingState =
+          record { place = state.place; found = state.found; shown = shown; sums = steps } in r)
           (count-same c.more.result state.shown (omega (arith, c.more.ensures)))
           (steps-same c.add.new.self state.sums (omega arith) (omega arith) (omega arith));
     }

@@ -7,7 +7,9 @@ use Rattle.ac_automaton.proofs.overlapping.ahead.show_later.Given as goal
 
 abbrev pub invariant-loop-cursor : goal.invariant-loop-cursor
 invariant-loop-cursor g l = record {
-  walked : IsPaid l.initial.ahead l.ahead l.steps (λ paid. HasWalkedFrom g.A.Automaton l.automaton l.input l.fn.cursor l.cursor (l.cursor.at + 1) l.initial.steps paid);
+  walked : IsPaid l.initial.ahead l.ahead l.steps
+      (λ paid. HasWalkedFrom g.A.Automaton l.automaton l.input l.fn.cursor l.cursor (l.cursor.at + 1) l.initial.steps
+      paid);
   ahead : IsAheadFrom g.A.Automaton l.automaton l.input l.cursor l.ahead;
 }
 

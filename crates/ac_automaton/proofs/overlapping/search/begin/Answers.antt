@@ -19,12 +19,27 @@ returns g c =
     let value = c.get_span-span.ensures.value in
     let inside = rw value at c.get_span-span.ensures.within.1 in
     let order : s.start ≤ s.end = rw value at c.if-span.false in
-    let first : R (read_to s s.start) sid = subst (λ (text : List ℕ). R text sid) (sym (read_to-start s)) (rw c.get_anchored.ensures at c.in_ok-start.ensures.1) in
+    let first : R (read_to s s.start) sid =
+    subst (λ text. R text sid) (sym (read_to-start s)) (rw c.get_anchored.ensures at c.in_ok-start.ensures.1) in
     let standard : m.kind ≡ Standard = search rules in
-    let place : IsPlace m asked.anchored s s.start = record { by = (refl, refl); anchor = refl; standard = standard; from = omega arith; to = order; inside = inside } in
+    let place : IsPlace m asked.anchored s s.start =
+    record { by = (refl, refl); anchor = refl; standard = standard; from = omega arith; to = order; inside = inside } in
     let tells = g.met.A.Automaton.tells c.args.automaton.now asked.anchored (read_to s s.start) sid first in
-    let cursor : IsCursor R s (record { sid = sid; from = s.start; at = s.start }) = record { behind = omega arith; ordered = omega arith; within = order; inside = inside; reads = first } in
-    let can : CanOverlap (g.A.Automaton.built c.args.automaton.now) (g.A.Automaton.supports c.args.automaton.now) asked = search rules in
-    let paid : IsPlacePaid m (g.A.Automaton.built c.args.automaton.now).deterministic s (At sid s.start s.start 0) 0 = search rules in
+    let cursor : IsCursor R s (record { sid = sid; from = s.start; at = s.start }) =
+    record { behind = omega arith; ordered = omega arith; within = order; inside = inside; reads = first } in
+    let can : CanOverlap (g.A.Automaton.built c.args.automaton.now) (g.A.Automaton.supports c.args.automaton.now)
+    asked = search rules in
+    let paid : IsPlacePaid m (g.A.Automaton.built c.args.automaton.now).deterministic s (At sid s.start s.start 0) 0 =
+    search rules in
     let first_place : s.start ≤ s.start = omega arith in
-    rw value (can, rw c.get_anchored.ensures at c.in_ok-start.ensures.1, (cursor, sym (ending_from-start s inside) ∙ ending_from-split m asked.anchored s s.start (g.A.Automaton.matches c.args.automaton.now sid) place tells), paid, first_place)
+    rw value (
+      can,
+      rw c.get_anchored.ensures at c.in_ok-start.ensures.1,
+      (
+        cursor,
+        sym (ending_from-start s inside)
+            ∙ ending_from-split m asked.anchored s s.start (g.A.Automaton.matches c.args.automaton.now sid) place tells,
+      ),
+      paid,
+      first_place,
+    )

@@ -14,9 +14,11 @@ returns-clause-begins c = λ m made.
     let n = c.in-Some.prefilter.now.dictionary in
     let found = c.find_in_counted-candidate.result in
     let is : n ≡ m = rw c.in-Some.is at made in
-    let same = ahead-same m n asked c.haystack.result.now c.args.at c.end.result is c.haystack.ensures c.end.ensures.value c.requires.free in
-    candidate-begins n.kind (starting_at (search_of m asked.anchored asked.haystack asked.span) c.args.at) found c.into_option.result
-    (subst (λ (s : Search). IsCandidate n.kind s found) same c.find_in_counted-candidate.ensures.candidate) c.into_option.ensures
+    let same = ahead-same m n asked c.haystack.result.now c.args.at c.end.result is c.haystack.ensures
+    c.end.ensures.value c.requires.free in
+    candidate-begins n.kind (starting_at (search_of m asked.anchored asked.haystack asked.span) c.args.at) found
+    c.into_option.result
+    (subst (λ s. IsCandidate n.kind s found) same c.find_in_counted-candidate.ensures.candidate) c.into_option.ensures
 
 pub returns-clause-work : goal.returns-clause-work
 returns-clause-work c =
@@ -37,7 +39,8 @@ returns-clause-work c =
       within = omega arith;
       near = λ place e.
           let is = sym c.into_option.ensures ∙ e in
-          let near = scanned-near n.needles s counted.0 found place counted.2 (candidate-before n.dictionary.kind s found place ensures.candidate is) is in
+          let near = scanned-near n.needles s counted.0 found place counted.2
+          (candidate-before n.dictionary.kind s found place ensures.candidate is) is in
           omega arith;
       moved = omega arith;
     }
@@ -53,5 +56,6 @@ returns-clause-counts c =
     let value = c.end.ensures.value in
     let end : ℕ = c.args.input.now.span.end in
     let covers = scan-covers n.needles s counted.0 found some counted.2 in
-    let same : unwrap_or c.into_option.result end ≡ unwrap_or (start_of found) c.end.result = ap (λ (r : Option ℕ). unwrap_or r end) c.into_option.ensures ∙ ap (unwrap_or (start_of found)) (sym value) in
+    let same : unwrap_or c.into_option.result end ≡ unwrap_or (start_of found) c.end.result =
+    ap (λ r. unwrap_or r end) c.into_option.ensures ∙ ap (unwrap_or (start_of found)) (sym value) in
     omega arith)

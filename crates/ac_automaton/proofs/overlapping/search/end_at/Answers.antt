@@ -23,11 +23,21 @@ returns-then-is_back g c =
     let ns = g.A.Automaton.matches a cursor.sid in
     let free : asked.anchored ≡ No = c.is_back.ensures.free c.if-is_back.true in
     let empty : ns ≡ [] = occurrences_from-nil b.dictionary t cursor.at ns (ap is_anchored free) c.in_default.ensures in
-    let live : IsLive b.dictionary (is_anchored asked.anchored) text (Some (length text)) = c.is_back.ensures.empty asked.anchored text reads c.if-is_back.true empty in
-    let pairs = g.met.A.Automaton.pairs a asked.anchored text cursor.sid reads in
-    let place = subst (λ (x : Anchored). IsPlace b.dictionary x t cursor.at) free (place_of-cursor (g.A.Automaton.Reaches a asked.anchored) b.dictionary asked cursor c.requires.standard c.requires.cursor) in
-    let said = subst (λ (x : Anchored). Tells b.dictionary x text ns) free (g.met.A.Automaton.tells a asked.anchored text cursor.sid reads) in (
+    let live : IsLive b.dictionary (is_anchored asked.anchored) text (Some (length text)) =
+    c.is_back.ensures.empty asked.anchored text reads c.if-is_back.true empty in
+    let place = subst (λ x. IsPlace b.dictionary x t cursor.at) free
+    (place_of-cursor (g.A.Automaton.Reaches a asked.anchored) b.dictionary asked cursor c.requires.standard
+    c.requires.cursor) in
+    let said = subst (λ x. Tells b.dictionary x text ns) free
+    (g.met.A.Automaton.tells a asked.anchored text cursor.sid reads) in (
       refl,
-      ending_from-back b.dictionary t cursor.at place pairs (subst (λ (x : Anchored). IsLive b.dictionary (is_anchored x) text (Some (length text))) free live),
-      (ap is_anchored free, λ start begins. start-empty b.dictionary t cursor.at ns (g.A.Automaton.matches a start) place said c.in_default.ensures (subst (λ (x : Anchored). Tells b.dictionary x [] (g.A.Automaton.matches a start)) free (g.met.A.Automaton.tells a asked.anchored [] start begins))),
+      ending_from-back b.dictionary t cursor.at place
+          (subst (λ x. IsLive b.dictionary (is_anchored x) text (Some (length text))) free live),
+      (
+        ap is_anchored free,
+        λ start begins. start-empty b.dictionary t cursor.at ns (g.A.Automaton.matches a start) place said
+            c.in_default.ensures
+            (subst (λ x. Tells b.dictionary x [] (g.A.Automaton.matches a start)) free
+            (g.met.A.Automaton.tells a asked.anchored [] start begins)),
+      ),
     )

@@ -8,4 +8,5 @@ abbrev pub invariant-loop-index : goal.invariant-loop-index
 invariant-loop-index g l =
     let m = (g.A.Automaton.built l.automaton).dictionary in
     let ns = g.A.Automaton.matches l.automaton l.sid in
-    counted m (is_anchored l.anchored) l.read (drop l.from ns) ≡ counted m (is_anchored l.anchored) l.read (drop l.index ns)
+    counted m (is_anchored l.anchored) l.read (drop l.from ns)
+    ≡ counted m (is_anchored l.anchored) l.read (drop l.index ns)

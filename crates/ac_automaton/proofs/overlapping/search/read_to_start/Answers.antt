@@ -6,13 +6,17 @@ use Rattle.ac_automaton.proofs.overlapping.search.read_to_start.Given.{Over}
 use Rattle.ac_automaton.proofs.overlapping.search.read_to_start.Goals as goal
 
 pub loop-cursor-init : goal.loop-cursor-init
-loop-cursor-init g c = walked-first g.A.Automaton c.args.automaton.now c.args.input.now c.args.cursor _ c.requires.cursor
+loop-cursor-init g c =
+    walked-first g.A.Automaton c.args.automaton.now c.args.input.now c.args.cursor _ c.requires.cursor
 
 -- the walk came to the end of the span
-over : (g : Over) (c : goal.After-over g) → HasShownEnd g.A.Automaton c.args.automaton.now c.args.input.now c.args.cursor (Found c.over.result) c.args.steps.now c.loop-cursor.steps
+over : (g : Over) (c : goal.After-over g)
+    → HasShownEnd g.A.Automaton c.args.automaton.now c.args.input.now c.args.cursor (Found c.over.result)
+    c.args.steps.now c.loop-cursor.steps
 over g c =
     let a = c.args.automaton.now in
-    walked-over g.A.Automaton a c.args.input.now c.args.cursor c.loop-cursor.cursor c.over.result _ _ (g.met.A.Automaton.lives a c.args.input.now.anchored) c.loop-cursor.invariant (c.if-cursor-end.true ∙ c.end.ensures.value) c.over.ensures.found c.over.ensures.place
+    walked-over g.A.Automaton a c.args.input.now c.args.cursor c.loop-cursor.cursor c.over.result _ _
+    c.loop-cursor.invariant (c.if-cursor-end.true ∙ c.end.ensures.value) c.over.ensures.found c.over.ensures.place
 
 pub returns-then-cursor-end-clause-reads : goal.returns-then-cursor-end-clause-reads
 returns-then-cursor-end-clause-reads g c = (over g c).reads
@@ -24,15 +28,17 @@ pub returns-then-cursor-end-clause-looks : goal.returns-then-cursor-end-clause-l
 returns-then-cursor-end-clause-looks g c = (over g c).looks
 
 -- the walk ended at a state
-ended : (g : Over) (c : goal.In-Some g) → HasShownEnd g.A.Automaton c.args.automaton.now c.args.input.now c.args.cursor c.in-Some.end c.args.steps.now c.read_on-cursor.new.steps
+ended : (g : Over) (c : goal.In-Some g)
+    → HasShownEnd g.A.Automaton c.args.automaton.now c.args.input.now c.args.cursor c.in-Some.end c.args.steps.now
+    c.read_on-cursor.new.steps
 ended g c =
     let a = c.args.automaton.now in
     let asked = c.args.input.now in
-    let lives = g.met.A.Automaton.lives a asked.anchored in
     let next = c.read_on-cursor.result in
     let on = c.read_on-cursor.ensures in
-    let had = walked-further g.A.Automaton a asked c.args.cursor c.loop-cursor.cursor next _ _ _ lives c.requires c.loop-cursor.invariant on.stands on.from on.on in
-    walked-ends g.A.Automaton a asked c.args.cursor next c.in-Some.end _ _ lives had c.in-Some.ensures
+    let had = walked-further g.A.Automaton a asked c.args.cursor c.loop-cursor.cursor next _ _ _ c.requires
+    c.loop-cursor.invariant on.stands on.from on.on in
+    walked-ends g.A.Automaton a asked c.args.cursor next c.in-Some.end _ _ had c.in-Some.ensures
 
 pub returns-in-Some-clause-reads : goal.returns-in-Some-clause-reads
 returns-in-Some-clause-reads g c = (ended g c).reads
@@ -50,8 +56,9 @@ pub loop-cursor-preserved : goal.loop-cursor-preserved
 loop-cursor-preserved g c =
     let a = c.args.automaton.now in
     let asked = c.args.input.now in
-    let lives = g.met.A.Automaton.lives a asked.anchored in
     let next = c.read_on-cursor.result in
     let on = c.read_on-cursor.ensures in
-    let had = walked-further g.A.Automaton a asked c.args.cursor c.loop-cursor.cursor next _ _ _ lives c.requires c.loop-cursor.invariant on.stands on.from on.on in
-    walked-settled g.A.Automaton a asked c.args.cursor next _ _ c.requires.standard (g.met.A.Automaton.tells a asked.anchored _ next.sid on.stands.reads) c.in_default.ensures had
+    let had = walked-further g.A.Automaton a asked c.args.cursor c.loop-cursor.cursor next _ _ _ c.requires
+    c.loop-cursor.invariant on.stands on.from on.on in
+    walked-settled g.A.Automaton a asked c.args.cursor next _ _ c.requires.standard
+    (g.met.A.Automaton.tells a asked.anchored _ next.sid on.stands.reads) c.in_default.ensures had

@@ -12,7 +12,9 @@ use Rattle.ac_automaton.proofs.overlapping.search.search_by_candidates.Goals as 
 pub loop-shown-init : goal.loop-shown-init
 loop-shown-init g c =
     let b = g.A.Automaton.built c.args.automaton.now in (
-      searched_on-first _ (search_of b.dictionary c.args.input.now.anchored c.args.input.now.haystack c.args.input.now.span) c.args.at c.args.steps.now c.requires.to,
+      searched_on-first _
+          (search_of b.dictionary c.args.input.now.anchored c.args.input.now.haystack c.args.input.now.span) c.args.at
+          c.args.steps.now c.requires.to,
       counted-none (prefilter_for b c.args.input.now.anchored) (c.args.at - c.args.at) c.args.steps.now (omega arith),
     )
 
@@ -39,7 +41,8 @@ returns-in-Found-clause-reads g c =
     let d = (g.A.Automaton.built c.args.automaton.now).deterministic in
     let searched_on = c.loop-shown.invariant.0 in
     let place : ℕ = c.loop-shown.place in
-    reads_on-earlier R E m s c.args.at place (listing_of (starting_at s c.args.at)) (listing_of (starting_at s place)) (Found c.in-Found.shown) searched_on.behind (sym searched_on.same) c.in-Found.ensures.reads
+    reads_on-earlier R E m s c.args.at place (listing_of (starting_at s c.args.at)) (listing_of (starting_at s place))
+    (Found c.in-Found.shown) searched_on.behind (sym searched_on.same) c.in-Found.ensures.reads
 
 pub returns-in-Found-clause-cost : goal.returns-in-Found-clause-cost
 returns-in-Found-clause-cost g c =
@@ -51,10 +54,12 @@ returns-in-Found-clause-cost g c =
     let d = (g.A.Automaton.built c.args.automaton.now).deterministic in
     let searched_on = c.loop-shown.invariant.0 in
     let place : ℕ = c.loop-shown.place in
-    searched_on-shows R E m d s c.args.at place c.in-Found.shown c.args.steps.now c.loop-shown.steps c.search_from_candidate.new.steps searched_on c.in-Found.ensures.reads c.in-Found.ensures.cost
+    searched_on-shows R E m d s c.args.at place c.in-Found.shown c.args.steps.now c.loop-shown.steps
+    c.search_from_candidate.new.steps searched_on c.in-Found.ensures.reads c.in-Found.ensures.cost
 
 pub returns-in-Found-clause-counts : goal.returns-in-Found-clause-counts
-returns-in-Found-clause-counts g c = counted-join _ _ _ _ _ _ _ (omega arith) c.loop-shown.invariant.1 c.in-Found.ensures.counts
+returns-in-Found-clause-counts g c =
+    counted-join _ _ _ _ _ _ _ (omega arith) c.loop-shown.invariant.1 c.in-Found.ensures.counts
 
 pub loop-shown-smaller : goal.loop-shown-smaller
 loop-shown-smaller g c =
@@ -70,6 +75,9 @@ loop-shown-preserved g c =
     let d = (g.A.Automaton.built c.args.automaton.now).deterministic in
     let searched_on = c.loop-shown.invariant.0 in
     let place : ℕ = c.loop-shown.place in (
-      searched_on-further R E m d s c.args.at place c.in-Idle.to c.args.steps.now c.loop-shown.steps c.search_from_candidate.new.steps searched_on c.in-Idle.ensures.reads c.in-Idle.ensures.cost,
-      counted-join (prefilter_for (g.A.Automaton.built c.args.automaton.now) asked.anchored) (place - c.args.at) (c.in-Idle.to - place) (c.in-Idle.to - c.args.at) _ _ _ (omega arith) c.loop-shown.invariant.1 c.in-Idle.ensures.counts,
+      searched_on-further R E m d s c.args.at place c.in-Idle.to c.args.steps.now c.loop-shown.steps
+          c.search_from_candidate.new.steps searched_on c.in-Idle.ensures.reads c.in-Idle.ensures.cost,
+      counted-join (prefilter_for (g.A.Automaton.built c.args.automaton.now) asked.anchored) (place - c.args.at)
+          (c.in-Idle.to - place) (c.in-Idle.to - c.args.at) _ _ _ (omega arith) c.loop-shown.invariant.1
+          c.in-Idle.ensures.counts,
     )

@@ -12,9 +12,9 @@ returns-then-is_dead g c =
     let cursor = c.args.cursor.now in
     let text = read_to (walked (searched b asked) cursor) cursor.at in
     let reads = c.requires.cursor.reads in
-    let inverse = g.met.A.Automaton.pairs a asked.anchored text cursor.sid reads in
     let dead = (c.is_dead.ensures asked.anchored text reads).0 c.if-is_dead.true in
-    shows-dead g.A.Automaton a asked cursor c.over.result c.requires.standard inverse c.requires.cursor dead c.over.ensures.found c.over.ensures.place
+    shows-dead g.A.Automaton a asked cursor c.over.result c.requires.standard c.requires.cursor dead
+    c.over.ensures.found c.over.ensures.place
 
 pub returns : goal.returns
 returns g c =

@@ -9,4 +9,5 @@ returns-in-Some-clause-shows g c =
     let a = c.args.automaton.now in
     let b = g.A.Automaton.built a in
     let asked = c.args.input.now in
-    shows-some (g.A.Automaton.Reaches a asked.anchored) (g.A.Automaton.matches a) b.dictionary (searched b asked) _ c.args.cursor.now c.args.from c.in-Some.shown c.requires.stands.cursor refl c.in-Some.ensures
+    shows-some (g.A.Automaton.Reaches a asked.anchored) (g.A.Automaton.matches a) b.dictionary (searched b asked) _
+    c.args.cursor.now c.args.from c.in-Some.shown c.requires.stands.cursor refl c.in-Some.ensures

@@ -5,7 +5,8 @@ use Rattle.ac_automaton.proofs.stream.StreamReplaceLemmas.{HasReplaced}
 
 abbrev pub invariant-loop-stream : goal.invariant-loop-stream
 invariant-loop-stream g l = record {
-  replaced : HasReplaced g.R.Read.remaining g.W.Write.contents (map (λ r. r.now) l.replacements) l.fn.stream.built l.stream l.at l.fn.reader l.reader l.fn.writer l.writer;
+  replaced : HasReplaced g.R.Read.remaining g.W.Write.contents (map (λ r. r.now) l.replacements) l.fn.stream.built
+      l.stream l.at l.fn.reader l.reader l.fn.writer l.writer;
   empty : l.output ≡ [];
   more : l.reader.ended ≡ false;
   counted : StreamCounts l.fn.stream l.stream l.fn.steps l.steps;

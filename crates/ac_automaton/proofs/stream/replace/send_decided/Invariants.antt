@@ -5,7 +5,8 @@ use Rattle.ac_automaton.proofs.stream.replace.send_decided.Given as goal
 
 abbrev pub invariant-loop-end : goal.invariant-loop-end
 invariant-loop-end g l = record {
-  sent : SendsTo g.W.Write.contents (map (λ r. r.now) l.replacements) l.fn.stream l.stream l.fn.at l.written l.fn.writer l.writer l.fn.output l.output;
+  sent : SendsTo g.W.Write.contents (map (λ r. r.now) l.replacements) l.fn.stream l.stream l.fn.at l.written l.fn.writer
+      l.writer l.fn.output l.output;
   counted : StreamCounts l.fn.stream l.stream l.fn.steps l.steps;
 }
 

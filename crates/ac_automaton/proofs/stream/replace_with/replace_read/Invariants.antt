@@ -5,7 +5,8 @@ use Rattle.ac_automaton.proofs.stream.StreamWithReadLemmas.{HasReplacedWith}
 
 abbrev pub invariant-loop-stream : goal.invariant-loop-stream
 invariant-loop-stream g l = record {
-  replaced : HasReplacedWith g.W.Write.contents g.F.FnMut g.R.Read.remaining l.fn.stream.built l.stream l.at l.fn.reader l.reader l.fn.f l.f l.fn.writer l.writer;
+  replaced : HasReplacedWith g.W.Write.contents g.F.FnMut g.R.Read.remaining l.fn.stream.built l.stream l.at l.fn.reader
+      l.reader l.fn.f l.f l.fn.writer l.writer;
   more : l.reader.ended ≡ false;
 }
 

@@ -2,7 +2,7 @@
 use Rattle.std.proofs.Common.{drop, ◌+◌, ◌-◌, sym, subst, refl, ◌∙◌, true, false, Some}
 use Rattle.std.proofs.lemmas.Bool.{false≢true}
 use Rattle.ac_input.specs.declared.search.Anchored.TheVariants.{No}
-use Rattle.ac_automaton.specs.Stream.{StreamProgress}
+use Rattle.ac_automaton.specs.Stream.{StreamProgress, Picks}
 use Rattle.ac_automaton.specs.Stream.StreamSearch.{SearchesOn}
 use Rattle.ac_automaton.specs.Stream.StreamWalk.{IsAheadBy, StandsAfter}
 use Rattle.ac_automaton.specs.declared.stream.search.Searched.{Searched}
@@ -17,7 +17,9 @@ pub is_match-requires : goal.is_match-requires
 is_match-requires g c =
     let R = g.A.Automaton.Reaches c.args.automaton.now in
     let stop = c.advance_to_match-stop in
-    reached-state R No stop.result.sid (reached-on (R No) c.args.progress.now.sid _ stop.result.sid ∣ (_, c.requires.walk.1.stands.reads) ∣₁ stop.ensures.goes.reads)
+    reached-state R No stop.result.sid
+    (reached-on (R No) c.args.progress.now.sid _ stop.result.sid ∣ (_, c.requires.walk.1.stands.reads) ∣₁
+    stop.ensures.goes.reads)
 
 pub first_match-found-requires-clause-reads : goal.first_match-found-requires-clause-reads
 first_match-found-requires-clause-reads g c =
@@ -26,7 +28,9 @@ first_match-found-requires-clause-reads g c =
     let held = c.args.held.now in
     let stop = c.advance_to_match-stop in
     let met = g.met.A.Automaton in
-    reached-text _ c.requires.walk.0 _ _ c.args.start p held stop.result _ _ c.requires.walk.1 (stopped-at g.A.Automaton a p.sid (drop (p.at - p.from) held) stop.result c.is_match.result true _ _ stop.ensures.goes stop.ensures.cost.2 c.is_match.ensures c.if-is_match.true)
+    reached-text _ c.requires.walk.0 _ _ c.args.start p held stop.result _ _ c.requires.walk.1
+    (stopped-at g.A.Automaton a p.sid (drop (p.at - p.from) held) stop.result c.is_match.result true _ _
+    stop.ensures.goes stop.ensures.cost.2 c.is_match.ensures c.if-is_match.true)
 
 pub returns-then-is_match-clause-walk : goal.returns-then-is_match-clause-walk
 returns-then-is_match-clause-walk g c = (
@@ -38,8 +42,13 @@ returns-then-is_match-clause-walk g c = (
       let held = c.args.held.now in
       let stop = c.advance_to_match-stop in
       let met = g.met.A.Automaton in
-      subst (λ (r : Searched). SearchesOn (g.A.Automaton.Reaches a No) s c.args.start r c.args.steps.now stop.ensures.cost.0) (sym c.decided.ensures)
-      (searches-some _ s _ _ c.args.start p held stop.result true _ _ (met.tells a No) (met.lives a No) is c.requires.none (stopped-at g.A.Automaton a p.sid (drop (p.at - p.from) held) stop.result c.is_match.result true _ _ stop.ensures.goes stop.ensures.cost.2 c.is_match.ensures c.if-is_match.true) refl (wait-none _ (sym c.may_wait.ensures ∙ c.if-may_wait.false)) c.first_match-found.result c.first_match-found.ensures),
+      subst (λ r. SearchesOn (g.A.Automaton.Reaches a No) s c.args.start r c.args.steps.now stop.ensures.cost.0)
+      (sym c.decided.ensures)
+      (searches-some _ s _ _ c.args.start p held stop.result true _ _ (met.tells a No) is c.requires.none
+      (stopped-at g.A.Automaton a p.sid (drop (p.at - p.from) held) stop.result c.is_match.result true _ _
+      stop.ensures.goes stop.ensures.cost.2 c.is_match.ensures c.if-is_match.true) refl
+      (wait-none _ (sym c.may_wait.ensures ∙ c.if-may_wait.false)) c.first_match-found.result
+      c.first_match-found.ensures),
 )
 
 pub decide-requires-clause-walk : goal.decide-requires-clause-walk
@@ -49,18 +58,40 @@ decide-requires-clause-walk g c =
     let held = c.args.held.now in
     let stop = c.advance_to_match-stop in
     let met = g.met.A.Automaton in
-    let w = c.requires.walk in
-    (_, met-held _ w.0 _ _ c.args.start p held stop.result c.first_match-found.result _ _ (met.tells a No) (met.lives a No) w.1 c.requires.none (stopped-at g.A.Automaton a p.sid (drop (p.at - p.from) held) stop.result c.is_match.result true _ _ stop.ensures.goes stop.ensures.cost.2 c.is_match.ensures c.if-is_match.true) c.first_match-found.ensures (λ standard. false≢true (sym (wait-standard _ standard) ∙ sym c.may_wait.ensures ∙ c.if-may_wait.true)))
+    let w = c.requires.walk in (
+      _,
+      met-held _ w.0 _ _ c.args.start p held stop.result c.first_match-found.result _ _ (met.tells a No) w.1
+          c.requires.none
+          (stopped-at g.A.Automaton a p.sid (drop (p.at - p.from) held) stop.result c.is_match.result true _ _
+          stop.ensures.goes stop.ensures.cost.2 c.is_match.ensures c.if-is_match.true) c.first_match-found.ensures
+          (λ standard. false≢true (sym (wait-standard _ standard) ∙ sym c.may_wait.ensures ∙ c.if-may_wait.true)),
+    )
 
 -- where the search stands when it has met the match
-there : (g : Over) (c : goal.After-decide g) (s : StreamProgress) → StandsAfter g.A.Automaton c.args.automaton.now s c.args.start c.args.progress.now c.args.held.now → (t : StreamProgress) × StandsAfter g.A.Automaton c.args.automaton.now t c.args.start (record { sid = c.advance_to_match-stop.result.sid; closed = c.args.progress.now.closed; from = c.args.progress.now.from; at = c.args.progress.now.at + c.advance_to_match-stop.result.taken; last = c.args.progress.now.last; best = Some c.first_match-found.result }) c.args.held.now
+there : (g : Over) (c : goal.After-decide g) (s : StreamProgress Picks)
+    → StandsAfter g.A.Automaton c.args.automaton.now s c.args.start c.args.progress.now c.args.held.now
+    → (t : StreamProgress Picks) × StandsAfter g.A.Automaton c.args.automaton.now t c.args.start
+    (record {
+      sid = c.advance_to_match-stop.result.sid;
+      closed = c.args.progress.now.closed;
+      from = c.args.progress.now.from;
+      at = c.args.progress.now.at + c.advance_to_match-stop.result.taken;
+      last = c.args.progress.now.last;
+      best = Some c.first_match-found.result;
+    }) c.args.held.now
 there g c s is =
     let a = c.args.automaton.now in
     let p = c.args.progress.now in
     let held = c.args.held.now in
     let stop = c.advance_to_match-stop in
-    let met = g.met.A.Automaton in
-    (_, met-held _ s _ _ c.args.start p held stop.result c.first_match-found.result _ _ (met.tells a No) (met.lives a No) is c.requires.none (stopped-at g.A.Automaton a p.sid (drop (p.at - p.from) held) stop.result c.is_match.result true _ _ stop.ensures.goes stop.ensures.cost.2 c.is_match.ensures c.if-is_match.true) c.first_match-found.ensures (λ standard. false≢true (sym (wait-standard _ standard) ∙ sym c.may_wait.ensures ∙ c.if-may_wait.true)))
+    let met = g.met.A.Automaton in (
+      _,
+      met-held _ s _ _ c.args.start p held stop.result c.first_match-found.result _ _ (met.tells a No) is
+          c.requires.none
+          (stopped-at g.A.Automaton a p.sid (drop (p.at - p.from) held) stop.result c.is_match.result true _ _
+          stop.ensures.goes stop.ensures.cost.2 c.is_match.ensures c.if-is_match.true) c.first_match-found.ensures
+          (λ standard. false≢true (sym (wait-standard _ standard) ∙ sym c.may_wait.ensures ∙ c.if-may_wait.true)),
+    )
 
 pub returns-then-may_wait-clause-walk : goal.returns-then-may_wait-clause-walk
 unfolding there
@@ -74,24 +105,36 @@ returns-then-may_wait-clause-walk g c =
     let w = c.requires.walk in
     let here = there g c w.0 w.1 in (
       paid_on cost.0 stop.new.steps c.decide.new.steps,
-      settles-on c.args.ahead.now stop.new.ahead _ stop.new.steps c.decide.new.steps cost.0 cost.1 (c.decide.ensures.walk here.0 here.1).done,
+      settles-on c.args.ahead.now stop.new.ahead _ stop.new.steps c.decide.new.steps cost.0 cost.1
+          (c.decide.ensures.walk here.0 here.1).done,
       λ s is.
           let t = there g c s is in
-          met-then _ s _ _ c.args.start p held stop.result c.first_match-found.result _ _ (met.tells a No) (met.lives a No) is c.requires.none (stopped-at g.A.Automaton a p.sid (drop (p.at - p.from) held) stop.result c.is_match.result true _ _ stop.ensures.goes cost.2 c.is_match.ensures c.if-is_match.true) c.first_match-found.ensures (λ standard. false≢true (sym (wait-standard _ standard) ∙ sym c.may_wait.ensures ∙ c.if-may_wait.true)) c.decide.result _
-          (searches-from (g.A.Automaton.Reaches a No) t.0 c.args.start c.decide.result stop.new.steps c.decide.new.steps cost.0 (c.decide.ensures.walk t.0 t.1)),
+          met-then _ s _ _ c.args.start p held stop.result c.first_match-found.result _ _ (met.tells a No) is
+          c.requires.none
+          (stopped-at g.A.Automaton a p.sid (drop (p.at - p.from) held) stop.result c.is_match.result true _ _
+          stop.ensures.goes cost.2 c.is_match.ensures c.if-is_match.true) c.first_match-found.ensures
+          (λ standard. false≢true (sym (wait-standard _ standard) ∙ sym c.may_wait.ensures ∙ c.if-may_wait.true))
+          c.decide.result _
+          (searches-from (g.A.Automaton.Reaches a No) t.0 c.args.start c.decide.result stop.new.steps c.decide.new.steps
+          cost.0 (c.decide.ensures.walk t.0 t.1)),
     )
 
 pub returns-then-may_wait-clause-ahead : goal.returns-then-may_wait-clause-ahead
 returns-then-may_wait-clause-ahead g c =
     let stop = c.advance_to_match-stop in
-    ahead-anywhere g.A.Automaton c.args.automaton.now (Some c.args.start) c.args.held.now _ _ _ _ stop.new.ahead (λ standard. absurd (false≢true (sym (wait-standard _ standard) ∙ sym c.may_wait.ensures ∙ c.if-may_wait.true))) stop.ensures.ahead
+    ahead-anywhere g.A.Automaton c.args.automaton.now (Some c.args.start) c.args.held.now _ _ _ _ stop.new.ahead
+    (λ standard. absurd (false≢true (sym (wait-standard _ standard) ∙ sym c.may_wait.ensures ∙ c.if-may_wait.true)))
+    stop.ensures.ahead
 
 pub returns-then-is_match-clause-ahead : goal.returns-then-is_match-clause-ahead
 returns-then-is_match-clause-ahead g c =
     let a = c.args.automaton.now in
     let stop = c.advance_to_match-stop in
-    subst (λ (r : Searched). IsAheadBy g.A.Automaton a c.args.start c.args.held.now r.progress stop.new.ahead) (sym c.decided.ensures)
-    (ahead-met g.A.Automaton a c.args.start c.args.progress.now c.args.held.now stop.result.taken stop.result.sid c.first_match-found.result stop.new.ahead (held-ordered _ _ _ _ _ _ c.requires.walk.1) (c.is_match.ensures.0 c.if-is_match.true) c.first_match-found.ensures stop.ensures.ahead)
+    subst (λ r. IsAheadBy g.A.Automaton a c.args.start c.args.held.now r.progress stop.new.ahead)
+    (sym c.decided.ensures)
+    (ahead-met g.A.Automaton a c.args.start c.args.progress.now c.args.held.now stop.result.taken stop.result.sid
+    c.first_match-found.result stop.new.ahead (held-ordered _ _ _ _ _ _ c.requires.walk.1)
+    (c.is_match.ensures.0 c.if-is_match.true) c.first_match-found.ensures stop.ensures.ahead)
 
 pub is_start-requires : goal.is_start-requires
 is_start-requires g c =
@@ -100,7 +143,10 @@ is_start-requires g c =
     let held = c.args.held.now in
     let stop = c.advance_to_match-stop in
     let met = g.met.A.Automaton in
-    searched-state _ c.requires.walk.0 _ _ c.args.start p held stop.result false _ _ (met.tells a No) (met.lives a No) c.requires.walk.1 c.requires.none (stopped-at g.A.Automaton a p.sid (drop (p.at - p.from) held) stop.result c.is_match.result false _ _ stop.ensures.goes stop.ensures.cost.2 c.is_match.ensures c.if-is_match.false)
+    searched-state _ c.requires.walk.0 _ _ c.args.start p held stop.result false _ _ (met.tells a No) c.requires.walk.1
+    c.requires.none
+    (stopped-at g.A.Automaton a p.sid (drop (p.at - p.from) held) stop.result c.is_match.result false _ _
+    stop.ensures.goes stop.ensures.cost.2 c.is_match.ensures c.if-is_match.false)
 
 pub returns-then-is_start-clause-walk : goal.returns-then-is_start-clause-walk
 returns-then-is_start-clause-walk g c = (
@@ -112,8 +158,11 @@ returns-then-is_start-clause-walk g c = (
       let held = c.args.held.now in
       let stop = c.advance_to_match-stop in
       let met = g.met.A.Automaton in
-      let stops = (stopped-at g.A.Automaton a p.sid (drop (p.at - p.from) held) stop.result c.is_match.result false _ _ stop.ensures.goes stop.ensures.cost.2 c.is_match.ensures c.if-is_match.false) in
-      searches-anew _ s _ _ c.args.start p held stop.result false _ _ (met.tells a No) (met.lives a No) is c.requires.none stops refl (λ text reads. (c.is_start.ensures.tells No text reads).empty c.if-is_start.true (stops.none refl).1),
+      let stops =
+      (stopped-at g.A.Automaton a p.sid (drop (p.at - p.from) held) stop.result c.is_match.result false _ _
+      stop.ensures.goes stop.ensures.cost.2 c.is_match.ensures c.if-is_match.false) in
+      searches-anew _ s _ _ c.args.start p held stop.result false _ _ (met.tells a No) is c.requires.none stops refl
+      (λ text reads. (c.is_start.ensures.tells No text reads).empty c.if-is_start.true (stops.none refl).1),
 )
 
 pub returns-clause-walk : goal.returns-clause-walk
@@ -126,8 +175,11 @@ returns-clause-walk g c = (
       let held = c.args.held.now in
       let stop = c.advance_to_match-stop in
       let met = g.met.A.Automaton in
-      let stops = (stopped-at g.A.Automaton a p.sid (drop (p.at - p.from) held) stop.result c.is_match.result false _ _ stop.ensures.goes stop.ensures.cost.2 c.is_match.ensures c.if-is_match.false) in
-      searches-none _ s _ _ c.args.start p held stop.result false _ _ (met.tells a No) (met.lives a No) is c.requires.none stops refl (λ text reads live. false≢true (sym c.if-is_start.false ∙ (c.is_start.ensures.tells No text reads).back live)),
+      let stops =
+      (stopped-at g.A.Automaton a p.sid (drop (p.at - p.from) held) stop.result c.is_match.result false _ _
+      stop.ensures.goes stop.ensures.cost.2 c.is_match.ensures c.if-is_match.false) in
+      searches-none _ s _ _ c.args.start p held stop.result false _ _ (met.tells a No) is c.requires.none stops refl
+      (λ text reads live. false≢true (sym c.if-is_start.false ∙ (c.is_start.ensures.tells No text reads).back live)),
 )
 
 pub returns-then-is_start-clause-ahead : goal.returns-then-is_start-clause-ahead
@@ -136,8 +188,11 @@ returns-then-is_start-clause-ahead g c =
     let p = c.args.progress.now in
     let held = c.args.held.now in
     let stop = c.advance_to_match-stop in
-    let stops = (stopped-at g.A.Automaton a p.sid (drop (p.at - p.from) held) stop.result c.is_match.result false _ _ stop.ensures.goes stop.ensures.cost.2 c.is_match.ensures c.if-is_match.false) in
-    ahead-anywhere g.A.Automaton a (Some c.args.start) held _ _ _ _ stop.new.ahead (λ standard. held-over _ _ _ _ _ _ c.requires.walk.1 stop.result.taken (stops.none refl).0) stop.ensures.ahead
+    let stops =
+    (stopped-at g.A.Automaton a p.sid (drop (p.at - p.from) held) stop.result c.is_match.result false _ _
+    stop.ensures.goes stop.ensures.cost.2 c.is_match.ensures c.if-is_match.false) in
+    ahead-anywhere g.A.Automaton a (Some c.args.start) held _ _ _ _ stop.new.ahead
+    (λ standard. held-over _ _ _ _ _ _ c.requires.walk.1 stop.result.taken (stops.none refl).0) stop.ensures.ahead
 
 pub returns-clause-ahead : goal.returns-clause-ahead
 returns-clause-ahead g c =
@@ -145,5 +200,8 @@ returns-clause-ahead g c =
     let p = c.args.progress.now in
     let held = c.args.held.now in
     let stop = c.advance_to_match-stop in
-    let stops = (stopped-at g.A.Automaton a p.sid (drop (p.at - p.from) held) stop.result c.is_match.result false _ _ stop.ensures.goes stop.ensures.cost.2 c.is_match.ensures c.if-is_match.false) in
-    ahead-on g.A.Automaton a c.args.start p held stop.result.taken stop.result.sid stop.new.ahead (held-ordered _ _ _ _ _ _ c.requires.walk.1) (stops.none refl).1 stop.ensures.ahead
+    let stops =
+    (stopped-at g.A.Automaton a p.sid (drop (p.at - p.from) held) stop.result c.is_match.result false _ _
+    stop.ensures.goes stop.ensures.cost.2 c.is_match.ensures c.if-is_match.false) in
+    ahead-on g.A.Automaton a c.args.start p held stop.result.taken stop.result.sid stop.new.ahead
+    (held-ordered _ _ _ _ _ _ c.requires.walk.1) (stops.none refl).1 stop.ensures.ahead

@@ -4,8 +4,8 @@ use denote.Struct.Owning.{shape, fields, to}
 use denote.Param.Send.{IsSend, AllSend, owning_send, struct_send, sendable}
 use Rattle.std_alloc.proofs.SendSync.{quiet}
 use Rattle.std_heap.proofs.Global.TheSendSync as alloc
-use Rattle.ac_c.specs.contracts.bytes.Bytes.{the_row as Value}
-use Rattle.ac_c.proofs.bytes.Bytes.TheSendSync.{the_send as value}
+use Rattle.ac_c.specs.contracts.text.Bytes.{the_row as Value}
+use Rattle.ac_c.proofs.text.Bytes.TheSendSync.{the_send as value}
 use Rattle.ac_c.proofs.slot.SlotSends.{slot-keyless}
 use Rattle.ac_c.specs.contracts.text.Text.{the_row, the_type}
 

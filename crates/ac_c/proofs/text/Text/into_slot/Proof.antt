@@ -2,7 +2,7 @@
 use Rattle.std.proofs.Common.{refl}
 use contract.Monad.{fact_i}
 use denote.Exit.{yes}
-use Rattle.ac_c.specs.contracts.bytes.Bytes.{the_row as Value}
+use Rattle.ac_c.specs.contracts.text.Bytes.{the_row as Value}
 use Rattle.ac_c.proofs.slot.SlotMoves.{moves}
 use Rattle.ac_c.proofs.slot.SlotSteps.{S}
 use Rattle.ac_c.specs.contracts.text.Text as Text
@@ -11,5 +11,9 @@ use Rattle.ac_c.proofs.text.Text.into_slot.Statement.{statement}
 use Rattle.ac_c.proofs.text.Text.into_slot.Code as code
 
 pub into_slot_spec : {M : Type 1} → statement M
-into_slot_spec 𝓤 𝓛 𝓜 𝓡 wired = moves 𝓛 𝓜 𝓡 Value Text.the_row (S Value) yes (f.clauses 𝓛 𝓜.mem 𝓡.returns) f.Key.name _ _ (code.unfolded 𝓤 𝓛.H 𝓜 𝓡 wired)
-    (λ x. record { at = x.at; alloc = x.alloc; value = x.value }) (λ x. record { at = x.at; alloc = x.alloc; value = x.value }) (λ x us. (refl, refl)) (λ x. tt) (λ κs x w. refl) (λ κs a g. fact_i 𝓤 _ _ refl)
+into_slot_spec 𝓤 𝓛 𝓜 𝓡 wired =
+    moves 𝓛 𝓜 𝓡 Value Text.the_row (S Value) yes (f.clauses 𝓛 𝓜.mem 𝓡.returns) f.Key.name _ _
+    (code.unfolded 𝓤 𝓛.H 𝓜 𝓡 wired)
+    (λ x. record { at = x.at; alloc = x.alloc; value = x.value })
+    (λ x. record { at = x.at; alloc = x.alloc; value = x.value }) (λ x us. (refl, refl)) (λ x. tt) (λ κs x w. refl)
+    (λ κs a g. fact_i 𝓤 _ _ refl)

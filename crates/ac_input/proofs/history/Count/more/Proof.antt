@@ -9,5 +9,7 @@ use Rattle.ac_input.proofs.history.Count.more.Statement.{statement}
 use Rattle.ac_input.proofs.history.Count.more.Code as code
 
 pub more_spec : {M : Type 1} → statement M
-more_spec 𝓤 𝓛 𝓜 𝓡 wired = ghost_of_two 𝓛 𝓜 𝓡 C.the_row usize C.the_row (f.clauses 𝓛 𝓜.mem 𝓡.returns) f.Key.name _ _ (code.unfolded 𝓤 𝓛.H 𝓜 𝓡 wired) (λ r. refl)
+more_spec 𝓤 𝓛 𝓜 𝓡 wired =
+    ghost_of_two 𝓛 𝓜 𝓡 C.the_row usize C.the_row (f.clauses 𝓛 𝓜.mem 𝓡.returns) f.Key.name _ _
+    (code.unfolded 𝓤 𝓛.H 𝓜 𝓡 wired) (λ r. refl)
     (λ x n. record { times = record {}; value = x.value + n }) (λ κs a g. fact_i 𝓤 _ _ refl)

@@ -8,5 +8,7 @@ use Rattle.ac_input.proofs.history.Count.next.Statement.{statement}
 use Rattle.ac_input.proofs.history.Count.next.Code as code
 
 pub next_spec : {M : Type 1} → statement M
-next_spec 𝓤 𝓛 𝓜 𝓡 wired = ghost_of_one 𝓛 𝓜 𝓡 C.the_row C.the_row (f.clauses 𝓛 𝓜.mem 𝓡.returns) f.Key.name _ _ (code.unfolded 𝓤 𝓛.H 𝓜 𝓡 wired) (λ r. refl)
+next_spec 𝓤 𝓛 𝓜 𝓡 wired =
+    ghost_of_one 𝓛 𝓜 𝓡 C.the_row C.the_row (f.clauses 𝓛 𝓜.mem 𝓡.returns) f.Key.name _ _ (code.unfolded 𝓤 𝓛.H 𝓜 𝓡 wired)
+    (λ r. refl)
     (λ x. record { times = record {}; value = x.value + 1 }) (λ κs a g. fact_i 𝓤 _ _ refl)

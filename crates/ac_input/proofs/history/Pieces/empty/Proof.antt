@@ -8,5 +8,7 @@ use Rattle.ac_input.proofs.history.Pieces.empty.Statement.{statement}
 use Rattle.ac_input.proofs.history.Pieces.empty.Code as code
 
 pub empty_spec : {M : Type 1} → statement M
-empty_spec 𝓤 𝓛 𝓜 𝓡 wired = ghost_of_none 𝓛 𝓜 𝓡 C.the_row (f.clauses 𝓛 𝓜.mem 𝓡.returns) f.Key.name _ _ (code.unfolded 𝓤 𝓛.H 𝓜 𝓡 wired) (λ r. refl)
+empty_spec 𝓤 𝓛 𝓜 𝓡 wired =
+    ghost_of_none 𝓛 𝓜 𝓡 C.the_row (f.clauses 𝓛 𝓜.mem 𝓡.returns) f.Key.name _ _ (code.unfolded 𝓤 𝓛.H 𝓜 𝓡 wired)
+    (λ r. refl)
     (record { list = record {}; items = [] }) (λ κs a g. fact_i 𝓤 _ _ refl)

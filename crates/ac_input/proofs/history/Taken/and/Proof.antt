@@ -8,5 +8,7 @@ use Rattle.ac_input.proofs.history.Taken.and.Statement.{statement}
 use Rattle.ac_input.proofs.history.Taken.and.Code as code
 
 pub and_spec : {M : Type 1} → statement M
-and_spec 𝓤 𝓛 𝓜 𝓡 wired = ghost_of_bytes 𝓛 𝓜 𝓡 C.the_row C.the_row (f.clauses 𝓛 𝓜.mem 𝓡.returns) f.Key.name _ _ (code.unfolded 𝓤 𝓛.H 𝓜 𝓡 wired) (λ r. refl)
+and_spec 𝓤 𝓛 𝓜 𝓡 wired =
+    ghost_of_bytes 𝓛 𝓜 𝓡 C.the_row C.the_row (f.clauses 𝓛 𝓜.mem 𝓡.returns) f.Key.name _ _
+    (code.unfolded 𝓤 𝓛.H 𝓜 𝓡 wired) (λ r. refl)
     (λ x more. record { text = record {}; bytes = x.bytes ++ more }) (λ κs a g. fact_i 𝓤 _ _ refl)

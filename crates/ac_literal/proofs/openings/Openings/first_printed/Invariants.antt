@@ -7,7 +7,8 @@ use Rattle.ac_literal.proofs.openings.Openings.first_printed.Given as goal
 abbrev pub invariant-loop-left : goal.invariant-loop-left
 invariant-loop-left l = record {
   few : l.left < 4294967296;
-  seen : (k : ℕ) → k < 32 → bit_at l.marks k ≡ 1 → (bit_at l.left k ≡ 1) ⊎ (¬ IsPrinted l.self.prints (take l.self.len (drop (l.block + k) l.bytes)));
+  seen : (k : ℕ) → k < 32 → bit_at l.marks k ≡ 1
+      → (bit_at l.left k ≡ 1) ⊎ (¬ IsPrinted l.self.prints (take l.self.len (drop (l.block + k) l.bytes)));
 }
 
 abbrev pub decreases-loop-left : goal.decreases-loop-left

@@ -1,9 +1,7 @@
 -- Where a pattern opens, its bucket is left, and its fingerprint is in the set.
-use Rattle.std.proofs.Common.{ℕ, List, subst, arith}
+use Rattle.std.proofs.Common.{ℕ, List, arith}
 use Rattle.std.proofs.lemmas.List.{length-map}
 use Rattle.std.specs.Borrow.{Bor}
-use Rattle.ac_input.specs.Pairing.{IsPairing}
-use Rattle.ac_input.proofs.lemmas.SameLemmas.{own_inverse-pairing}
 use Rattle.ac_literal.specs.Packed.{bytes_of}
 use Rattle.ac_literal.proofs.openings.OpeningLemmas.{opening-marked, opening-printed, none-shorter}
 use Rattle.ac_literal.proofs.openings.Openings.new.Goals as goal
@@ -21,7 +19,9 @@ returns c kind =
     record {
       short = none-shorter all pairing kind len short;
       marks = λ text at h. record {
-        left = opening-marked all pairing kind len buckets.result text at buckets.ensures.near short (λ number within. buckets.ensures.all number (omega (arith, within, count))) h;
-        printed = opening-printed all pairing kind len prints.result text at (own_inverse-pairing pairing (subst IsPairing prints.ensures.0 prints.result.paired)) (prints.ensures.0, λ number within. prints.ensures.1 number (omega (arith, within, count))) h;
+        left = opening-marked all kind text at buckets.ensures.near short
+            (λ number within. buckets.ensures.all number (omega (arith, within, count))) h;
+        printed = opening-printed all kind len prints.result text at
+            (prints.ensures.0, λ number within. prints.ensures.1 number (omega (arith, within, count))) h;
       };
     }

@@ -5,26 +5,23 @@ use Rattle.ac_literal.proofs.openings.Openings.pass.Goals as goal
 
 pub returns-then-marks-eq0-clause-passed : goal.returns-then-marks-eq0-clause-passed
 returns-then-marks-eq0-clause-passed c =
-    let o = c.args.self.now in
-    let bytes = c.args.bytes.now in
-    passed-none o bytes c.next_marks-block.result.0 (block-before o bytes c.loop-at.at _ c.next_marks-block.result.0 c.next_marks-block.result.1 c.next_marks-block.ensures c.loop-at.invariant.passed)
+    passed-none (block-before c.next_marks-block.ensures c.loop-at.invariant.passed)
 
 pub returns-then-place-lt-LANES-clause-passed : goal.returns-then-place-lt-LANES-clause-passed
 returns-then-place-lt-LANES-clause-passed c =
-    let o = c.args.self.now in
-    let bytes = c.args.bytes.now in
     let place = c.first_printed-place in
-    passed-none o bytes _ (block-passed o bytes c.loop-at.at _ c.next_marks-block.result.0 c.next_marks-block.result.1 c.next_marks-block.ensures c.loop-at.invariant.passed place.result place.ensures.within c.if-marks-eq0.false place.ensures.passed)
+    passed-none
+    (block-passed c.next_marks-block.ensures c.loop-at.invariant.passed place.ensures.within c.if-marks-eq0.false
+    place.ensures.passed)
 
 pub loop-at-preserved : goal.loop-at-preserved
 loop-at-preserved c =
-    let o = c.args.self.now in
-    let bytes = c.args.bytes.now in
     let place = c.first_printed-place in
     let next = c.next_marks-block.ensures in
     let whole = next.whole c.if-marks-eq0.false in
     let all = c.if-place-lt-LANES.false in
     record {
       within = whole;
-      passed = block-passed o bytes c.loop-at.at _ c.next_marks-block.result.0 c.next_marks-block.result.1 next c.loop-at.invariant.passed 32 (omega arith) c.if-marks-eq0.false (λ k within. place.ensures.passed k (omega (arith, within, all)));
+      passed = block-passed next c.loop-at.invariant.passed (omega arith) c.if-marks-eq0.false
+          (λ k within. place.ensures.passed k (omega (arith, within, all)));
     }

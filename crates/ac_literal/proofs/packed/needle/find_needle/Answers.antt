@@ -7,15 +7,22 @@ use Rattle.ac_literal.proofs.packed.needle.find_needle.Goals as goal
 
 pub returns-in_default : goal.returns-in_default
 returns-in_default c =
-    λ kind. needle-none c.args.needle.now c.args.haystack.now c.of.result.now c.args.span c.requires.ordered c.requires.within c.of.ensures c.requires.full c.in_default.ensures (search_kind kind)
+    λ kind. needle-none c.requires.ordered c.requires.within c.of.ensures c.requires.full c.in_default.ensures
+    (search_kind kind)
 
 pub returns : goal.returns
 returns c =
     λ kind.
-    let made : Occurrence = record { pattern = 0; start = c.args.span.start + c.in-Some.offset; end = c.args.span.start + c.in-Some.offset + length c.args.needle.now } in
-    needle-best c.args.needle.now c.args.haystack.now c.of.result.now c.args.span c.requires.ordered c.requires.within c.of.ensures c.requires.full c.in-Some.offset c.new.result c.in-Some.ensures
-    (occurrence_from_parts made c.new.result
-    (sym (ap (λ (x : Occurrence). x.pattern) c.new.ensures ∙ c.must.ensures))
-    (sym (ap (λ (x : Occurrence). x.start) c.new.ensures))
-    (sym (ap (λ (x : Occurrence). x.end) c.new.ensures ∙ ap (λ (xs : List ℕ). c.args.span.start + c.in-Some.offset + length xs) c.needle.ensures)))
+    let made : Occurrence =
+    record {
+      pattern = 0;
+      start = c.args.span.start + c.in-Some.offset;
+      end = c.args.span.start + c.in-Some.offset + length c.args.needle.now;
+    } in
+    needle-best c.requires.ordered c.requires.within c.of.ensures c.requires.full c.in-Some.ensures
+    (occurrence_from_parts
+    (sym (ap (λ x. x.pattern) c.new.ensures ∙ c.must.ensures))
+    (sym (ap (λ x. x.start) c.new.ensures))
+    (sym (ap (λ x. x.end) c.new.ensures
+    ∙ ap (λ xs. c.args.span.start + c.in-Some.offset + length xs) c.needle.ensures)))
     (search_kind kind)

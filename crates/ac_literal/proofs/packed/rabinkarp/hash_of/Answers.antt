@@ -12,4 +12,5 @@ pub loop-byte-preserved : goal.loop-byte-preserved
 loop-byte-preserved c =
     let bytes = c.args.bytes.now in
     let i = c.loop-byte.byte-index in
-    c.add-hash.ensures ∙ hash_of-push (take i bytes) (get_or bytes i 0) c.loop-byte.hash c.loop-byte.invariant ∙ ap hash_of (sym (take_more bytes i 0 c.loop-byte-test.true))
+    c.add-hash.ensures ∙ hash_of-push (take i bytes) (get_or bytes i 0) c.loop-byte.invariant
+    ∙ ap hash_of (sym (take_more bytes i 0 c.loop-byte-test.true))

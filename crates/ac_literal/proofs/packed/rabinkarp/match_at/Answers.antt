@@ -12,14 +12,14 @@ returns-then-eq c =
     let hay = c.args.haystack.now in
     let bytes = c.get-pattern.ensures in
     let equal = (slice_eq-Decides Decides-eqb _ _ _ c.eq.ensures).0 c.if-eq.true in
-    let same = subst (λ (p : List ℕ). slice_range hay c.args.at (c.args.at + length p) ≡ p) bytes equal in (
+    let same = subst (λ p. slice_range hay c.args.at (c.args.at + length p) ≡ p) bytes equal in (
       rw bytes at c.new.ensures,
-      lies c.args.patterns.now hay c.args.span.start c.args.span.end c.args.at c.args.entry.pattern c.requires.start c.requires.number (omega (arith, ap length bytes)) same,
+      lies c.requires.start c.requires.number (omega (arith, ap length bytes)) same,
     )
 
 pub returns-else-eq : goal.returns-else-eq
 returns-else-eq c = λ h occurs.
     let hay = c.args.haystack.now in
-    let there = lies-bytes c.args.patterns.now hay c.args.span.start c.args.span.end c.args.at c.args.entry.pattern occurs in
-    let same = subst (λ (p : List ℕ). slice_range hay c.args.at (c.args.at + length p) ≡ p) (sym c.get-pattern.ensures) there.1 in
+    let there = lies-bytes occurs in
+    let same = subst (λ p. slice_range hay c.args.at (c.args.at + length p) ≡ p) (sym c.get-pattern.ensures) there.1 in
     false≢true (sym c.if-eq.false ∙ (slice_eq-Decides Decides-eqb _ _ _ c.eq.ensures).1 same)

@@ -3,4 +3,4 @@ use Rattle.ac_literal.proofs.packed.HashLemmas.{power-past}
 use Rattle.ac_literal.proofs.packed.rabinkarp.power_of.Goals as goal
 
 pub returns-then-hash_len-gt64 : goal.returns-then-hash_len-gt64
-returns-then-hash_len-gt64 c = power-past (c.args.hash_len - 1) (omega arith)
+returns-then-hash_len-gt64 c = power-past (omega arith)

@@ -9,7 +9,11 @@ high_halves : (v : List ℕ) → length v ≡ 32 → Each1 (Fits w8) v → (k : 
 high_halves v long fits k within = omega (arith, (Each1-get_or (Fits w8) v k 0 (omega arith) fits).fits)
 
 pub swizzle : goal.swizzle
-swizzle c = may-look _ _ (lanes-one (λ a b. a / 2 ^ b) c.args.lanes 4 c.fits-lanes.0) (high_halves c.args.lanes c.fits-lanes.0 c.fits-lanes.1)
+swizzle c =
+    may-look (lanes-one (λ a b. a / 2 ^ b) c.args.lanes 4 c.fits-lanes.0)
+    (high_halves c.args.lanes c.fits-lanes.0 c.fits-lanes.1)
 
 pub returns : goal.returns
-returns c = lanes-looked _ _ (lanes-one (λ a b. a / 2 ^ b) c.args.lanes 4 c.fits-lanes.0) (high_halves c.args.lanes c.fits-lanes.0 c.fits-lanes.1) _ c.args.table.now c.twice.ensures
+returns c =
+    lanes-looked (lanes-one (λ a b. a / 2 ^ b) c.args.lanes 4 c.fits-lanes.0)
+    (high_halves c.args.lanes c.fits-lanes.0 c.fits-lanes.1) _ c.args.table.now c.twice.ensures

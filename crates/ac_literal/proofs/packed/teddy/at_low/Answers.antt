@@ -12,7 +12,8 @@ low_halves v long =
     record { long = masked.long; each = λ k within. masked.each k within ∙ and_mask (get_or v k 0) 4 }
 
 pub swizzle : goal.swizzle
-swizzle c = may-look _ _ (low_halves c.args.lanes c.fits-lanes.0) (λ k within. omega arith)
+swizzle c = may-look (low_halves c.args.lanes c.fits-lanes.0) (λ k within. omega arith)
 
 pub returns : goal.returns
-returns c = lanes-looked _ _ (low_halves c.args.lanes c.fits-lanes.0) (λ k within. omega arith) _ c.args.table.now c.twice.ensures
+returns c =
+    lanes-looked (low_halves c.args.lanes c.fits-lanes.0) (λ k within. omega arith) _ c.args.table.now c.twice.ensures

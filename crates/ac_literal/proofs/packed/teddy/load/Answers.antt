@@ -2,4 +2,8 @@ use Rattle.std.proofs.lemmas.Simd.{length-chunk, get_or-chunk}
 use Rattle.ac_literal.proofs.packed.teddy.load.Goals as goal
 
 pub returns : goal.returns
-returns c = record { long = length-chunk c.args.at 32 c.args.bytes.now c.requires; each = λ k within. get_or-chunk c.args.at 32 c.args.bytes.now k 0 within }
+returns c =
+    record {
+      long = length-chunk c.args.at 32 c.args.bytes.now c.requires;
+      each = λ k within. get_or-chunk c.args.at 32 c.args.bytes.now k 0 within;
+    }

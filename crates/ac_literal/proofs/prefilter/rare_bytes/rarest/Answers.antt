@@ -7,6 +7,11 @@ use Rattle.ac_literal.proofs.prefilter.rare_bytes.rarest.Goals.{then-paired_rank
 pub loop-byte-preserved : goal.loop-byte-preserved
 loop-byte-preserved c =
     elim c.if-paired_rank.branch [
-      | then-paired_rank w ↦ (c.loop-byte.byte-index, c.loop-byte-test.true, get_or_default_zero c.args.pattern.now c.loop-byte.byte-index c.if-paired_rank.best c.loop-byte-test.true ∙ sym w.best-is)
-      | else-paired_rank w ↦ subst (λ (x : ℕ). Contains c.args.pattern.now x) (sym w.best-is) c.loop-byte.invariant
+      | then-paired_rank w ↦ (
+        c.loop-byte.byte-index,
+        c.loop-byte-test.true,
+        get_or_default_zero c.args.pattern.now c.loop-byte.byte-index c.if-paired_rank.best c.loop-byte-test.true
+            ∙ sym w.best-is,
+      )
+      | else-paired_rank w ↦ subst (λ x. Contains c.args.pattern.now x) (sym w.best-is) c.loop-byte.invariant
     ]

@@ -8,8 +8,11 @@ loop-at-preserved c =
     let now : length c.loop-at.distances ≡ 256 = omega (arith, simp length-set at (ap length c.lengthen.ensures)) in
     let byte = c.type_inv.pattern c.loop-at.at in
     let pair = c.other.type_inv in
-    let r = recorded c.args.pairing.now c.args.distances.now c.args.pattern.now c.loop-at.distances c.lengthen.new.distances c.lengthen-in-loop-at.new.distances
+    let r = recorded c.args.pairing.now c.args.distances.now c.args.pattern.now c.loop-at.distances
+    c.lengthen.new.distances c.lengthen-in-loop-at.new.distances
     c.loop-at.at (slice_index c.args.pattern.now c.loop-at.at) c.other.result refl (sym c.other.ensures.value)
-    (let small : slice_index c.args.pattern.now c.loop-at.at < 256 = omega (arith, byte) in omega arith) (omega arith) c.lengthen.ensures c.lengthen-in-loop-at.ensures
-    (let long = c.requires in let here = c.loop-at-test.true in omega arith) c.loop-at.invariant.grown c.loop-at.invariant.reach c.loop-at.invariant.near in
+    (let small : slice_index c.args.pattern.now c.loop-at.at < 256 = omega (arith, byte) in omega arith) (omega arith)
+    c.lengthen.ensures c.lengthen-in-loop-at.ensures
+    (let long = c.requires in let here = c.loop-at-test.true in omega arith) c.loop-at.invariant.grown
+    c.loop-at.invariant.reach c.loop-at.invariant.near in
     record { grown = r.grown; reach = r.reach; near = r.near }

@@ -13,16 +13,21 @@ use Rattle.ac_noncontiguous.proofs.builder.Builder.build.Goals as goal
 pub from_parts-requires-clause-parts : goal.from_parts-requires-clause-parts
 from_parts-requires-clause-parts c =
     let ps = c.args.patterns.now in
-    let same : dictionary_of c.in_ok-lens.lens c.self.inside.settings.pairing c.self.inside.settings.match_kind ≡ dictionary_by c.args.self.now ps =
-    ap (λ (q : List (List ℕ)). dictionary_of q c.self.inside.settings.pairing c.self.inside.settings.match_kind) c.in_ok-lens.ensures ∙ ap (λ (s : Settings). dictionary_by s ps) c.self.view_is in
-    parts-of (dictionary_by c.args.self.now ps) _ c.args.self.now.prefilter c.in_ok-tables.tables c.in_ok-prefilter.prefilter same c.in_ok-tables.ensures.made c.in_ok-tables.ensures.within c.in_ok-prefilter.ensures
+    let same : dictionary_of c.in_ok-lens.lens c.self.inside.settings.pairing c.self.inside.settings.match_kind
+    ≡ dictionary_by c.args.self.now ps =
+    ap (λ q. dictionary_of q c.self.inside.settings.pairing c.self.inside.settings.match_kind) c.in_ok-lens.ensures
+    ∙ ap (λ s. dictionary_by s ps) c.self.view_is in
+    parts-of same c.in_ok-tables.ensures.made c.in_ok-tables.ensures.within c.in_ok-prefilter.ensures
 
 pub from_parts-requires-clause-opened : goal.from_parts-requires-clause-opened
 from_parts-requires-clause-opened c =
     let pairing = c.self.inside.settings.pairing in
     let kind = c.self.inside.settings.match_kind in
-    subst (λ (q : List (List ℕ)). ∥ IfSome c.new-openings.result (AreOpenings (dictionary_of q pairing kind)) ∥₁) (sym c.in_ok-lens.ensures)
+    subst (λ q. ∥ IfSome c.new-openings.result (AreOpenings (dictionary_of q pairing kind)) ∥₁)
+    (sym c.in_ok-lens.ensures)
     ∣ opened-kind (bytes_of c.args.patterns.now) pairing kind c.new-openings.result c.new-openings.ensures ∣₁
 
 pub returns-clause-rows : goal.returns-clause-rows
-returns-clause-rows c = subst (AreRowsBelow (noncontiguous_dense_depth c.args.self.now)) (sym c.from_parts.ensures.tables) c.in_ok-tables.ensures.rows
+returns-clause-rows c =
+    subst (AreRowsBelow (noncontiguous_dense_depth c.args.self.now)) (sym c.from_parts.ensures.tables)
+    c.in_ok-tables.ensures.rows

@@ -7,5 +7,5 @@ use Rattle.ac_noncontiguous.proofs.builder.Builder.build_prefilter.Goals as goal
 
 pub returns : goal.returns
 returns c =
-    let on : c.args.self.now.prefilter ≡ true = sym (ap (λ (s : Settings). s.prefilter) c.self.view_is) ∙ c.if-not-self.false in
-    some-held (dictionary_by c.args.self.now c.args.patterns.now) c.in_ok-collect.field-0 c.args.self.now.prefilter c.build-2.result c.in_ok-collect.ensures on c.build-2.ensures.made c.build-2.ensures.demanded
+    let on : c.args.self.now.prefilter ≡ true = sym (ap (λ s. s.prefilter) c.self.view_is) ∙ c.if-not-self.false in
+    some-held c.build-2.result c.in_ok-collect.ensures on c.build-2.ensures.made c.build-2.ensures.demanded

@@ -7,7 +7,11 @@ use Rattle.ac_noncontiguous.proofs.trie.TrieLemmas.{trie-within}
 use Rattle.ac_noncontiguous.proofs.builder.Builder.build_tables.Goals as goal
 
 pub returns-clause-made : goal.returns-clause-made
-returns-clause-made c = subst (λ (s : Settings). AreCompiled (dictionary_by s c.args.patterns.now) c.in_ok-tables_of.field-0) c.self.view_is (c.in_ok-tables_of.ensures.made _ c.in_ok-trie.ensures.made)
+returns-clause-made c =
+    subst (λ s. AreCompiled (dictionary_by s c.args.patterns.now) c.in_ok-tables_of.field-0) c.self.view_is
+    (c.in_ok-tables_of.ensures.made _ c.in_ok-trie.ensures.made)
 
 pub returns-clause-within : goal.returns-clause-within
-returns-clause-within c = subst (λ (s : Settings). IsWithinLimits (dictionary_by s c.args.patterns.now)) c.self.view_is (trie-within _ c.in_ok-trie.trie c.in_ok-trie.ensures.made)
+returns-clause-within c =
+    subst (λ s. IsWithinLimits (dictionary_by s c.args.patterns.now)) c.self.view_is
+    (trie-within c.in_ok-trie.ensures.made)

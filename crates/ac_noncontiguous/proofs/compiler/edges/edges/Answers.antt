@@ -8,27 +8,31 @@ use Rattle.ac_noncontiguous.proofs.compiler.edges.edges.Goals.{then-state-as_usi
 
 pub returns-then-state-eq0 : goal.returns-then-state-eq0
 returns-then-state-eq0 c b small =
-    subst (λ (i : ℕ). IsEdgeTo c.args.trie.now c.args.numbering.now c.args.back i b (slice_index c.filled.result b)) (sym c.if-state-eq0.true)
-    (edge-dead c.args.trie.now c.args.numbering.now c.args.back b _ c.requires.numbering (c.filled.ensures b small))
+    subst (λ i. IsEdgeTo c.args.trie.now c.args.numbering.now c.args.back i b (slice_index c.filled.result b))
+    (sym c.if-state-eq0.true)
+    (edge-dead c.requires.numbering (c.filled.ensures b small))
 
 pub targets-requires-clause-within : goal.targets-requires-clause-within
 targets-requires-clause-within c =
-    let read = get_or_read c.args.numbering.now.at.items c.args.state c.index.result.now c.requires.within c.index.ensures 0 in
+    let read =
+    get_or_read c.args.numbering.now.at.items c.args.state c.index.result.now c.requires.within c.index.ensures 0 in
     omega (arith, c.requires.numbering.places.within c.args.state c.requires.within)
 
 pub returns : goal.returns
 returns c b small =
     let n = c.requires.numbering in
-    let of = get_or_read c.args.numbering.now.at.items c.args.state c.index.result.now c.requires.within c.index.ensures 0 in
+    let of =
+    get_or_read c.args.numbering.now.at.items c.args.state c.index.result.now c.requires.within c.index.ensures 0 in
     let is_start = c.as_usize.ensures.value in
     let other : c.if-state-as_usize.other ≡ missing c.args.numbering.now.start c.args.back c.args.state =
     elim c.if-state-as_usize.branch [
-      | then-state-as_usize w ↦ missing-start _ _ _ _ (w.if-state-as_usize.true ∙ is_start) w.other-is
-      | else-state-as_usize w ↦ missing-other _ _ _ _ (λ same. w.if-state-as_usize.false (same ∙ sym is_start)) (w.other-is ∙ w.must-other.ensures)
+      | then-state-as_usize w ↦ missing-start (w.if-state-as_usize.true ∙ is_start) w.other-is
+      | else-state-as_usize w ↦
+          missing-other _ (λ same. w.if-state-as_usize.false (same ∙ sym is_start)) (w.other-is ∙ w.must-other.ensures)
     ] in
     let within : c.if-state-as_usize.other < length c.args.numbering.now.at.items =
     elim c.if-state-as_usize.branch [
       | then-state-as_usize w ↦ omega (arith, c.requires.back, w.other-is)
       | else-state-as_usize w ↦ omega (arith, n.places.starts.1, w.other-is, w.must-other.ensures)
     ] in
-    edge-target c.args.trie.now c.args.numbering.now c.args.back c.args.state c.index.result.now c.if-state-as_usize.other b _ c.targets.result n within (λ _. of) (λ _. other) (omega arith) small (c.for_both.ensures b small) c.targets.ensures
+    edge-target n within (λ _. of) (λ _. other) (omega arith) small (c.for_both.ensures b small) c.targets.ensures

@@ -10,10 +10,11 @@ use Rattle.ac_noncontiguous.proofs.compiler.edges.targets.Goals as goal
 pub loop-at-init : goal.loop-at-init
 loop-at-init c =
     let states = c.args.trie.now.states.items in
-    let first : c.state-at.result.child ≡ child states c.args.of = ap (λ (s : State). s.child) c.state-at.ensures in (
+    let first : c.state-at.result.child ≡ child states c.args.of = ap (λ s. s.child) c.state-at.ensures in (
       0,
-      subst (IsFirstChild (length states) (parent states) (byte states) c.args.of 0) (sym first) (c.args.trie.now.tree.children c.args.of c.requires.within),
-      targets-none states _ c.args.of c.args.other c.filled-targets.result c.filled-targets.ensures,
+      subst (IsFirstChild (length states) (parent states) (byte states) c.args.of 0) (sym first)
+          (c.args.trie.now.tree.children c.args.of c.requires.within),
+      targets-none c.filled-targets.ensures,
       search rules,
     )
 
@@ -26,12 +27,16 @@ loop-at-preserved c =
     let some : 0 < at = grind (arith, nat_tests) in
     let f = c.loop-at.invariant.1 in
     let within : at < length states = (f.is_child some).0 in
-    let low : c.state-child.result.byte ≡ byte states at = ap (λ (s : State). s.byte) c.state-child.ensures in
-    let next : c.state-child.result.sibling ≡ sibling states at = ap (λ (s : State). s.sibling) c.state-child.ensures in
-    let read : c.index.result.now ≡ slice_index numbers at = get_or_read numbers c.as_usize.result c.index.result.now (omega (arith, c.requires.numbers, c.as_usize.ensures.value)) c.index.ensures 0 ∙ ap (slice_index numbers) c.as_usize.ensures.value in (
+    let low : c.state-child.result.byte ≡ byte states at = ap (λ s. s.byte) c.state-child.ensures in
+    let next : c.state-child.result.sibling ≡ sibling states at = ap (λ s. s.sibling) c.state-child.ensures in
+    let read : c.index.result.now
+    ≡ slice_index numbers at = get_or_read numbers c.as_usize.result c.index.result.now
+    (omega (arith, c.requires.numbers, c.as_usize.ensures.value)) c.index.ensures 0
+    ∙ ap (slice_index numbers) c.as_usize.ensures.value in (
       byte states at + 1,
-      subst (IsFirstChild (length states) (parent states) (byte states) c.args.of (byte states at + 1)) (sym next) (sibling-first states c.args.of c.loop-at.invariant.0 at c.args.trie.now.tree some f),
-      targets-set states numbers c.args.of c.args.other c.loop-at.invariant.0 at c.state-child.result.byte c.index.result.now targets c.args.trie.now.tree some (omega (arith, c.loop-at.invariant.3)) low read f c.loop-at.invariant.2,
+      subst (IsFirstChild (length states) (parent states) (byte states) c.args.of (byte states at + 1)) (sym next)
+          (sibling-first states c.args.trie.now.tree some f),
+      targets-set c.args.trie.now.tree some (omega (arith, c.loop-at.invariant.3)) low read f c.loop-at.invariant.2,
       length-set targets c.state-child.result.byte c.index.result.now ∙ c.loop-at.invariant.3,
     )
 
@@ -39,8 +44,8 @@ pub loop-at-smaller : goal.loop-at-smaller
 loop-at-smaller c =
     let states = c.args.trie.now.states.items in
     let some : 0 < c.loop-at.at = grind (arith, nat_tests) in
-    let low : c.state-child.result.byte ≡ byte states c.loop-at.at = ap (λ (s : State). s.byte) c.state-child.ensures in
-    rw c.state-child.ensures (sibling-rises states c.args.of c.loop-at.invariant.0 c.loop-at.at c.args.trie.now.tree some (omega arith) c.loop-at.invariant.1)
+    let low : c.state-child.result.byte ≡ byte states c.loop-at.at = ap (λ s. s.byte) c.state-child.ensures in
+    rw c.state-child.ensures (sibling-rises states c.args.trie.now.tree some (omega arith) c.loop-at.invariant.1)
 
 pub state-child-requires : goal.state-child-requires
 state-child-requires c =
@@ -48,4 +53,4 @@ state-child-requires c =
     (c.loop-at.invariant.1.is_child some).0
 
 pub returns : goal.returns
-returns c = targets-all _ _ _ _ c.loop-at.invariant.0 c.loop-at.at _ (grind (arith, nat_tests)) c.loop-at.invariant.1 c.loop-at.invariant.2
+returns c = targets-all (grind (arith, nat_tests)) c.loop-at.invariant.1 c.loop-at.invariant.2

@@ -9,5 +9,6 @@ must-start-requires c =
     let ranges = c.args.links.now.ranges.items in
     let states = c.args.states.now in
     let both = length-filter_both (is_chosen ranges true) (is_chosen ranges false) (λ _. refl) states in
-    let long : length c.push_chosen.new.at.items ≡ length c.push-2.new.self.items + length (chosen ranges true states) = ap length c.in_ok-push_chosen.ensures ∙ length-append c.push-2.new.self.items (chosen ranges true states) in
+    let long : length c.push_chosen.new.at.items ≡ length c.push-2.new.self.items + length (chosen ranges true states) =
+    ap length c.in_ok-push_chosen.ensures ∙ length-append c.push-2.new.self.items (chosen ranges true states) in
     omega (arith, c.in_ok-push-2.ensures.len, c.in_ok-push.ensures.len, c.in_ok-at.ensures.len, c.len.ensures)

@@ -4,4 +4,5 @@ use Rattle.ac_noncontiguous.specs.Compiler.Numbering.{is_chosen}
 use Rattle.ac_noncontiguous.proofs.compiler.numbering.push_chosen.Given as goal
 
 abbrev pub invariant-loop-id : goal.invariant-loop-id
-invariant-loop-id l = l.at.items ≡ l.initial.at.items ++ filter (is_chosen l.links.ranges.items l.matching) (take l.id-index l.states)
+invariant-loop-id l =
+    l.at.items ≡ l.initial.at.items ++ filter (is_chosen l.links.ranges.items l.matching) (take l.id-index l.states)

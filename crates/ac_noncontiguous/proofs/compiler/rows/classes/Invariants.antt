@@ -1,4 +1,4 @@
-use Rattle.ac_noncontiguous.specs.Compiler.Layout.{AreBoundaries}
+use Rattle.ac_noncontiguous.proofs.compiler.RowLemmas.{AreBoundaries}
 use Rattle.ac_noncontiguous.proofs.compiler.rows.classes.Given as goal
 
 abbrev pub invariant-loop-id : goal.invariant-loop-id

@@ -11,7 +11,8 @@ use Rattle.ac_noncontiguous.specs.declared.compiler.numbering.Numbering.{Numberi
 use Rattle.ac_noncontiguous.proofs.compiler.states.kept.Goals as goal
 
 -- the trie state that is read for a state
-read : (states : ℕ) (n : Numbering) (j id : ℕ) → IsNumbering states n → j < length n.at.items → id ≡ slice_index_or n.at.items j id → (id ≡ slice_index n.at.items j) × (id < states)
+read : (states : ℕ) (n : Numbering) (j id : ℕ) → IsNumbering states n → j < length n.at.items
+    → id ≡ slice_index_or n.at.items j id → (id ≡ slice_index n.at.items j) × (id < states)
 read states n j id numbering within at =
     let is : id ≡ slice_index n.at.items j = get_or_read n.at.items j id within at 0 in
     (is, omega (arith, is, numbering.places.within j within))
@@ -34,12 +35,16 @@ returns c =
     let ranges = c.args.links.now.ranges.items in
     let states = c.args.trie.now.states.items in
     let id = read _ _ _ _ c.requires.numbering c.requires.within c.index.ensures in
-    let range : c.index-range.result.now ≡ slice_index_or ranges (slice_index c.args.numbering.now.at.items c.args.state) no_range =
-    get_or_read ranges c.as_usize.result c.index-range.result.now (omega (arith, id.1, c.requires.links.ranges, c.as_usize.ensures.value)) c.index-range.ensures no_range ∙ ap (λ (i : ℕ). slice_index_or ranges i no_range) (c.as_usize.ensures.value ∙ id.0) in
+    let range : c.index-range.result.now
+    ≡ slice_index_or ranges (slice_index c.args.numbering.now.at.items c.args.state) no_range =
+    get_or_read ranges c.as_usize.result c.index-range.result.now
+    (omega (arith, id.1, c.requires.links.ranges, c.as_usize.ensures.value)) c.index-range.ensures no_range
+    ∙ ap (λ i. slice_index_or ranges i no_range) (c.as_usize.ensures.value ∙ id.0) in
     record {
       places = (refl, refl);
       flat = λ low. absurd (omega arith);
-      deep = λ high. ap (λ (s : State). s.depth) c.state.ensures ∙ ap (depth states) id.0;
-      matches = λ high. (ap (λ (r : Range). r.from) range, ap (λ (r : Range). r.len) range);
-      fails = λ high. subst (λ (i : ℕ). IsFailureOf c.args.numbering.now c.args.links.now i c.failure.result) id.0 c.failure.ensures;
+      deep = λ high. ap (λ s. s.depth) c.state.ensures ∙ ap (depth states) id.0;
+      matches = λ high. (ap (λ r. r.from) range, ap (λ r. r.len) range);
+      fails = λ high. subst (λ i. IsFailureOf c.args.numbering.now c.args.links.now i c.failure.result) id.0
+          c.failure.ensures;
     }

@@ -7,58 +7,67 @@ use Rattle.ac_noncontiguous.proofs.links.Links.from_fails.Goals as goal
 
 pub loop-id-init : goal.loop-id-init
 loop-id-init c = record {
-  room = room-none _ _ _ _ _ (omega (arith, c.requires.shallower.counted)) (c.in_ok-ranges.ensures.items_if_clones_equal (λ y same. search rules)) (search rules);
+  room = room-none (omega (arith, c.requires.shallower.counted))
+      (c.in_ok-ranges.ensures.items_if_clones_equal (λ y same. search rules)) (search rules);
   known = λ m t leads k lt. absurd (omega arith);
 }
 
 pub rest-rest-requires-clause-within : goal.rest-rest-requires-clause-within
 rest-rest-requires-clause-within c =
-    let h = order-read _ c.args.order.now c.loop-id.id-index c.id-item.result c.requires.order (omega arith) c.id-item.is in
+    let h = order-read c.requires.order (omega arith) c.id-item.is in
     rw c.deref.ensures.value (omega (arith, h.1, c.requires.shallower.counted))
 
 pub rest-rest-requires-clause-inner : goal.rest-rest-requires-clause-inner
 rest-rest-requires-clause-inner c =
-    rw c.deref.ensures.value (λ f given. omega (arith, (c.requires.shallower.shallower c.id-item.result f given).0, c.requires.shallower.counted))
+    rw c.deref.ensures.value
+    (λ f given.
+    omega (arith, (c.requires.shallower.shallower c.id-item.result f given).0, c.requires.shallower.counted))
 
 pub push_list-requires-clause-within : goal.push_list-requires-clause-within
 push_list-requires-clause-within c =
-    (order-read _ c.args.order.now c.loop-id.id-index c.id-item.result c.requires.order (omega arith) c.id-item.is).1
+    (order-read c.requires.order (omega arith) c.id-item.is).1
 
 pub push_list-requires-clause-inside : goal.push_list-requires-clause-inside
 push_list-requires-clause-inside c =
     let rest = rw (c.deref.ensures.value, c.deref-in-loop-id.ensures.value) at c.rest-rest.ensures in
-    (rest-above c.args.trie.now.states.items c.args.trie.now.ends.items _ _ _ c.id-item.result c.rest-rest.result c.requires.shallower c.loop-id.invariant.room (push_list-requires-clause-within c) rest).0
+    (rest-above c.requires.shallower c.loop-id.invariant.room (push_list-requires-clause-within c) rest).0
 
 pub push_list-requires-clause-above : goal.push_list-requires-clause-above
 push_list-requires-clause-above c =
     let rest = rw (c.deref.ensures.value, c.deref-in-loop-id.ensures.value) at c.rest-rest.ensures in
-    (rest-above c.args.trie.now.states.items c.args.trie.now.ends.items _ _ _ c.id-item.result c.rest-rest.result c.requires.shallower c.loop-id.invariant.room (push_list-requires-clause-within c) rest).1
+    (rest-above c.requires.shallower c.loop-id.invariant.room (push_list-requires-clause-within c) rest).1
 
 pub index_mut-requires : goal.index_mut-requires
 index_mut-requires c =
-    omega (arith, order-read _ c.args.order.now c.loop-id.id-index c.id-item.result c.requires.order (omega arith) c.id-item.is, c.as_usize.ensures.value, c.loop-id.invariant.room.counted)
+    omega (
+      arith,
+      order-read c.requires.order (omega arith) c.id-item.is,
+      c.as_usize.ensures.value,
+      c.loop-id.invariant.room.counted,
+    )
 
 pub loop-id-preserved : goal.loop-id-preserved
 loop-id-preserved c =
-    let states = c.args.trie.now.states.items in
     let order = c.args.order.now in
     let k = c.loop-id.id-index in
-    let id = c.id-item.result in
     let lt : k < length order = omega arith in
-    let h = order-read states order k id c.requires.order lt c.id-item.is in
+    let h = order-read c.requires.order lt c.id-item.is in
     let rest = rw (c.deref.ensures.value, c.deref-in-loop-id.ensures.value) at c.rest-rest.ensures in
     let room = c.loop-id.invariant.room in
-    let above = rest-above states c.args.trie.now.ends.items _ _ _ id c.rest-rest.result c.requires.shallower room h.1 rest in
+    let above = rest-above c.requires.shallower room h.1 rest in
     rw c.as_usize.ensures.value
     (record {
-      room = room-more states _ _ _ _ id c.rest-rest.result c.in_ok-range.range room h.1 above.1 c.in_ok-range.ensures;
+      room = room-more room h.1 above.1 c.in_ok-range.ensures;
       known = λ m t leads.
-          let s = stands-of c.args.trie.now m t in
-          lists-more m states _ _ _ _ _ order k id c.rest-rest.result c.in_ok-range.range s leads c.requires.shallower c.requires.order lt h.0 room rest c.in_ok-range.ensures
+          let s = stands-of t in
+          lists-more s leads c.requires.shallower c.requires.order lt h.0 room rest c.in_ok-range.ensures
           (c.loop-id.invariant.known m t leads);
     })
 
 pub returns-clause-links : goal.returns-clause-links
 returns-clause-links c m t leads =
-    let s = stands-of c.args.trie.now m t in
-    record { fails = leads; lists = lists-all m _ _ _ _ c.args.order.now c.loop-id.id-index s c.requires.order (omega arith) c.loop-id.invariant.room (c.loop-id.invariant.known m t leads) }
+    let s = stands-of t in
+    record {
+      fails = leads;
+      lists = lists-all s c.requires.order (omega arith) c.loop-id.invariant.room (c.loop-id.invariant.known m t leads);
+    }

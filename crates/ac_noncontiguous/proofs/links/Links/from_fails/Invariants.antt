@@ -7,5 +7,6 @@ use Rattle.ac_noncontiguous.proofs.links.Links.from_fails.Given as goal
 abbrev pub invariant-loop-id : goal.invariant-loop-id
 invariant-loop-id l = record {
   room : AreRoom l.trie.states.items l.trie.ends.items l.ranges.items l.matches.items;
-  known : (m : Dictionary) → IsTrieOf m l.trie → AreFails m l.trie.states.items l.fn.fails.items → AreFirstLists m l.trie.states.items l.ranges.items l.matches.items l.order l.id-index;
+  known : (m : Dictionary) → IsTrieOf m l.trie → AreFails m l.trie.states.items l.fn.fails.items
+      → AreFirstLists m l.trie.states.items l.ranges.items l.matches.items l.order l.id-index;
 }

@@ -14,16 +14,24 @@ from_parts-requires-clause-parts c =
     let a = c.args.self.now in
     let same = sym c.in_ok-lens.ensures in
     record {
-      within = subst (λ (patterns : List (List ℕ)). ∥ IsWithinLimits (dictionary_of patterns a.pairing a.kind) ∥₁) same a.within;
-      stands = subst (λ (patterns : List (List ℕ)). ∥ ((text : ℕ → List ℕ) × AreTables (dictionary_of patterns a.pairing a.kind) text c.in_ok-tables.tables) ∥₁) same (same-tables (dictionary a) a.tables c.in_ok-tables.tables c.in_ok-tables.ensures a.stands);
+      within = subst (λ patterns. ∥ IsWithinLimits (dictionary_of patterns a.pairing a.kind) ∥₁) same a.within;
+      stands =
+          subst (λ patterns.
+          ∥ ((text : ℕ → List ℕ) × AreTables (dictionary_of patterns a.pairing a.kind) text c.in_ok-tables.tables) ∥₁)
+          same
+          (same-tables c.in_ok-tables.ensures a.stands);
       classed =
-          subst (λ (patterns : List (List ℕ)). ∥ AreByteClasses (dictionary_of patterns a.pairing a.kind) c.in_ok-tables.tables.classes ∥₁) same
-          (subst (λ (classes : List ℕ). ∥ AreByteClasses (dictionary a) classes ∥₁) (sym c.in_ok-tables.ensures.classes) a.classed);
-      held = λ f is. a.held f (sym (c.in_ok-prefilter.ensures ∙ c.as_ref.ensures.value) ∙ is) ∙ ap (λ (patterns : List (List ℕ)). dictionary_of patterns a.pairing a.kind) same;
+          subst (λ patterns.
+          ∥ AreByteClasses (dictionary_of patterns a.pairing a.kind) c.in_ok-tables.tables.classes ∥₁) same
+          (subst (λ classes. ∥ AreByteClasses (dictionary a) classes ∥₁) (sym c.in_ok-tables.ensures.classes)
+          a.classed);
+      held = λ f is. a.held f (sym (c.in_ok-prefilter.ensures ∙ c.as_ref.ensures.value) ∙ is)
+          ∙ ap (λ patterns. dictionary_of patterns a.pairing a.kind) same;
       paired = a.paired;
     }
 
 pub from_parts-requires-clause-opened : goal.from_parts-requires-clause-opened
 from_parts-requires-clause-opened c =
     let a = c.args.self.now in
-    subst (λ (patterns : List (List ℕ)). ∥ IfSome a.skips.openings (AreOpenings (dictionary_of patterns a.pairing a.kind)) ∥₁) (sym c.in_ok-lens.ensures) a.opened
+    subst (λ patterns. ∥ IfSome a.skips.openings (AreOpenings (dictionary_of patterns a.pairing a.kind)) ∥₁)
+    (sym c.in_ok-lens.ensures) a.opened

@@ -8,6 +8,7 @@ use Rattle.ac_noncontiguous.proofs.nfa.NFA.fail.Goals as goal
 pub returns-clause-fails : goal.returns-clause-fails
 returns-clause-fails c =
     let a = c.args.self.now in
-    let h = below-kept a c.args.sid c.requires in
-    let kept : fail_in a c.args.sid ≡ c.index.result.now.fail = ap (λ (s : State). s.fail) (kept-read a.tables c.args.sid c.as_usize.result c.index.result.now h c.as_usize.ensures.value c.index.ensures) in
+    let h = below-kept a c.requires in
+    let kept : fail_in a c.args.sid ≡ c.index.result.now.fail =
+    ap (λ s. s.fail) (kept-read h c.as_usize.ensures.value c.index.ensures) in
     subst (FailsIn a c.args.sid) kept (fails-in a c.args.sid c.requires)

@@ -7,22 +7,22 @@ use Rattle.ac_noncontiguous.proofs.nfa.NFA.iter_trans.Goals as goal
 pub overflow_sub-end : goal.overflow_sub-end
 overflow_sub-end c =
     let a = c.args.self.now in
-    let h = below-kept a c.args.sid c.requires in
-    let from = ap (λ (s : State). s.transitions) (kept-read a.tables c.args.sid c.as_usize-at.result c.index.result.now h c.as_usize-at.ensures.value c.index.ensures) in
-    let end = ap (λ (s : State). s.transitions) (kept-read_next a.tables c.args.sid c.as_usize-at.result c.index-2.result.now h c.as_usize-at.ensures.value c.index-2.ensures) in
-    let up = kept-ordered a.tables c.args.sid h in
+    let h = below-kept a c.requires in
+    let from = ap (λ s. s.transitions) (kept-read h c.as_usize-at.ensures.value c.index.ensures) in
+    let end = ap (λ s. s.transitions) (kept-read_next h c.as_usize-at.ensures.value c.index-2.ensures) in
+    let up = kept-ordered h in
     omega (arith, from, end, up)
 
-pub part-requires : goal.part-requires
-part-requires c =
+pub slice_from-requires : goal.slice_from-requires
+slice_from-requires c =
     let a = c.args.self.now in
-    let h = below-kept a c.args.sid c.requires in
-    let from = ap (λ (s : State). s.transitions) (kept-read a.tables c.args.sid c.as_usize-at.result c.index.result.now h c.as_usize-at.ensures.value c.index.ensures) in
-    let end = ap (λ (s : State). s.transitions) (kept-read_next a.tables c.args.sid c.as_usize-at.result c.index-2.result.now h c.as_usize-at.ensures.value c.index-2.ensures) in
-    let up = kept-ordered a.tables c.args.sid h in
-    let within = kept-ends a.tables c.args.sid h in
+    let h = below-kept a c.requires in
+    let from = ap (λ s. s.transitions) (kept-read h c.as_usize-at.ensures.value c.index.ensures) in
+    let end = ap (λ s. s.transitions) (kept-read_next h c.as_usize-at.ensures.value c.index-2.ensures) in
+    let up = kept-ordered h in
+    let within = kept-ends h in
     let all = ap length c.deref.ensures.value in
     omega (arith, from, end, up, within, all)
 
 pub returns-clause-lead : goal.returns-clause-lead
-returns-clause-lead c = edges-lead c.args.self.now c.args.sid c.requires
+returns-clause-lead c = edges-lead c.args.sid c.requires

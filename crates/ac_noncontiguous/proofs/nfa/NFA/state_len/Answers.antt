@@ -3,4 +3,4 @@ use Rattle.ac_noncontiguous.proofs.nfa.ReadCallLemmas.{counts-in}
 use Rattle.ac_noncontiguous.proofs.nfa.NFA.state_len.Goals as goal
 
 pub returns-clause-counted : goal.returns-clause-counted
-returns-clause-counted c = counts-in c.args.self.now (c.len.result - 1) (omega (arith, c.len.ensures))
+returns-clause-counted c = counts-in (omega (arith, c.len.ensures))

@@ -2,4 +2,4 @@ use Rattle.ac_noncontiguous.proofs.nfa.ReadCallLemmas.{are-read}
 use Rattle.ac_noncontiguous.proofs.nfa.NFA.states_are_read.Goals as goal
 
 pub returns : goal.returns
-returns c = are-read c.args.self.now
+returns c = are-read

@@ -8,17 +8,20 @@ use Rattle.ac_noncontiguous.proofs.trie.Trie.add.Goals as goal
 pub returns-in-Some-clause-added : goal.returns-in-Some-clause-added
 returns-in-Some-clause-added c =
     IfOk-weaker c.note_end-in-Some.result _ _
-    (λ _ n m t. trie-entered m c.args.pattern.now c.args.self.now c.enter.new.self c.mark.new.self c.note_end-in-Some.new.self c.in-Some.id t (omega arith) (rw c.in-Some.is at c.in_ok-enter.ensures.ended) c.in_ok-enter.ensures.rest c.mark.ensures.marked c.mark.ensures.rest n)
+    (λ _ n m t. trie-entered c.args.pattern.now t (omega arith) (rw c.in-Some.is at c.in_ok-enter.ensures.ended)
+    c.in_ok-enter.ensures.rest c.mark.ensures.marked c.mark.ensures.rest n)
     c.note_end-in-Some.ensures.noted
 
 pub returns-in-None-clause-added : goal.returns-in-None-clause-added
 returns-in-None-clause-added c =
     IfOk-weaker c.note_end.result _ _
-    (λ _ n m t. trie-left_out m c.args.pattern.now c.args.self.now c.enter.new.self c.note_end.new.self t (omega arith) (rw c.in-None.is at c.in_ok-enter.ensures.ended) c.in_ok-enter.ensures.rest n)
+    (λ _ n m t. trie-left_out c.args.pattern.now t (omega arith) (rw c.in-None.is at c.in_ok-enter.ensures.ended)
+    c.in_ok-enter.ensures.rest n)
     c.note_end.ensures.noted
 
 pub returns-in_err-enter-clause-refused : goal.returns-in_err-enter-clause-refused
 returns-in_err-enter-clause-refused c =
     let p = err_from_is_err_and c.from_residual.result c.from_residual.ensures.1 in
     rw (p.1, p.2)
-    (λ m t. trie-stuck m c.args.pattern.now c.args.self.now c.in_err-enter.field-0.0 t (omega arith) (omega arith) c.in_err-enter.ensures.stuck)
+    (λ m t. trie-stuck c.args.pattern.now c.in_err-enter.field-0.0 t (omega arith) (omega arith)
+    c.in_err-enter.ensures.stuck)

@@ -12,76 +12,104 @@ use Rattle.ac_noncontiguous.proofs.trie.Trie.add_child.Goals.{then-eq, else-eq}
 
 pub overflow_add-state : goal.overflow_add-state
 overflow_add-state c =
-    let deep = depth-le c.args.self.now.states.items c.args.self.now.tree c.args.of c.args.of (omega arith) c.requires.within in
-    let was = ap (λ (s : State). s.depth) c.state.ensures in
+    let deep = depth-le c.args.self.now.states.items c.args.self.now.tree c.args.of (omega arith) c.requires.within in
+    let was = ap (λ s. s.depth) c.state.ensures in
     omega arith
 
 pub invariant_of-self-then-eq-clause-tree : goal.invariant_of-self-then-eq-clause-tree
 invariant_of-self-then-eq-clause-tree c =
     let old = c.args.self.now.states.items in
-    let pushed : c.push.new.self.items ≡ old ++ fresh c.args.of c.args.byte c.args.place.at (c.state.result.depth + 1) ∷ [] = search rules in
-    let deeper : c.state.result.depth + 1 ≡ depth old c.args.of + 1 = ap (λ (s : State). s.depth + 1) c.state.ensures in
+    let pushed : c.push.new.self.items
+    ≡ old ++ fresh c.args.of c.args.byte c.args.place.at (c.state.result.depth + 1) ∷ [] = search rules in
+    let deeper : c.state.result.depth + 1 ≡ depth old c.args.of + 1 = ap (λ s. s.depth + 1) c.state.ensures in
     let last : c.must-id.result ≡ length old = omega arith in
     let none : c.args.place.before ≡ 0 = grind (arith, nat_tests) in
-    let g = linked-child old _ _ c.args.of c.args.byte c.args.place.before c.args.place.at _ _ _ c.requires.within none pushed deeper c.as_usize.ensures.value last c.index_mut.ensures.value in
-    tree-grown old _ _ _ _ _ g c.args.self.now.tree c.requires.within c.requires.place c.requires.missing
+    let g = linked-child c.requires.within none pushed deeper c.as_usize.ensures.value last c.index_mut.ensures.value in
+    tree-grown g c.args.self.now.tree c.requires.within c.requires.place c.requires.missing
 
 pub invariant_of-self-else-eq-clause-tree : goal.invariant_of-self-else-eq-clause-tree
 invariant_of-self-else-eq-clause-tree c =
     let old = c.args.self.now.states.items in
-    let pushed : c.push.new.self.items ≡ old ++ fresh c.args.of c.args.byte c.args.place.at (c.state.result.depth + 1) ∷ [] = search rules in
-    let deeper : c.state.result.depth + 1 ≡ depth old c.args.of + 1 = ap (λ (s : State). s.depth + 1) c.state.ensures in
+    let pushed : c.push.new.self.items
+    ≡ old ++ fresh c.args.of c.args.byte c.args.place.at (c.state.result.depth + 1) ∷ [] = search rules in
+    let deeper : c.state.result.depth + 1 ≡ depth old c.args.of + 1 = ap (λ s. s.depth + 1) c.state.ensures in
     let last : c.must-id.result ≡ length old = omega arith in
     let some : 0 < c.args.place.before = grind (arith, nat_tests) in
     let w = c.requires.place.way.next some in
-    let g = linked-sibling old _ _ c.args.of c.args.byte c.args.place.before c.args.place.at _ _ _ c.requires.within w.0 some pushed deeper c.as_usize-else-eq.ensures.value last c.index_mut-else-eq.ensures.value in
-    tree-grown old _ _ _ _ _ g c.args.self.now.tree c.requires.within c.requires.place c.requires.missing
+    let g = linked-sibling c.requires.within w.0 some pushed deeper c.as_usize-else-eq.ensures.value last
+    c.index_mut-else-eq.ensures.value in
+    tree-grown g c.args.self.now.tree c.requires.within c.requires.place c.requires.missing
 
 pub returns-clause-added : goal.returns-clause-added
 returns-clause-added c =
     let old = c.args.self.now.states.items in
-    let pushed : c.push.new.self.items ≡ old ++ fresh c.args.of c.args.byte c.args.place.at (c.state.result.depth + 1) ∷ [] = search rules in
-    let deeper : c.state.result.depth + 1 ≡ depth old c.args.of + 1 = ap (λ (s : State). s.depth + 1) c.state.ensures in
+    let pushed : c.push.new.self.items
+    ≡ old ++ fresh c.args.of c.args.byte c.args.place.at (c.state.result.depth + 1) ∷ [] = search rules in
+    let deeper : c.state.result.depth + 1 ≡ depth old c.args.of + 1 = ap (λ s. s.depth + 1) c.state.ensures in
     let last : c.must-id.result ≡ length old = omega arith in
     elim c.if-eq.branch [
       | then-eq w ↦
           let none : c.args.place.before ≡ 0 = grind (arith, nat_tests) in
-          let g = linked-child old _ _ c.args.of c.args.byte c.args.place.before c.args.place.at _ _ _ c.requires.within none pushed deeper w.as_usize.ensures.value last w.index_mut.ensures.value in
-          let a = added-grown old _ _ _ _ _ _ g last in
-          subst (λ (xs : List State). IsAdded old xs c.args.of c.args.byte c.must-id.result) (sym (ap (λ (t : Trie). t.states.items) w.self-is)) a
+          let g = linked-child c.requires.within none pushed deeper w.as_usize.ensures.value last
+          w.index_mut.ensures.value in
+          let a = added-grown g last in
+          subst (λ xs. IsAdded old xs c.args.of c.args.byte c.must-id.result) (sym (ap (λ t. t.states.items) w.self-is))
+          a
       | else-eq w ↦
           let some : 0 < c.args.place.before = grind (arith, nat_tests) in
           let v = c.requires.place.way.next some in
-          let g = linked-sibling old _ _ c.args.of c.args.byte c.args.place.before c.args.place.at _ _ _ c.requires.within v.0 some pushed deeper w.as_usize-else-eq.ensures.value last w.index_mut-else-eq.ensures.value in
-          let a = added-grown old _ _ _ _ _ _ g last in
-          subst (λ (xs : List State). IsAdded old xs c.args.of c.args.byte c.must-id.result) (sym (ap (λ (t : Trie). t.states.items) w.self-is)) a
+          let g = linked-sibling c.requires.within v.0 some pushed deeper w.as_usize-else-eq.ensures.value last
+          w.index_mut-else-eq.ensures.value in
+          let a = added-grown g last in
+          subst (λ xs. IsAdded old xs c.args.of c.args.byte c.must-id.result) (sym (ap (λ t. t.states.items) w.self-is))
+          a
     ]
 
 pub returns-then-len-ge-MOST_STATES-clause-refused : goal.returns-then-len-ge-MOST_STATES-clause-refused
 returns-then-len-ge-MOST_STATES-clause-refused c =
-    rw c.state_id_overflow.ensures
-    (c.as_u64.ensures.value, omega (arith, c.as_u64.ensures.value), omega arith, no-such _ _ _ _ _ c.args.self.now.tree c.requires.within c.requires.place c.requires.missing)
+    rw c.state_id_overflow.ensures (
+      c.as_u64.ensures.value,
+      omega (arith, c.as_u64.ensures.value),
+      omega arith,
+      no-such c.args.self.now.tree c.requires.within c.requires.place c.requires.missing,
+    )
 
 pub invariant_of-self-then-eq-clause-few : goal.invariant_of-self-then-eq-clause-few
 invariant_of-self-then-eq-clause-few c =
-    let pushed : c.push.new.self.items ≡ c.args.self.now.states.items ++ fresh c.args.of c.args.byte c.args.place.at (c.state.result.depth + 1) ∷ [] = search rules in
-    let len : length c.push.new.self.items ≡ length c.args.self.now.states.items + 1 = ap length pushed ∙ length-append c.args.self.now.states.items (fresh c.args.of c.args.byte c.args.place.at (c.state.result.depth + 1) ∷ []) in
+    let pushed : c.push.new.self.items
+    ≡ c.args.self.now.states.items ++ fresh c.args.of c.args.byte c.args.place.at (c.state.result.depth + 1) ∷ [] =
+    search rules in
+    let len : length c.push.new.self.items ≡ length c.args.self.now.states.items + 1 = ap length pushed
+    ∙ length-append c.args.self.now.states.items
+    (fresh c.args.of c.args.byte c.args.place.at (c.state.result.depth + 1) ∷ []) in
     few-set _ _ _ (omega arith)
 
 pub invariant_of-self-else-eq-clause-few : goal.invariant_of-self-else-eq-clause-few
 invariant_of-self-else-eq-clause-few c =
-    let pushed : c.push.new.self.items ≡ c.args.self.now.states.items ++ fresh c.args.of c.args.byte c.args.place.at (c.state.result.depth + 1) ∷ [] = search rules in
-    let len : length c.push.new.self.items ≡ length c.args.self.now.states.items + 1 = ap length pushed ∙ length-append c.args.self.now.states.items (fresh c.args.of c.args.byte c.args.place.at (c.state.result.depth + 1) ∷ []) in
+    let pushed : c.push.new.self.items
+    ≡ c.args.self.now.states.items ++ fresh c.args.of c.args.byte c.args.place.at (c.state.result.depth + 1) ∷ [] =
+    search rules in
+    let len : length c.push.new.self.items ≡ length c.args.self.now.states.items + 1 = ap length pushed
+    ∙ length-append c.args.self.now.states.items
+    (fresh c.args.of c.args.byte c.args.place.at (c.state.result.depth + 1) ∷ []) in
     few-set _ _ _ (omega arith)
 
 pub invariant_of-self-then-eq-clause-placed : goal.invariant_of-self-then-eq-clause-placed
 invariant_of-self-then-eq-clause-placed c =
-    let pushed : c.push.new.self.items ≡ c.args.self.now.states.items ++ fresh c.args.of c.args.byte c.args.place.at (c.state.result.depth + 1) ∷ [] = search rules in
-    let len : length c.push.new.self.items ≡ length c.args.self.now.states.items + 1 = ap length pushed ∙ length-append c.args.self.now.states.items (fresh c.args.of c.args.byte c.args.place.at (c.state.result.depth + 1) ∷ []) in
-    ends-set _ (length c.args.self.now.states.items) _ _ _ (omega arith) c.args.self.now.placed
+    let pushed : c.push.new.self.items
+    ≡ c.args.self.now.states.items ++ fresh c.args.of c.args.byte c.args.place.at (c.state.result.depth + 1) ∷ [] =
+    search rules in
+    let len : length c.push.new.self.items ≡ length c.args.self.now.states.items + 1 = ap length pushed
+    ∙ length-append c.args.self.now.states.items
+    (fresh c.args.of c.args.byte c.args.place.at (c.state.result.depth + 1) ∷ []) in
+    ends-set _ _ _ _ (omega arith) c.args.self.now.placed
 
 pub invariant_of-self-else-eq-clause-placed : goal.invariant_of-self-else-eq-clause-placed
 invariant_of-self-else-eq-clause-placed c =
-    let pushed : c.push.new.self.items ≡ c.args.self.now.states.items ++ fresh c.args.of c.args.byte c.args.place.at (c.state.result.depth + 1) ∷ [] = search rules in
-    let len : length c.push.new.self.items ≡ length c.args.self.now.states.items + 1 = ap length pushed ∙ length-append c.args.self.now.states.items (fresh c.args.of c.args.byte c.args.place.at (c.state.result.depth + 1) ∷ []) in
-    ends-set _ (length c.args.self.now.states.items) _ _ _ (omega arith) c.args.self.now.placed
+    let pushed : c.push.new.self.items
+    ≡ c.args.self.now.states.items ++ fresh c.args.of c.args.byte c.args.place.at (c.state.result.depth + 1) ∷ [] =
+    search rules in
+    let len : length c.push.new.self.items ≡ length c.args.self.now.states.items + 1 = ap length pushed
+    ∙ length-append c.args.self.now.states.items
+    (fresh c.args.of c.args.byte c.args.place.at (c.state.result.depth + 1) ∷ []) in
+    ends-set _ _ _ _ (omega arith) c.args.self.now.placed

@@ -4,4 +4,4 @@ use Rattle.ac_noncontiguous.proofs.lemmas.OrderLemmas.{order-all}
 use Rattle.ac_noncontiguous.proofs.trie.Trie.breadth_first.Goals as goal
 
 pub returns : goal.returns
-returns c = order-all _ _ _ c.args.self.now.tree (omega arith) c.loop-depth.invariant
+returns c = order-all c.args.self.now.tree (omega arith) c.loop-depth.invariant

@@ -5,7 +5,7 @@ use Rattle.ac_noncontiguous.proofs.trie.ChildrenLemmas.{all-none, all-more}
 use Rattle.ac_noncontiguous.proofs.trie.Trie.children.Goals as goal
 
 pub loop-of-init : goal.loop-of-init
-loop-of-init c = all-none _ _ _ _ (search rules) (search rules) (search rules)
+loop-of-init c = all-none (search rules) (search rules) (search rules)
 
 pub push_children-requires-clause-before : goal.push_children-requires-clause-before
 push_children-requires-clause-before c = c.loop-of.invariant.bytes_are
@@ -13,6 +13,8 @@ push_children-requires-clause-before c = c.loop-of.invariant.bytes_are
 pub loop-of-preserved : goal.loop-of-preserved
 loop-of-preserved c =
     let states = c.args.self.now.states.items in
-    let more = subst (λ (z : ℕ). AppendsChildren states z c.loop-of.ids.items c.push_children.new.ids.items) c.must.ensures c.in_ok-push_children.ensures.children in
+    let more = subst (λ z. AppendsChildren states z c.loop-of.ids.items c.push_children.new.ids.items) c.must.ensures
+    c.in_ok-push_children.ensures.children in
     let long : c.len.result ≡ length c.push_children.new.ids.items = omega arith in
-    all-more states c.loop-of.of _ _ _ _ _ _ c.loop-of.invariant more c.in_ok-push_children.ensures.bytes (c.in_ok-push-2.ensures.items ∙ ap (λ (n : ℕ). c.loop-of.firsts.items ++ n ∷ []) long)
+    all-more c.loop-of.invariant more c.in_ok-push_children.ensures.bytes
+    (c.in_ok-push-2.ensures.items ∙ ap (λ n. c.loop-of.firsts.items ++ n ∷ []) long)

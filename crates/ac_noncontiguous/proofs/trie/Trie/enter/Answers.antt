@@ -8,27 +8,37 @@ use Rattle.ac_noncontiguous.proofs.trie.WalkLemmas.{walk-start, walk-step}
 use Rattle.ac_noncontiguous.proofs.trie.Trie.enter.Goals as goal
 
 pub loop-byte-init : goal.loop-byte-init
-loop-byte-init c = (search rules, walk-start _ _ _ c.args.self.now.tree)
+loop-byte-init c = (search rules, walk-start c.args.self.now.tree)
 
 pub loop-byte-preserved : goal.loop-byte-preserved
 loop-byte-preserved c =
     let kept = c.loop-byte.invariant.0 in
     let rest = c.in_ok-at.ensures.rest in
     let bytes = map (canonical c.args.self.now.pairing) c.args.pattern.now in
-    let more : c.loop-byte.byte-index < length bytes = omega (arith, length-map c.args.pattern.now (canonical c.args.self.now.pairing)) in
+    let more : c.loop-byte.byte-index < length bytes =
+    omega (arith, length-map c.args.pattern.now (canonical c.args.self.now.pairing)) in
     let low : c.canonical-byte.result ≡ get_or bytes c.loop-byte.byte-index 0 =
-    c.canonical-byte.ensures ∙ (ap (λ (p : List ℕ). canonical p (get_or c.args.pattern.now c.loop-byte.byte-index 0)) kept.pairing ∙ sym (get_or-map (canonical c.args.self.now.pairing) c.args.pattern.now c.loop-byte.byte-index 0 0 c.loop-byte-test.true)) in (
+    c.canonical-byte.ensures
+    ∙ (ap (λ p. canonical p (get_or c.args.pattern.now c.loop-byte.byte-index 0)) kept.pairing
+    ∙ sym (get_or-map (canonical c.args.self.now.pairing) c.args.pattern.now c.loop-byte.byte-index 0 0
+    c.loop-byte-test.true)) in (
       record { pairing = rest.pairing ∙ kept.pairing; kind = rest.kind ∙ kept.kind; ends = rest.ends ∙ kept.ends },
-      walk-step _ _ _ _ _ _ _ _ _ c.loop-byte.self.tree c.child_for.new.self.tree c.loop-byte.invariant.1 (λ first. c.is_shadowing.ensures.no c.if-is_shadowing.false (kept.kind ∙ first)) more low c.in_ok-at.ensures.step,
+      walk-step c.loop-byte.self.tree c.child_for.new.self.tree c.loop-byte.invariant.1
+          (λ first. c.is_shadowing.ensures.no c.if-is_shadowing.false (kept.kind ∙ first)) more low
+          c.in_ok-at.ensures.step,
     )
 
 pub returns-in_err-at-clause-stuck : goal.returns-in_err-at-clause-stuck
 returns-in_err-at-clause-stuck c =
     let kept = c.loop-byte.invariant.0 in
     let bytes = map (canonical c.args.self.now.pairing) c.args.pattern.now in
-    let more : c.loop-byte.byte-index < length bytes = omega (arith, length-map c.args.pattern.now (canonical c.args.self.now.pairing)) in
+    let more : c.loop-byte.byte-index < length bytes =
+    omega (arith, length-map c.args.pattern.now (canonical c.args.self.now.pairing)) in
     let low : c.canonical-byte.result ≡ get_or bytes c.loop-byte.byte-index 0 =
-    c.canonical-byte.ensures ∙ (ap (λ (p : List ℕ). canonical p (get_or c.args.pattern.now c.loop-byte.byte-index 0)) kept.pairing ∙ sym (get_or-map (canonical c.args.self.now.pairing) c.args.pattern.now c.loop-byte.byte-index 0 0 c.loop-byte-test.true)) in
+    c.canonical-byte.ensures
+    ∙ (ap (λ p. canonical p (get_or c.args.pattern.now c.loop-byte.byte-index 0)) kept.pairing
+    ∙ sym (get_or-map (canonical c.args.self.now.pairing) c.args.pattern.now c.loop-byte.byte-index 0 0
+    c.loop-byte-test.true)) in
     let p = err_from_is_err_and c.from_residual.result c.from_residual.ensures.1 in
     rw (p.1, p.2) (
       c.loop-byte.self.states.items,
@@ -38,5 +48,6 @@ returns-in_err-at-clause-stuck c =
       more,
       c.loop-byte.invariant.1,
       (λ first. c.is_shadowing.ensures.no c.if-is_shadowing.false (kept.kind ∙ first)),
-      subst (λ (b : ℕ). IsChildRefused c.loop-byte.self.states.items c.loop-byte.at b c.in_err-at.field-0.0) low c.in_err-at.ensures.refused,
+      subst (λ b. IsChildRefused c.loop-byte.self.states.items c.loop-byte.at b c.in_err-at.field-0.0) low
+          c.in_err-at.ensures.refused,
     )

@@ -11,9 +11,10 @@ told_by-told-requires-clause-within c = (c.loop-at.invariant.shallow c.in-Some.i
 pub returns-then-is_some-clause-leads : goal.returns-then-is_some-clause-leads
 returns-then-is_some-clause-leads c m t goes settled known =
     let at = c.loop-at.invariant.shallow c.in-Some.id c.in-Some.is in
-    let s = stands-of c.args.self.now m t in
-    told-returns m _ _ s goes c.args.byte c.args.from c.in-Some.id c.told_by-told.result at.0 settled
-    (sym c.is_some.ensures ∙ c.if-is_some.true) c.told_by-told.ensures (rw c.in-Some.is at (c.loop-at.invariant.follows m t goes settled known))
+    let s = stands-of t in
+    told-returns s goes c.args.from c.told_by-told.result at.0 settled
+    (sym c.is_some.ensures ∙ c.if-is_some.true) c.told_by-told.ensures
+    (rw c.in-Some.is at (c.loop-at.invariant.follows m t goes settled known))
 
 pub bounds-fails-as_usize : goal.bounds-fails-as_usize
 bounds-fails-as_usize c =
@@ -25,8 +26,10 @@ loop-at-smaller c =
     let fails = c.args.fails.now in
     let at = c.loop-at.invariant.shallow c.in-Some.id c.in-Some.is in
     let within : c.in-Some.id < length fails = omega (arith, at.0, c.requires.shallower.counted) in
-    let given : slice_get fails c.in-Some.id ≡ Some c.index-fails-as_usize.result = slice_get_read fails (length fails) c.in-Some.id c.index-fails-as_usize.result refl within (rw c.as_usize.ensures.value at c.index-fails-as_usize.is) in
-    left-less _ fails c.loop-at.at _ c.in-Some.id c.requires.shallower c.in-Some.is given
+    let given : slice_get fails c.in-Some.id
+    ≡ Some c.index-fails-as_usize.result = slice_get_read fails (length fails) c.in-Some.id
+    c.index-fails-as_usize.result refl within (rw c.as_usize.ensures.value at c.index-fails-as_usize.is) in
+    left-less c.loop-at.at _ c.requires.shallower c.in-Some.is given
 
 pub loop-at-preserved : goal.loop-at-preserved
 loop-at-preserved c =
@@ -34,12 +37,15 @@ loop-at-preserved c =
     let fails = c.args.fails.now in
     let at = c.loop-at.invariant.shallow c.in-Some.id c.in-Some.is in
     let within : c.in-Some.id < length fails = omega (arith, at.0, c.requires.shallower.counted) in
-    let given : slice_get fails c.in-Some.id ≡ Some c.index-fails-as_usize.result = slice_get_read fails (length fails) c.in-Some.id c.index-fails-as_usize.result refl within (rw c.as_usize.ensures.value at c.index-fails-as_usize.is) in
-    let untold : IsToldBy states c.in-Some.id c.args.byte None = subst (IsToldBy states c.in-Some.id c.args.byte) (none-of c.told_by-told.result (sym c.is_some.ensures ∙ c.if-is_some.false)) c.told_by-told.ensures in
+    let given : slice_get fails c.in-Some.id
+    ≡ Some c.index-fails-as_usize.result = slice_get_read fails (length fails) c.in-Some.id
+    c.index-fails-as_usize.result refl within (rw c.as_usize.ensures.value at c.index-fails-as_usize.is) in
+    let untold : IsToldBy states c.in-Some.id c.args.byte None = subst (IsToldBy states c.in-Some.id c.args.byte)
+    (none-of c.told_by-told.result (sym c.is_some.ensures ∙ c.if-is_some.false)) c.told_by-told.ensures in
     record {
-      shallow = failure-within states fails _ c.in-Some.id _ c.requires.shallower at.1 given;
+      shallow = failure-within c.in-Some.id c.requires.shallower at.1 given;
       follows = λ m t goes settled known.
-          let s = stands-of c.args.self.now m t in
-          follows-more m states _ fails s c.args.byte c.args.from c.in-Some.id _ at.0 at.1 settled known given untold
+          let s = stands-of t in
+          follows-more fails s c.args.from _ at.0 at.1 settled known given untold
           (rw c.in-Some.is at (c.loop-at.invariant.follows m t goes settled known));
     }

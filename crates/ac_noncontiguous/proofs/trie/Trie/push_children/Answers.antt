@@ -12,8 +12,9 @@ loop-at-init c =
     let states = c.args.self.now.states.items in (
       0,
       [],
-      subst (λ (z : ℕ). IsFirstChild (length states) (parent states) (byte states) c.args.of 0 z) (sym (ap (λ (s : State). s.child) c.state-at.ensures)) (c.args.self.now.tree.children c.args.of c.requires.within),
-      below-none _ _,
+      subst (λ z. IsFirstChild (length states) (parent states) (byte states) c.args.of 0 z)
+          (sym (ap (λ s. s.child) c.state-at.ensures)) (c.args.self.now.tree.children c.args.of c.requires.within),
+      below-none,
       sym (append-nil _),
       c.requires.before,
     )
@@ -29,14 +30,19 @@ loop-at-preserved c =
     let pushed = c.in_ok-push.ensures.items in (
       byte states at + 1,
       i.1 ++ at ∷ [],
-      subst (λ (z : ℕ). IsFirstChild (length states) (parent states) (byte states) c.args.of (byte states at + 1) z) (sym (ap (λ (s : State). s.sibling) c.state-state.ensures))
-          (subst (λ (p : ℕ). IsFirstChild (length states) (parent states) (byte states) p (byte states at + 1) (sibling states at)) h.1 (tree.siblings at some h.0)),
-      below-more states c.args.of i.0 at i.1 tree i.2 some i.3,
-      pushed ∙ (ap (λ (xs : List ℕ). xs ++ at ∷ []) i.4 ∙ append_assoc c.args.ids.now.items i.1 (at ∷ [])),
-      c.in_ok-push-2.ensures.items ∙ (ap (λ (xs : List ℕ). xs ++ c.state-state.result.byte ∷ []) i.5 ∙ (ap (λ (b : ℕ). map (byte states) c.loop-at.ids.items ++ b ∷ []) (ap (λ (s : State). s.byte) c.state-state.ensures) ∙ (sym (map-append (byte states) c.loop-at.ids.items (at ∷ [])) ∙ ap (map (byte states)) (sym pushed)))),
+      subst (λ z. IsFirstChild (length states) (parent states) (byte states) c.args.of (byte states at + 1) z)
+          (sym (ap (λ s. s.sibling) c.state-state.ensures))
+          (subst (λ p. IsFirstChild (length states) (parent states) (byte states) p (byte states at + 1)
+          (sibling states at)) h.1 (tree.siblings at some h.0)),
+      below-more tree i.2 some i.3,
+      pushed ∙ (ap (λ xs. xs ++ at ∷ []) i.4 ∙ append_assoc c.args.ids.now.items i.1 (at ∷ [])),
+      c.in_ok-push-2.ensures.items
+          ∙ (ap (λ xs. xs ++ c.state-state.result.byte ∷ []) i.5
+          ∙ (ap (λ b. map (byte states) c.loop-at.ids.items ++ b ∷ []) (ap (λ s. s.byte) c.state-state.ensures)
+          ∙ (sym (map-append (byte states) c.loop-at.ids.items (at ∷ [])) ∙ ap (map (byte states)) (sym pushed)))),
     )
 
 pub returns-clause-children : goal.returns-clause-children
 returns-clause-children c =
     let i = c.loop-at.invariant in
-    (i.1, below-all _ _ i.0 c.loop-at.at i.1 i.2 (grind (arith, nat_tests)) i.3, i.4)
+    (i.1, below-all i.2 (grind (arith, nat_tests)) i.3, i.4)

@@ -9,8 +9,15 @@ pub loop-at-init : goal.loop-at-init
 loop-at-init c =
     let o = c.requires.own in
     let first = c.args.own.now.first.items in
-    let read = get_or_read first c.as_usize.result c.index.result.now (omega (arith, o.lens.0, c.as_usize.ensures.value, c.requires.within)) c.index.ensures 0 ∙ ap (slice_index first) c.as_usize.ensures.value in
-    (0, [], subst (IsNextEnd c.args.self.now.ends.items c.args.id 0) (sym read) (o.firsts c.args.id c.requires.within), list-none _ _, sym (append-nil _))
+    let read = get_or_read first c.as_usize.result c.index.result.now
+    (omega (arith, o.lens.0, c.as_usize.ensures.value, c.requires.within)) c.index.ensures 0
+    ∙ ap (slice_index first) c.as_usize.ensures.value in (
+      0,
+      [],
+      subst (IsNextEnd c.args.self.now.ends.items c.args.id 0) (sym read) (o.firsts c.args.id c.requires.within),
+      list-none,
+      sym (append-nil _),
+    )
 
 pub loop-at-preserved : goal.loop-at-preserved
 loop-at-preserved c =
@@ -20,13 +27,15 @@ loop-at-preserved c =
     let n = c.loop-at.invariant.2 in
     let inside : at < length ends = omega arith in
     let o = c.requires.own in
-    let read = get_or_read c.args.own.now.next.items at c.index-in-loop-at.result.now (omega (arith, o.lens.1)) c.index-in-loop-at.ensures 0 in
-    let pushed : c.push.new.self.items ≡ c.loop-at.list.items ++ at ∷ [] = c.in_ok-push.ensures.items ∙ ap (λ (i : ℕ). c.loop-at.list.items ++ i ∷ []) c.must.ensures in (
+    let read = get_or_read c.args.own.now.next.items at c.index-in-loop-at.result.now (omega (arith, o.lens.1))
+    c.index-in-loop-at.ensures 0 in
+    let pushed : c.push.new.self.items ≡ c.loop-at.list.items ++ at ∷ [] = c.in_ok-push.ensures.items
+    ∙ ap (λ i. c.loop-at.list.items ++ i ∷ []) c.must.ensures in (
       at + 1,
       found ++ at ∷ [],
       subst (IsNextEnd ends c.args.id (at + 1)) (sym read) (o.nexts at c.args.id (omega arith) (n.found inside).1),
-      list-more ends c.args.id c.loop-at.invariant.0 at found n inside c.loop-at.invariant.3,
-      pushed ∙ (ap (λ (xs : List ℕ). xs ++ at ∷ []) c.loop-at.invariant.4 ∙ append_assoc c.args.list.now.items found (at ∷ [])),
+      list-more n inside c.loop-at.invariant.3,
+      pushed ∙ (ap (λ xs. xs ++ at ∷ []) c.loop-at.invariant.4 ∙ append_assoc c.args.list.now.items found (at ∷ [])),
     )
 
 pub loop-at-smaller : goal.loop-at-smaller
@@ -35,9 +44,12 @@ loop-at-smaller c =
     let at = c.loop-at.at in
     let inside : at < length ends = omega arith in
     let o = c.requires.own in
-    let read = get_or_read c.args.own.now.next.items at c.index-in-loop-at.result.now (omega (arith, o.lens.1)) c.index-in-loop-at.ensures 0 in
-    next-nearer ends c.args.id at _ inside (subst (IsNextEnd ends c.args.id (at + 1)) (sym read) (o.nexts at c.args.id (omega arith) (c.loop-at.invariant.2.found inside).1))
+    let read = get_or_read c.args.own.now.next.items at c.index-in-loop-at.result.now (omega (arith, o.lens.1))
+    c.index-in-loop-at.ensures 0 in
+    next-nearer inside
+    (subst (IsNextEnd ends c.args.id (at + 1)) (sym read)
+    (o.nexts at c.args.id (omega arith) (c.loop-at.invariant.2.found inside).1))
 
 pub returns : goal.returns
 returns c =
-    (c.loop-at.invariant.1, list-all c.args.self.now.ends.items c.args.id c.loop-at.invariant.0 c.loop-at.at c.loop-at.invariant.1 c.loop-at.invariant.2 (omega arith) c.loop-at.invariant.3, c.loop-at.invariant.4)
+    (c.loop-at.invariant.1, list-all c.loop-at.invariant.2 (omega arith) c.loop-at.invariant.3, c.loop-at.invariant.4)

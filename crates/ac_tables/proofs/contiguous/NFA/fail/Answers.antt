@@ -12,9 +12,12 @@ index-requires c =
 pub must-requires : goal.must-requires
 must-requires c =
     let a = c.args.self.now in
-    fail-small a c.args.sid c.index.result.now c.requires (fail-read a.table c.args.sid (c.as_usize.result + 1) c.index.result.now (omega (arith, c.as_usize.ensures.value)) c.index.ensures)
+    fail-small a c.args.sid c.index.result.now c.requires
+    (fail-read a.table c.args.sid (c.as_usize.result + 1) c.index.result.now (omega (arith, c.as_usize.ensures.value))
+    c.index.ensures)
 
 pub returns : goal.returns
 returns c = λ s h.
     let a = c.args.self.now in
-    c.must.ensures ∙ fail-read a.table c.args.sid (c.as_usize.result + 1) c.index.result.now (omega (arith, c.as_usize.ensures.value)) c.index.ensures s h
+    c.must.ensures ∙ fail-read a.table c.args.sid (c.as_usize.result + 1) c.index.result.now
+    (omega (arith, c.as_usize.ensures.value)) c.index.ensures s h

@@ -1,9 +1,10 @@
 use Rattle.ac_input.specs.Dictionary.{dictionary_of}
-use Rattle.ac_tables.proofs.contiguous.SkipLemmas.{start-place}
+use Rattle.ac_tables.proofs.contiguous.IdleLemmas.{start-place}
 use Rattle.ac_tables.proofs.contiguous.NFA.from_parts.Goals as goal
 
 pub starters-requires : goal.starters-requires
-starters-requires c = start-place (dictionary_of c.args.lens c.args.pairing c.args.kind) c.args.table c.args.rows c.requires.parts.stands
+starters-requires c =
+    start-place (dictionary_of c.args.lens c.args.pairing c.args.kind) c.args.table c.args.rows c.requires.parts.stands
 
 pub invariant_of-result-clause-idle : goal.invariant_of-result-clause-idle
 invariant_of-result-clause-idle c = ∣ c.starters.ensures ∣₁

@@ -1,29 +1,32 @@
 -- What is known after one more byte, and where reading on stops.
 use Rattle.std.proofs.Common.{arith}
-use Rattle.ac_automaton.specs.ReadOn.{is_between}
+use Rattle.ac_automaton.specs.Look.{is_between}
 use Rattle.ac_automaton.proofs.lemmas.CursorLemmas.{advanced-none, reached-on}
 use Rattle.ac_automaton.proofs.skip.ReadOnLemmas.{after-byte, reads-all}
-use Rattle.ac_tables.specs.Contiguous.ContiguousReads.{contiguous_built_as, IsContiguousRead}
+use Rattle.ac_tables.specs.Contiguous.Reads.{contiguous_built_as, IsContiguousRead}
 use Rattle.ac_tables.proofs.contiguous.NFA.read_words.Goals as goal
 
 pub loop-read-init : goal.loop-read-init
-loop-read-init c = let a = c.args.self.now in advanced-none (contiguous_built_as a) (IsContiguousRead a) c.args.anchored (is_between c.args.to) c.args.sid c.args.bytes.now c.args.steps.now
+loop-read-init c = let a = c.args.self.now in
+    advanced-none (contiguous_built_as a) (IsContiguousRead a) c.args.anchored (is_between c.args.to) c.args.sid
+    c.args.bytes.now c.args.steps.now
 
 pub look_up-current-requires : goal.look_up-current-requires
-look_up-current-requires c = reached-on (IsContiguousRead c.args.self.now c.args.anchored) c.args.sid _ c.loop-read.current c.requires c.loop-read.invariant.reads
+look_up-current-requires c =
+    reached-on (IsContiguousRead c.args.self.now c.args.anchored) c.args.sid _ c.loop-read.current c.requires
+    c.loop-read.invariant.reads
 
 pub returns-then-has : goal.returns-then-has
 returns-then-has c =
-    let a = c.args.self.now in
-    (after-byte (contiguous_built_as a) (IsContiguousRead a) c.args.anchored c.args.to c.args.sid c.args.bytes.now c.loop-read.read c.loop-read.current c.look_up-current.result c.has.result _ _ _ c.loop-read-test.true c.loop-read.invariant (λ text reads. reads.lives) c.look_up-current.ensures.next c.look_up-current.ensures.cost c.has.ensures).0 c.if-has.true
+    (after-byte c.loop-read-test.true c.loop-read.invariant c.look_up-current.ensures.next
+    c.look_up-current.ensures.cost c.has.ensures).0 c.if-has.true
 
 pub loop-read-preserved : goal.loop-read-preserved
 loop-read-preserved c =
-    let a = c.args.self.now in
-    (after-byte (contiguous_built_as a) (IsContiguousRead a) c.args.anchored c.args.to c.args.sid c.args.bytes.now c.loop-read.read c.loop-read.current c.look_up-current.result c.has.result _ _ _ c.loop-read-test.true c.loop-read.invariant (λ text reads. reads.lives) c.look_up-current.ensures.next c.look_up-current.ensures.cost c.has.ensures).1 c.if-has.false
+    (after-byte c.loop-read-test.true c.loop-read.invariant c.look_up-current.ensures.next
+    c.look_up-current.ensures.cost c.has.ensures).1 c.if-has.false
 
 pub returns : goal.returns
 returns c =
-    let a = c.args.self.now in
     let done = c.loop-read-test.false in
-    reads-all (contiguous_built_as a) (IsContiguousRead a) c.args.anchored c.args.to c.args.sid c.args.bytes.now c.loop-read.read _ c.loop-read.current _ _ (omega arith) (omega arith) c.loop-read.invariant
+    reads-all (omega arith) (omega arith) c.loop-read.invariant

@@ -1,7 +1,7 @@
 -- The words and the places are those of the automaton, and so are the states.
 use Rattle.std.proofs.Common.{◌≡◌, ◌<◌, ◌∙◌, slice_index, ap, subst, arith}
 use Rattle.std.proofs.lemmas.List.{get_or_read}
-use Rattle.ac_noncontiguous.specs.declared.nfa.read.Special.{Special}
+use Rattle.ac_noncontiguous.specs.declared.nfa.Special.{Special}
 use Rattle.ac_noncontiguous.specs.Nfa.ReadCalls.{state_len, special_in, OfTexts, AreBounds}
 use Rattle.ac_tables.specs.declared.contiguous.table.Table.{Table}
 use Rattle.ac_tables.proofs.contiguous.LaidRowLemmas.{places-rise}
@@ -10,11 +10,15 @@ use Rattle.ac_tables.proofs.contiguous.builder.lay.Goals as goal
 use Rattle.ac_tables.proofs.contiguous.StatesLemmas.{IsWordTableOf}
 
 pub rows_of-requires-clause-rise : goal.rows_of-requires-clause-rise
-rows_of-requires-clause-rise c = places-rise c.args.nfa.now c.args.dense_depth c.args.classes c.in_ok-layout.layout.places.items c.in_ok-layout.ensures.made
+rows_of-requires-clause-rise c =
+    places-rise c.args.nfa.now c.args.dense_depth c.args.classes c.in_ok-layout.layout.places.items
+    c.in_ok-layout.ensures.made
 
 pub rows_of-requires-clause-some : goal.rows_of-requires-clause-some
 rows_of-requires-clause-some c =
-    let bounds : OfTexts c.args.nfa.now (λ text. AreBounds c.args.nfa.now text (special_in c.args.nfa.now)) = subst (λ special. OfTexts c.args.nfa.now (λ text. AreBounds c.args.nfa.now text special)) c.special-special.ensures.value c.special-special.ensures.order in
+    let bounds : OfTexts c.args.nfa.now (λ text. AreBounds c.args.nfa.now text (special_in c.args.nfa.now)) = subst
+    (λ special. OfTexts c.args.nfa.now (λ text. AreBounds c.args.nfa.now text special)) c.special-special.ensures.value
+    c.special-special.ensures.order in
     let within = specials-within c.args.nfa.now c.special-special.ensures.whole.stand bounds in
     omega (arith, within.0, c.in_ok-layout.ensures.made.counted)
 
@@ -27,22 +31,37 @@ returns-clause-made c =
     let places = c.in_ok-layout.layout.places.items in
     let value = c.special-special.ensures.value in
     let whole = c.special-special.ensures.whole in
-    let bounds : OfTexts nfa (λ text. AreBounds nfa text (special_in nfa)) = subst (λ special. OfTexts nfa (λ text. AreBounds nfa text special)) value c.special-special.ensures.order in
+    let bounds : OfTexts nfa (λ text. AreBounds nfa text (special_in nfa)) =
+    subst (λ special. OfTexts nfa (λ text. AreBounds nfa text special)) value c.special-special.ensures.order in
     let within = specials-within nfa whole.stand bounds in
     let next = within.0 in
     let max = within.1 in
     let counted = h.counted in
     let start : (special_in nfa).start_unanchored_id < state_len nfa = omega (arith, next) in
-    let a : c.as_usize.result ≡ (special_in nfa).start_unanchored_id = c.as_usize.ensures.value ∙ ap (λ (s : Special). s.start_unanchored_id) value in
-    let b : c.as_usize-2.result ≡ (special_in nfa).start_anchored_id = c.as_usize-2.ensures.value ∙ ap (λ (s : Special). s.start_anchored_id) value in
-    let d : c.as_usize-3.result ≡ (special_in nfa).max_match_id = c.as_usize-3.ensures.value ∙ ap (λ (s : Special). s.max_match_id) value in
-    let read_a = get_or_read places c.as_usize.result c.index-start.result.now (omega (arith, a, start, counted)) c.index-start.ensures 0 in
-    let read_b = get_or_read places c.as_usize-2.result c.index-start_anchored.result.now (omega (arith, b, next, counted)) c.index-start_anchored.ensures 0 in
-    let read_d = get_or_read places c.as_usize-3.result c.index-max_match.result.now (omega (arith, d, max, counted)) c.index-max_match.ensures 0 in
+    let a : c.as_usize.result ≡ (special_in nfa).start_unanchored_id = c.as_usize.ensures.value
+    ∙ ap (λ s. s.start_unanchored_id) value in
+    let b : c.as_usize-2.result ≡ (special_in nfa).start_anchored_id = c.as_usize-2.ensures.value
+    ∙ ap (λ s. s.start_anchored_id) value in
+    let d : c.as_usize-3.result ≡ (special_in nfa).max_match_id = c.as_usize-3.ensures.value
+    ∙ ap (λ s. s.max_match_id) value in
+    let read_a = get_or_read places c.as_usize.result c.index-start.result.now (omega (arith, a, start, counted))
+    c.index-start.ensures 0 in
+    let read_b = get_or_read places c.as_usize-2.result c.index-start_anchored.result.now
+    (omega (arith, b, next, counted)) c.index-start_anchored.ensures 0 in
+    let read_d = get_or_read places c.as_usize-3.result c.index-max_match.result.now (omega (arith, d, max, counted))
+    c.index-max_match.ensures 0 in
     let at_a = ap (slice_index places) a ∙ h.at (special_in nfa).start_unanchored_id start in
     let at_b = ap (slice_index places) b ∙ h.at (special_in nfa).start_anchored_id next in
     let at_d = ap (slice_index places) d ∙ h.at (special_in nfa).max_match_id max in
-    let table : Table = record { words = c.in_ok-words.words; classes = classes; alphabet_len = c.alphabet_len.result; start = c.index-start.result.now; start_anchored = c.index-start_anchored.result.now; max_match = c.index-max_match.result.now } in
+    let table : Table =
+    record {
+      words = c.in_ok-words.words;
+      classes = classes;
+      alphabet_len = c.alphabet_len.result;
+      start = c.index-start.result.now;
+      start_anchored = c.index-start_anchored.result.now;
+      max_match = c.index-max_match.result.now;
+    } in
     let made : IsWordTableOf nfa depth table = record {
       words = c.in_ok-words.ensures.0;
       alphabet = c.alphabet_len.ensures.value;
@@ -55,7 +74,13 @@ returns-clause-made c =
     record {
       words = c.in_ok-words.ensures.0;
       small = places-small nfa depth classes places h;
-      stands = some-states nfa depth table c.in_ok-rows.rows places whole.stand whole.begin c.in_ok-words.ensures.1 bounds whole.paired c.requires.serve h made c.in_ok-rows.ensures.made;
-      rows = record { places = places; placed = h; asked = c.in_ok-rows.ensures.asked; taken = c.in_ok-rows.ensures.taken };
+      stands = some-states nfa depth table c.in_ok-rows.rows places whole.stand whole.begin c.in_ok-words.ensures.1
+          bounds whole.paired c.requires.serve h made c.in_ok-rows.ensures.made;
+      rows = record {
+        places = places;
+        placed = h;
+        asked = c.in_ok-rows.ensures.asked;
+        taken = c.in_ok-rows.ensures.taken;
+      };
       within = whole.within;
     }

@@ -1,6 +1,6 @@
 use Rattle.std.proofs.Common.{◌≡◌}
-use Rattle.ac_tables.specs.Contiguous.ContiguousTable.{len_before}
-use Rattle.ac_tables.specs.Contiguous.ContiguousBuild.{ArePlacesOf}
+use Rattle.ac_tables.specs.Contiguous.Table.{len_before}
+use Rattle.ac_tables.specs.Contiguous.Build.{ArePlacesOf}
 use Rattle.ac_tables.proofs.contiguous.places.lay_out.Given as goal
 
 -- the places so far, and how many words come before the next one

@@ -18,8 +18,12 @@ returns-clause-len c =
     let matches = length (matches_at nfa sid) in
     let count = λ (depth : ℕ). word_count classes (nat_lt depth c.args.dense_depth) edges matches in
     c.words_len.ensures.len
-    ∙ (ap (λ (n : ℕ). word_count n (nat_lt c.depth.result c.args.dense_depth) c.trans_len.result (length c.match_list.result.now)) c.alphabet_len.ensures.value
-    ∙ (ap (λ (n : ℕ). word_count classes (nat_lt c.depth.result c.args.dense_depth) n (length c.match_list.result.now)) c.trans_len.ensures
-    ∙ (ap (λ (ns : List ℕ). word_count classes (nat_lt c.depth.result c.args.dense_depth) edges (length ns)) c.match_list.ensures.value
+    ∙ (ap (λ n. word_count n (nat_lt c.depth.result c.args.dense_depth) c.trans_len.result
+    (length c.match_list.result.now)) c.alphabet_len.ensures.value
+    ∙ (ap (λ n. word_count classes (nat_lt c.depth.result c.args.dense_depth) n (length c.match_list.result.now))
+    c.trans_len.ensures
+    ∙ (ap (λ ns. word_count classes (nat_lt c.depth.result c.args.dense_depth) edges (length ns))
+    c.match_list.ensures.value
     ∙ (ap count c.depth.ensures.value
-    ∙ sym (cond-false (sid == 1) 0 (count (depth_in nfa sid)) (not-equal sid 1 (λ is. c.if-as_usize-eq-FAIL.false (c.as_usize.ensures.value ∙ is))))))))
+    ∙ sym (cond-false (sid == 1) 0 (count (depth_in nfa sid))
+    (not-equal sid 1 (λ is. c.if-as_usize-eq-FAIL.false (c.as_usize.ensures.value ∙ is))))))))

@@ -1,5 +1,5 @@
 use Rattle.std.proofs.Common.{◌≡◌, ◌+◌, ◌-◌, ◌/◌, ◌<◌, length, slice_index}
-use Rattle.ac_tables.specs.Contiguous.RowMemory.{index_block}
+use Rattle.ac_tables.specs.Contiguous.Filled.{index_block}
 use Rattle.ac_tables.proofs.contiguous.rows.index_of.Given as goal
 
 abbrev pub invariant-loop-row : goal.invariant-loop-row

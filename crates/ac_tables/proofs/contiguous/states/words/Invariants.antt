@@ -1,6 +1,6 @@
 use Rattle.std.proofs.Common.{◌≡◌}
-use Rattle.ac_tables.specs.Contiguous.ContiguousTable.{words_before}
-use Rattle.ac_tables.specs.Contiguous.ContiguousBuild.{IsKnown}
+use Rattle.ac_tables.specs.Contiguous.Table.{words_before}
+use Rattle.ac_tables.specs.Contiguous.Build.{IsKnown}
 use Rattle.ac_automaton.specs.Named.{nowhere}
 use Rattle.std.specs.Prelude.{ℕ}
 use Rattle.std.specs.Prelude.{◌≢◌}

@@ -13,9 +13,12 @@ loop-at-preserved c =
     let long = length-map edges (λ (e : ℕ × ℕ). e.0) in
     let word : c.word_of.result ≡ word_of (near cs at) (near cs (at + 1)) (near cs (at + 2)) (near cs (at + 3)) =
     c.word_of.ensures
-    ∙ ap (λ (n : ℕ). word_of n c.class_at-in-loop-at.result c.class_at-in-loop-at-2.result c.class_at-in-loop-at-3.result) c.class_at.ensures
-    ∙ ap (λ (n : ℕ). word_of (near cs at) n c.class_at-in-loop-at-2.result c.class_at-in-loop-at-3.result) c.class_at-in-loop-at.ensures
-    ∙ ap (λ (n : ℕ). word_of (near cs at) (near cs (at + 1)) n c.class_at-in-loop-at-3.result) c.class_at-in-loop-at-2.ensures
-    ∙ ap (λ (n : ℕ). word_of (near cs at) (near cs (at + 1)) (near cs (at + 2)) n) c.class_at-in-loop-at-3.ensures in
-    ap (λ (xs : List ℕ). xs ++ packed (drop (at + 4) cs)) c.in_ok-push.ensures.items
-    ∙ packed-more c.args.words.now.items c.loop-at.words.items cs at c.word_of.result (omega (arith, c.loop-at-test.true, long)) word c.loop-at.invariant
+    ∙ ap (λ n. word_of n c.class_at-in-loop-at.result c.class_at-in-loop-at-2.result c.class_at-in-loop-at-3.result)
+    c.class_at.ensures
+    ∙ ap (λ n. word_of (near cs at) n c.class_at-in-loop-at-2.result c.class_at-in-loop-at-3.result)
+    c.class_at-in-loop-at.ensures
+    ∙ ap (λ n. word_of (near cs at) (near cs (at + 1)) n c.class_at-in-loop-at-3.result) c.class_at-in-loop-at-2.ensures
+    ∙ ap (λ n. word_of (near cs at) (near cs (at + 1)) (near cs (at + 2)) n) c.class_at-in-loop-at-3.ensures in
+    ap (λ xs. xs ++ packed (drop (at + 4) cs)) c.in_ok-push.ensures.items
+    ∙ packed-more c.args.words.now.items c.loop-at.words.items cs at c.word_of.result
+    (omega (arith, c.loop-at-test.true, long)) word c.loop-at.invariant

@@ -14,7 +14,8 @@ index_mut-requires c =
     let j = c.loop-k.k - 1 in
     let some = c.loop-k-test.true in
     let lt : j < length edges = omega arith in
-    let small = All-get_or (λ (edge : ℕ × ℕ). edge.0 < c.args.alphabet_len) edges j c.index-edges-k.result lt c.requires in
+    let small =
+    All-get_or (λ (edge : ℕ × ℕ). edge.0 < c.args.alphabet_len) edges j c.index-edges-k.result lt c.requires in
     let row = map (next_by (drop c.loop-k.k edges)) (range_with_len 0 c.args.alphabet_len) in
     let long = length-append c.args.words.now.items row in
     let wide = length-map-range_with_len (next_by (drop c.loop-k.k edges)) 0 c.args.alphabet_len in
@@ -27,5 +28,8 @@ loop-k-preserved c =
     let j = c.loop-k.k - 1 in
     let some = c.loop-k-test.true in
     let lt : j < length edges = omega arith in
-    let small = All-get_or (λ (edge : ℕ × ℕ). edge.0 < c.args.alphabet_len) edges j c.index-edges-k.result lt c.requires in
-    row-back c.args.words.now.items c.loop-k.words.items edges j c.loop-k.k _ _ c.args.alphabet_len c.index-edges-k.result c.index-edges-k-in-loop-k.result (omega arith) lt small (omega (arith, c.len-row.ensures)) c.as_u32.ensures.value c.loop-k.invariant
+    let small =
+    All-get_or (λ (edge : ℕ × ℕ). edge.0 < c.args.alphabet_len) edges j c.index-edges-k.result lt c.requires in
+    row-back c.args.words.now.items c.loop-k.words.items edges j c.loop-k.k _ _ c.args.alphabet_len
+    c.index-edges-k.result c.index-edges-k-in-loop-k.result (omega arith) lt small (omega (arith, c.len-row.ensures))
+    c.as_u32.ensures.value c.loop-k.invariant

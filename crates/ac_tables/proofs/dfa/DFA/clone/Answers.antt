@@ -5,16 +5,17 @@ use Rattle.ac_input.specs.Dictionary.{Dictionary, dictionary_of}
 use Rattle.std.specs.Prelude.{IfSome}
 use Rattle.ac_literal.specs.Openings.{AreOpenings}
 use Rattle.ac_tables.specs.declared.dfa.table.Table.{Table}
-use Rattle.ac_tables.specs.Dfa.DfaReads.{dfa_dictionary}
-use Rattle.ac_tables.specs.Dfa.DfaTable.{AreDfaParts}
-use Rattle.ac_tables.proofs.dfa.DfaCopyLemmas.{copy-rows}
+use Rattle.ac_tables.specs.Dfa.Reads.{dfa_dictionary}
+use Rattle.ac_tables.specs.Dfa.Table.{AreDfaParts}
+use Rattle.ac_tables.proofs.dfa.CopyLemmas.{copy-rows}
 use Rattle.ac_tables.proofs.dfa.DFA.clone.Goals as goal
 
 pub from_parts-requires-clause-parts : goal.from_parts-requires-clause-parts
 from_parts-requires-clause-parts c =
     let a = c.args.self.now in
-    let same : dictionary_of c.in_ok-lens.lens a.pairing a.kind ≡ dfa_dictionary a = ap (λ (patterns : List (List ℕ)). dictionary_of patterns a.pairing a.kind) c.in_ok-lens.ensures in
-    subst (λ (m : Dictionary). AreDfaParts m c.in_ok-table.table c.in_ok-prefilter.prefilter) (sym same)
+    let same : dictionary_of c.in_ok-lens.lens a.pairing a.kind ≡ dfa_dictionary a =
+    ap (λ patterns. dictionary_of patterns a.pairing a.kind) c.in_ok-lens.ensures in
+    subst (λ m. AreDfaParts m c.in_ok-table.table c.in_ok-prefilter.prefilter) (sym same)
     (record {
       stands = copy-rows (dfa_dictionary a) a.table c.in_ok-table.table c.in_ok-table.ensures a.stands;
       held = λ f is. a.held f (sym (c.in_ok-prefilter.ensures ∙ c.as_ref.ensures.value) ∙ is);
@@ -24,18 +25,21 @@ from_parts-requires-clause-parts c =
 pub from_parts-requires-clause-opened : goal.from_parts-requires-clause-opened
 from_parts-requires-clause-opened c =
     let a = c.args.self.now in
-    subst (λ (patterns : List (List ℕ)). ∥ IfSome a.skips.openings (AreOpenings (dictionary_of patterns a.pairing a.kind)) ∥₁) (sym c.in_ok-lens.ensures) a.opened
+    subst (λ patterns. ∥ IfSome a.skips.openings (AreOpenings (dictionary_of patterns a.pairing a.kind)) ∥₁)
+    (sym c.in_ok-lens.ensures) a.opened
 
 pub returns : goal.returns
 returns c =
     let a = c.args.self.now in
     let made = c.from_parts.ensures in
     let table = c.in_ok-table.ensures in
-    let same : dictionary_of c.in_ok-lens.lens a.pairing a.kind ≡ dfa_dictionary a = ap (λ (patterns : List (List ℕ)). dictionary_of patterns a.pairing a.kind) c.in_ok-lens.ensures in
+    let same : dictionary_of c.in_ok-lens.lens a.pairing a.kind ≡ dfa_dictionary a =
+    ap (λ patterns. dictionary_of patterns a.pairing a.kind) c.in_ok-lens.ensures in
     record {
-      built = ap₂ (λ (m : Dictionary) (f : Option Filter). record { dictionary = m; deterministic = true; prefilter = f }) (made.dictionary ∙ same) (made.prefilter ∙ (c.in_ok-prefilter.ensures ∙ c.as_ref.ensures.value));
-      starts = ap (λ (t : Table). t.kind) made.table ∙ table.kind;
-      classes = ap (λ (t : Table). t.classes) made.table ∙ table.classes;
-      stride = ap (λ (t : Table). 2 ^ t.stride2) made.table ∙ ap (λ (e : ℕ). 2 ^ e) table.stride2;
-      transitions = ap (λ (t : Table). t.trans.items) made.table ∙ table.trans;
+      built = ap₂ (λ m f. record { dictionary = m; deterministic = true; prefilter = f }) (made.dictionary ∙ same)
+          (made.prefilter ∙ (c.in_ok-prefilter.ensures ∙ c.as_ref.ensures.value));
+      starts = ap (λ t. t.kind) made.table ∙ table.kind;
+      classes = ap (λ t. t.classes) made.table ∙ table.classes;
+      stride = ap (λ t. 2 ^ t.stride2) made.table ∙ ap (λ e. 2 ^ e) table.stride2;
+      transitions = ap (λ t. t.trans.items) made.table ∙ table.trans;
     }

@@ -9,4 +9,5 @@ pub returns-clause-fresh : goal.returns-clause-fresh
 returns-clause-fresh c =
     let inside = plan_of c.self.inside.stream c.self.inside.settings c.self.inside.rules.now in
     let serves = subst (λ finder. IsFinderOf inside.settings inside.rules finder) c.in-Automaton.is c.self.invariant in
-    listing-fresh c.in-Automaton.automaton inside c.args.self.now c.args.input.now _ _ _ c.self.view_is serves c.try_find_overlapping_iter.ensures.answer c.unwrap.ensures c.new.ensures
+    listing-fresh c.in-Automaton.automaton inside c.args.self.now c.args.input.now _ _ _ c.self.view_is serves
+    c.try_find_overlapping_iter.ensures.answer c.unwrap.ensures c.new.ensures

@@ -6,7 +6,9 @@ use Rattle.acsub.specs.Run.Transformed.{IsStreamed}
 use Rattle.acsub.proofs.prepared.Prepared.streamed.Goals as goal
 
 pub returns-then-is_streamed-clause-some : goal.returns-then-is_streamed-clause-some
-returns-then-is_streamed-clause-some c = subst (λ (plan : Plan). IsTrue true ↔ IsStreamed plan) c.self.view_is c.if-is_streamed.ensures
+returns-then-is_streamed-clause-some c =
+    subst (λ plan. IsTrue true ↔ IsStreamed plan) c.self.view_is c.if-is_streamed.ensures
 
 pub returns-else-is_streamed-clause-some : goal.returns-else-is_streamed-clause-some
-returns-else-is_streamed-clause-some c = subst (λ (plan : Plan). IsTrue false ↔ IsStreamed plan) c.self.view_is c.if-is_streamed.ensures
+returns-else-is_streamed-clause-some c =
+    subst (λ plan. IsTrue false ↔ IsStreamed plan) c.self.view_is c.if-is_streamed.ensures

@@ -1,17 +1,15 @@
 -- The builder has the default settings.
-use Rattle.std.proofs.Common.{sym, subst, ◌∙◌}
-use Rattle.std.proofs.lemmas.Result.{IfOk-weaker, IfErr-weaker}
-use Rattle.ac_input.specs.Same.{IsUnpaired}
-use Rattle.aho_corasick.proofs.lemmas.FrontLemmas.{built-by_default}
+use Rattle.std.proofs.lemmas.Result.{IfErr-weaker}
+use Rattle.aho_corasick.proofs.lemmas.FrontLemmas.{built-by_default, finds-by_default}
 use Rattle.aho_corasick.proofs.ahocorasick.AhoCorasick.from_patterns.Goals as goal
 
 pub returns : goal.returns
 returns g c =
     let made = c.build_from_patterns.result in
     let first = c.new.ensures in
-    let set = first.settings in
     record {
-      finds = IfOk-weaker made _ _ (λ ac is. (is.patterns, is.kind ∙ set.match_kind, subst IsUnpaired (sym is.pairing) set.pairing)) c.build_from_patterns.ensures.configured;
-      served = built-by_default c.new.result _ made first c.build_from_patterns.ensures.configured c.build_from_patterns.ensures.served;
-      refused = IfErr-weaker made _ _ (λ error refused. (c.new.result, first, refused)) c.build_from_patterns.ensures.refused;
+      finds = finds-by_default c.new.result _ made first c.build_from_patterns.ensures.served;
+      served = built-by_default c.new.result _ made first c.build_from_patterns.ensures.served;
+      refused =
+          IfErr-weaker made _ _ (λ error refused. (c.new.result, first, refused)) c.build_from_patterns.ensures.refused;
     }

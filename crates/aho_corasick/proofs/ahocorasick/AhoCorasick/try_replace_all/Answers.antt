@@ -7,4 +7,5 @@ use Rattle.aho_corasick.proofs.ahocorasick.AhoCorasick.try_replace_all.Goals as 
 
 pub returns-clause-replaced : goal.returns-clause-replaced
 returns-clause-replaced c =
-    if-replaced string_bytes text_matches_in (as_built c.args.self.now) (supported_by c.args.self.now) c.args.haystack.now c.args.replacements.now c.try_replace_all.result c.try_replace_all.ensures
+    if-replaced string_bytes text_matches_in (as_built c.args.self.now) (supported_by c.args.self.now)
+    c.args.haystack.now c.args.replacements.now c.try_replace_all.result c.try_replace_all.ensures

@@ -6,4 +6,5 @@ use Rattle.aho_corasick.proofs.ahocorasick.AhoCorasick.try_replace_all_bytes.Goa
 
 pub returns-clause-replaced : goal.returns-clause-replaced
 returns-clause-replaced c =
-    if-replaced (λ v. v.items) matches_in (as_built c.args.self.now) (supported_by c.args.self.now) c.args.haystack.now c.args.replacements.now c.try_replace_all_bytes.result c.try_replace_all_bytes.ensures
+    if-replaced (λ v. v.items) matches_in (as_built c.args.self.now) (supported_by c.args.self.now) c.args.haystack.now
+    c.args.replacements.now c.try_replace_all_bytes.result c.try_replace_all_bytes.ensures

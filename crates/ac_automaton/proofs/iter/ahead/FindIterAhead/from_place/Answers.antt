@@ -18,6 +18,8 @@ invariant_of-result g c =
       way,
       fresh-budget w (omega (arith, looked)) c.new.ensures.scanned c.new.ensures.moved,
       fresh-counts w here,
-      reads-fresh g.A.Automaton c.args.automaton.now c.reads_from-start.result input (min input.span.start input.span.end) c.none.result c.reads_from-start.ensures c.none.ensures.room c.none.ensures.none c.none.ensures.nothing,
+      reads-fresh g.A.Automaton c.args.automaton.now c.reads_from-start.result input
+          (min input.span.start input.span.end) c.none.result c.reads_from-start.ensures c.none.ensures.room
+          c.none.ensures.none c.none.ensures.nothing,
       let none = c.none.ensures.nothing in omega (arith, none),
     )

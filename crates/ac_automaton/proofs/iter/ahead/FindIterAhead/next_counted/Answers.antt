@@ -8,41 +8,96 @@ use Rattle.ac_automaton.proofs.iter.ahead.FindIterAhead.next_counted.Goals as go
 
 pub returns-in-Some-clause-gives : goal.returns-in-Some-clause-gives
 returns-in-Some-clause-gives g c =
-    let i = c.self.inside in
-    (pick-of_walk (g.A.Automaton.built i.automaton.now) i.first.value i.input i.last i.sums _ _ c.self.view_is c.next_pick_ahead-found.ensures.pick, search rules)
+    (pick-of_walk c.self.view_is c.next_pick_ahead-found.ensures.pick, search rules)
 
 pub returns-in-None-clause-gives : goal.returns-in-None-clause-gives
 returns-in-None-clause-gives g c =
-    let i = c.self.inside in
-    (pick-of_walk (g.A.Automaton.built i.automaton.now) i.first.value i.input i.last i.sums _ _ c.self.view_is c.next_pick_ahead-found.ensures.pick, search rules)
+    (pick-of_walk c.self.view_is c.next_pick_ahead-found.ensures.pick, search rules)
 
 pub returns-in-Some-clause-cost : goal.returns-in-Some-clause-cost
 returns-in-Some-clause-cost g c =
     let i = c.self.inside in
     let picked = c.next_pick_ahead-found.ensures in
-    let real = picked-ahead g.A.Automaton i.automaton.now i.start i.first.value i.input i.last c.next_pick_ahead-found.result i.sums c.add-2.new.self c.new-taken.result c.next_pick_ahead-found.new.steps picked.paid.0 i.ahead c.next_pick_ahead-found.new.ahead
-    c.self.invariant.1.begun (search rules) c.self.invariant.1.within.1 c.self.invariant.5 c.self.invariant.2 c.self.invariant.3 c.new-taken.ensures picked.paid.1 c.add-2.ensures picked.pick picked.paid.2.0 picked.paid.2.1 picked.reads in
+    let real = picked-ahead g.A.Automaton i.automaton.now i.start i.first.value i.input i.last
+    c.next_pick_ahead-found.result i.sums c.add-2.new.self c.new-taken.result c.next_pick_ahead-found.new.steps
+    picked.paid.0 i.ahead c.next_pick_ahead-found.new.ahead
+    c.self.invariant.1.begun (search rules) c.self.invariant.1.within.1 c.self.invariant.5 c.self.invariant.2
+    c.self.invariant.3 c.new-taken.ensures picked.paid.1 c.add-2.ensures picked.pick picked.paid.2.0 picked.paid.2.1
+    picked.reads in
     let b = g.A.Automaton.built i.automaton.now in
     let there = rw c.in-Some.is at real in
-    let rest = rest-is i.input c.next_pick_ahead-found.new.input c.set_start.new.self (Some c.in-Some.found) c.end.result picked.asked c.set_start.ensures c.end.ensures.value in
+    let rest = rest-is i.input c.next_pick_ahead-found.new.input c.set_start.new.self (Some c.in-Some.found)
+    c.end.result picked.asked c.set_start.ensures c.end.ensures.value in
     let v = λ (input : Asked) (n : ℕ). walk_at b i.first.value input (Some n) c.add-2.new.self in
-    let moved = λ (P : Walk → Type 0) (h : P (v (record i.input { span = record i.input.span { start = c.in-Some.found.end } }) c.in-Some.found.end)). subst (λ (input : Asked). P (v input c.end-in-Some.result)) (sym rest) (subst (λ (n : ℕ). P (v (record i.input { span = record i.input.span { start = c.in-Some.found.end } }) n)) (sym c.end-in-Some.ensures.value) h) in
-    rw (← c.self.view_is) ((c.next_pick_ahead-found.new.steps.looked.value, c.next_pick_ahead-found.new.steps.scanned.value, c.next_pick_ahead-found.new.steps.moved.value, c.add.ensures, c.add-2.ensures.looked, c.add-2.ensures.scanned, c.add-2.ensures.moved), moved IsWithinBudgetAhead there.0, moved CountsWalk there.1)
+    let moved =
+    λ (P : Walk → Type 0)
+    (h : P (v (record i.input { span = record i.input.span { start = c.in-Some.found.end } }) c.in-Some.found.end)).
+    subst (λ input. P (v input c.end-in-Some.result)) (sym rest)
+    (subst (λ n. P (v (record i.input { span = record i.input.span { start = c.in-Some.found.end } }) n))
+    (sym c.end-in-Some.ensures.value) h) in
+    rw (← c.self.view_is) (
+      (
+        c.next_pick_ahead-found.new.steps.looked.value,
+        c.next_pick_ahead-found.new.steps.scanned.value,
+        c.next_pick_ahead-found.new.steps.moved.value,
+        c.add.ensures,
+        c.add-2.ensures.looked,
+        c.add-2.ensures.scanned,
+        c.add-2.ensures.moved,
+      ),
+      moved IsWithinBudgetAhead there.0,
+      moved CountsWalk there.1,
+    )
 
 pub returns-in-None-clause-cost : goal.returns-in-None-clause-cost
 returns-in-None-clause-cost g c =
     let i = c.self.inside in
     let picked = c.next_pick_ahead-found.ensures in
-    let real = picked-ahead g.A.Automaton i.automaton.now i.start i.first.value i.input i.last c.next_pick_ahead-found.result i.sums c.add-2.new.self c.new-taken.result c.next_pick_ahead-found.new.steps picked.paid.0 i.ahead c.next_pick_ahead-found.new.ahead
-    c.self.invariant.1.begun (search rules) c.self.invariant.1.within.1 c.self.invariant.5 c.self.invariant.2 c.self.invariant.3 c.new-taken.ensures picked.paid.1 c.add-2.ensures picked.pick picked.paid.2.0 picked.paid.2.1 picked.reads in
+    let real = picked-ahead g.A.Automaton i.automaton.now i.start i.first.value i.input i.last
+    c.next_pick_ahead-found.result i.sums c.add-2.new.self c.new-taken.result c.next_pick_ahead-found.new.steps
+    picked.paid.0 i.ahead c.next_pick_ahead-found.new.ahead
+    c.self.invariant.1.begun (search rules) c.self.invariant.1.within.1 c.self.invariant.5 c.self.invariant.2
+    c.self.invariant.3 c.new-taken.ensures picked.paid.1 c.add-2.ensures picked.pick picked.paid.2.0 picked.paid.2.1
+    picked.reads in
     let b = g.A.Automaton.built i.automaton.now in
     let there = rw c.in-None.is at real in
-    let rest = rest-is i.input c.next_pick_ahead-found.new.input c.set_start-in-None.new.self None _ picked.asked c.set_start-in-None.ensures (ap (λ (n : ℕ). n + 1) (c.end-in-None.ensures.value ∙ ap (λ (input : Asked). input.span.end) picked.asked)) in
-    let moved = λ (P : Walk → Type 0) (h : P (walk_at b i.first.value (record i.input { span = record i.input.span { start = i.input.span.end + 1 } }) i.last c.add-2.new.self)). subst (λ (input : Asked). P (walk_at b i.first.value input i.last c.add-2.new.self)) (sym rest) h in
-    rw (← c.self.view_is) ((c.next_pick_ahead-found.new.steps.looked.value, c.next_pick_ahead-found.new.steps.scanned.value, c.next_pick_ahead-found.new.steps.moved.value, c.add.ensures, c.add-2.ensures.looked, c.add-2.ensures.scanned, c.add-2.ensures.moved), moved IsWithinBudgetAhead there.0, moved CountsWalk there.1)
+    let rest = rest-is i.input c.next_pick_ahead-found.new.input c.set_start-in-None.new.self None _ picked.asked
+    c.set_start-in-None.ensures
+    (ap (λ n. n + 1) (c.end-in-None.ensures.value ∙ ap (λ input. input.span.end) picked.asked)) in
+    let moved =
+    λ (P : Walk → Type 0)
+    (h : P (walk_at b i.first.value (record i.input { span = record i.input.span { start = i.input.span.end + 1 } })
+    i.last c.add-2.new.self)). subst (λ input. P (walk_at b i.first.value input i.last c.add-2.new.self)) (sym rest)
+    h in
+    rw (← c.self.view_is) (
+      (
+        c.next_pick_ahead-found.new.steps.looked.value,
+        c.next_pick_ahead-found.new.steps.scanned.value,
+        c.next_pick_ahead-found.new.steps.moved.value,
+        c.add.ensures,
+        c.add-2.ensures.looked,
+        c.add-2.ensures.scanned,
+        c.add-2.ensures.moved,
+      ),
+      moved IsWithinBudgetAhead there.0,
+      moved CountsWalk there.1,
+    )
 
 pub returns-then-is_done-clause-cost : goal.returns-then-is_done-clause-cost
 returns-then-is_done-clause-cost g c =
     let i = c.self.inside in
-    let real = walk-ahead g.A.Automaton i.automaton.now i.start i.first.value i.input i.last i.sums i.ahead c.self.invariant.1.begun c.self.invariant.1.within.1 c.self.invariant.5 c.self.invariant.2 c.self.invariant.3 c.self.invariant.4 in
-    rw (← c.self.view_is) ((0, 0, 0, record { looked = sym (add-zero _); scanned = sym (add-zero _); moved = sym (add-zero _) }, sym (add-zero _), sym (add-zero _), sym (add-zero _)), real.0, real.1)
+    let real = walk-ahead g.A.Automaton i.start i.ahead c.self.invariant.1.begun c.self.invariant.1.within.1
+    c.self.invariant.5 c.self.invariant.2 c.self.invariant.3 c.self.invariant.4 in
+    rw (← c.self.view_is) (
+      (
+        0,
+        0,
+        0,
+        record { looked = sym (add-zero _); scanned = sym (add-zero _); moved = sym (add-zero _) },
+        sym (add-zero _),
+        sym (add-zero _),
+        sym (add-zero _),
+      ),
+      real.0,
+      real.1,
+    )

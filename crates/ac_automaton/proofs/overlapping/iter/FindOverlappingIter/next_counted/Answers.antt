@@ -11,12 +11,17 @@ use Rattle.ac_automaton.proofs.overlapping.iter.FindOverlappingIter.next_counted
 use Rattle.ac_automaton.proofs.overlapping.iter.FindOverlappingIter.next_counted.Goals as goal
 
 -- what the call leaves
-ran : (g : Over) (c : After-add-2 g) → HasRun g.A.Automaton c.self.inside.automaton.now c.self.inside.input c.self.inside.shown.value c.show_next-shown.result c.with_found-self-inside.result.value c.add.new.self c.show_next-shown.new.ahead
+ran : (g : Over) (c : After-add-2 g)
+    → HasRun g.A.Automaton c.self.inside.automaton.now c.self.inside.input c.self.inside.shown.value
+    c.show_next-shown.result c.with_found-self-inside.result.value c.add.new.self c.show_next-shown.new.ahead
 ran g c =
     let i = c.self.inside in
     let inv = c.self.invariant in
     let shown = c.show_next-shown in
-    run-on g.A.Automaton i.automaton.now i.input i.place i.shown.value shown.result c.with_found-self-inside.result.value i.sums c.add.new.self c.new-done.result shown.new.steps i.ahead shown.new.ahead inv.3 inv.4 inv.6 shown.ensures.shows shown.ensures.paid c.new-done.ensures c.add.ensures c.with_found-self-inside.ensures
+    run-on g.A.Automaton i.automaton.now i.input i.place i.shown.value shown.result
+    c.with_found-self-inside.result.value i.sums c.add.new.self c.new-done.result shown.new.steps i.ahead
+    shown.new.ahead inv.3 inv.4 inv.6 shown.ensures.shows shown.ensures.paid c.new-done.ensures c.add.ensures
+    c.with_found-self-inside.ensures
 
 pub invariant_of-self : goal.invariant_of-self
 invariant_of-self g c =
@@ -31,7 +36,8 @@ returns-clause-gives g c =
     let n : ℕ = i.shown.value in
     let r = c.show_next-shown.result.found in
     let yields = yields-next L n r (ran g c).shows.0 in
-    let counted = subst (λ (k : ℕ). MatchOption r ((drop n L ≡ []) × (drop k L ≡ [])) (λ o. drop n L ≡ o ∷ drop k L)) (sym c.with_found-self-inside.ensures) yields in
+    let counted = subst (λ k. MatchOption r ((drop n L ≡ []) × (drop k L ≡ [])) (λ o. drop n L ≡ o ∷ drop k L))
+    (sym c.with_found-self-inside.ensures) yields in
     (rw (← c.self.view_is) counted, search rules)
 
 pub returns-clause-cost : goal.returns-clause-cost
@@ -43,13 +49,16 @@ returns-clause-cost g c =
     let run = ran g c in
     let b = g.A.Automaton.built a in
     let s = searched b i.input in
-    let lives = g.met.A.Automaton.lives a i.input.anchored in
-    let work = stands-work (g.A.Automaton.Reaches a i.input.anchored) (g.A.Automaton.matches a) b.dictionary b.deterministic s shown.result.place c.with_found-self-inside.result.value (less_ahead c.add.new.self shown.new.ahead) lives run.stands in
-    let looks = run-looks i.reads_ahead g.A.Automaton a i.input shown.result.place c.with_found-self-inside.result.value c.add.new.self shown.new.ahead inv.0 lives run.stands shown.ensures.ahead in
+    let work = stands-work (g.A.Automaton.Reaches a i.input.anchored) (g.A.Automaton.matches a) b.dictionary
+    b.deterministic s shown.result.place c.with_found-self-inside.result.value
+    (less_ahead c.add.new.self shown.new.ahead) run.stands in
+    let looks = run-looks i.reads_ahead g.A.Automaton a i.input shown.result.place c.with_found-self-inside.result.value
+    c.add.new.self shown.new.ahead inv.0 run.stands shown.ensures.ahead in
     let come = come-shown b i.input shown.result.place shown.result.found inv.1 run.shows.2 in (
       search rules,
       record { looked = looks.0; scanned = work.scanned; moved = work.moved },
-      subst (λ (at : ℕ). c.add.new.self.looked.value ≤ lookups_per_byte b.deterministic * (at - i.input.span.start) + most_ahead) come looks.1,
+      subst (λ at. c.add.new.self.looked.value
+          ≤ lookups_per_byte b.deterministic * (at - i.input.span.start) + most_ahead) come looks.1,
     )
 
 pub returns-clause-counted : goal.returns-clause-counted
@@ -58,4 +67,5 @@ returns-clause-counted g c =
     let b = g.A.Automaton.built i.automaton.now in
     let shown = c.show_next-shown in
     let run = ran g c in
-    less-counted b i.input _ c.add.new.self shown.new.ahead (shown-counted b i.input shown.result (less_ahead c.add.new.self shown.new.ahead) run.counted run.shows.2)
+    less-counted b i.input _ c.add.new.self shown.new.ahead
+    (shown-counted b i.input shown.result (less_ahead c.add.new.self shown.new.ahead) run.counted run.shows.2)

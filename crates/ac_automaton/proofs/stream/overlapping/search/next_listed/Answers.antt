@@ -14,19 +14,32 @@ returns-then-place-clause-lists g c = (
   λ s is.
       let a = c.args.automaton.now in
       let given = c.give.ensures in
-      gives-next (g.A.Automaton.Reaches a No) (g.A.Automaton.matches a) (g.A.Automaton.built a) s c.args.place.now c.args.held.now c.give.result given.0 c.args.steps.now
-      (g.met.A.Automaton.tells a No) (g.met.A.Automaton.lives a No) is given.1 given.2 given.3 given.4,
+      gives-next (g.A.Automaton.Reaches a No) (g.A.Automaton.matches a) (g.A.Automaton.built a) s c.args.place.now
+      c.args.held.now c.give.result given.0 c.args.steps.now
+      (g.met.A.Automaton.tells a No) is given.1 given.2 given.3 given.4,
 )
 
 pub returns-then-place-clause-ahead : goal.returns-then-place-clause-ahead
-returns-then-place-clause-ahead g c = subst (λ (there : ListPlace). IsAheadFor g.A.Automaton c.args.automaton.now c.args.held.now there c.args.ahead.now) (sym c.give.ensures.2) c.requires.ahead
+returns-then-place-clause-ahead g c =
+    subst (λ there. IsAheadFor g.A.Automaton c.args.automaton.now c.args.held.now there c.args.ahead.now)
+    (sym c.give.ensures.2) c.requires.ahead
 
 pub give-requires-then-there : goal.give-requires-then-there
 give-requires-then-there g c =
     let a = c.args.automaton.now in
     let is = c.requires.stands.1 in
-    let reads = c.read_on-there.ensures.reads in
-    ((c.args.held.now, (_, listed-there (g.A.Automaton.Reaches a No) (g.A.Automaton.matches a) (g.A.Automaton.built a) c.requires.stands.0 c.args.place.now c.read_on-there.result c.args.held.now _ reads.0 is (reads.2 _ is))), c.if-there.true)
+    let reads = c.read_on-there.ensures.reads in (
+      (
+        c.args.held.now,
+        (
+          _,
+          listed-there (g.A.Automaton.Reaches a No) (g.A.Automaton.matches a) (g.A.Automaton.built a)
+              c.requires.stands.0
+              c.args.place.now c.read_on-there.result c.args.held.now _ reads.0 is (reads.2 _ is),
+        ),
+      ),
+      c.if-there.true,
+    )
 
 pub returns-then-there-clause-lists : goal.returns-then-there-clause-lists
 returns-then-there-clause-lists g c =
@@ -37,13 +50,20 @@ returns-then-there-clause-lists g c =
       reads.1,
       λ s is.
           let on = reads.2 s is in
-          lists-there (g.A.Automaton.Reaches a No) (g.A.Automaton.matches a) s c.args.place.now c.read_on-there.result c.give-then-there.result _ _ reads.0 on c.if-there.true given.1
-          (gives-next (g.A.Automaton.Reaches a No) (g.A.Automaton.matches a) (g.A.Automaton.built a) _ c.read_on-there.result c.args.held.now c.give-then-there.result given.0 reads.0
-          (g.met.A.Automaton.tells a No) (g.met.A.Automaton.lives a No) (listed-there (g.A.Automaton.Reaches a No) (g.A.Automaton.matches a) (g.A.Automaton.built a) s c.args.place.now c.read_on-there.result c.args.held.now _ reads.0 is on) given.1 given.2 given.3 given.4),
+          lists-there (g.A.Automaton.Reaches a No) (g.A.Automaton.matches a) s c.args.place.now c.read_on-there.result
+          c.give-then-there.result _ _ reads.0 is.stands.course on c.if-there.true given.1
+          (gives-next (g.A.Automaton.Reaches a No) (g.A.Automaton.matches a) (g.A.Automaton.built a) _
+          c.read_on-there.result c.args.held.now c.give-then-there.result given.0 reads.0
+          (g.met.A.Automaton.tells a No)
+          (listed-there (g.A.Automaton.Reaches a No) (g.A.Automaton.matches a) (g.A.Automaton.built a) s
+          c.args.place.now
+          c.read_on-there.result c.args.held.now _ reads.0 is on) given.1 given.2 given.3 given.4),
     )
 
 pub returns-then-there-clause-ahead : goal.returns-then-there-clause-ahead
-returns-then-there-clause-ahead g c = subst (λ (there : ListPlace). IsAheadFor g.A.Automaton c.args.automaton.now c.args.held.now there c.read_on-there.new.ahead) (sym c.give-then-there.ensures.2) c.read_on-there.ensures.ahead
+returns-then-there-clause-ahead g c =
+    subst (λ there. IsAheadFor g.A.Automaton c.args.automaton.now c.args.held.now there c.read_on-there.new.ahead)
+    (sym c.give-then-there.ensures.2) c.read_on-there.ensures.ahead
 
 pub returns-clause-lists : goal.returns-clause-lists
 returns-clause-lists g c =
@@ -51,5 +71,6 @@ returns-clause-lists g c =
     let reads = c.read_on-there.ensures.reads in (
       reads.0,
       reads.1,
-      λ s is. lists-none (g.A.Automaton.Reaches a No) (g.A.Automaton.matches a) s c.args.place.now c.read_on-there.result _ reads.0 (reads.2 s is) (omega (arith, c.if-there.false)),
+      λ s is. lists-none (g.A.Automaton.Reaches a No) (g.A.Automaton.matches a) s c.args.place.now
+          c.read_on-there.result _ reads.0 is.stands.course (reads.2 s is) (omega (arith, c.if-there.false)),
     )

@@ -1,11 +1,20 @@
 -- A search reads on to the next state that matches.
-use Rattle.std.proofs.Common.{◌≡◌, ◌+◌, ◌-◌, ℕ, None, subst, arith}
+use Rattle.std.proofs.Common.{◌≡◌, ◌≤◌, ◌+◌, ◌-◌, ℕ, None, subst, arith}
 use Rattle.ac_input.specs.Number.{StateID}
 use Rattle.ac_input.specs.declared.search.Anchored.TheVariants.{No}
 use Rattle.ac_automaton.specs.FindAhead.{IsAheadOf}
+use Rattle.ac_automaton.proofs.lemmas.CursorLemmas.{reached-on, reached-state}
 use Rattle.ac_automaton.proofs.overlapping.OverlappingAheadLemmas.{onward-stays, settles-none}
 use Rattle.ac_automaton.proofs.stream.StreamListingLemmas.{reads-nothing, reads-on}
 use Rattle.ac_automaton.proofs.stream.overlapping.search.read_on.Goals as goal
+
+pub list_len-requires : goal.list_len-requires
+list_len-requires g c =
+    let R = g.A.Automaton.Reaches c.args.automaton.now in
+    let stop = c.advance_to_match-stop in
+    reached-state R No stop.result.sid
+    (reached-on (R No) c.args.place.now.sid _ stop.result.sid ∣ (_, c.requires.stands.1.stands.reads) ∣₁
+    stop.ensures.goes.reads)
 
 pub returns-then-from-held-clause-reads : goal.returns-then-from-held-clause-reads
 returns-then-from-held-clause-reads g c = (
@@ -13,7 +22,8 @@ returns-then-from-held-clause-reads g c = (
   settles-none c.args.ahead.now c.args.steps.now,
   λ s is.
       let a = c.args.automaton.now in
-      reads-nothing (g.A.Automaton.Reaches a No) (g.A.Automaton.matches a) (g.A.Automaton.built a) s c.args.place.now c.args.held.now c.args.steps.now is c.requires.given c.if-from-held.true,
+      reads-nothing (g.A.Automaton.Reaches a No) (g.A.Automaton.matches a) (g.A.Automaton.built a) s c.args.place.now
+      c.args.held.now c.args.steps.now is c.requires.given c.if-from-held.true,
 )
 
 pub returns-clause-reads : goal.returns-clause-reads
@@ -24,8 +34,10 @@ returns-clause-reads g c =
       cost.0,
       cost.1,
       λ s is.
-          reads-on (g.A.Automaton.Reaches a) (g.A.Automaton.matches a) (g.A.Automaton.built a) s c.args.place.now c.args.held.now stop.result c.list_len.result c.args.steps.now cost.0
-          (g.met.A.Automaton.tells a No) (g.met.A.Automaton.lives a No) is c.requires.given c.if-from-held.false stop.ensures.goes cost.2 c.list_len.ensures (omega (arith, c.list_len.type_inv)),
+          reads-on (g.A.Automaton.Reaches a) (g.A.Automaton.matches a) (g.A.Automaton.built a) s c.args.place.now
+          c.args.held.now stop.result c.list_len.result c.args.steps.now cost.0
+          (g.met.A.Automaton.tells a No) is c.requires.given c.if-from-held.false stop.ensures.goes cost.2
+          c.list_len.ensures (omega (arith, c.list_len.type_inv)),
     )
 
 pub returns-clause-ahead : goal.returns-clause-ahead
@@ -33,7 +45,11 @@ returns-clause-ahead g c =
     let a = c.args.automaton.now in
     let stop = c.advance_to_match-stop in
     let place = c.args.place.now in
-    let from = c.requires.stands.1.stands.from in
-    let at : place.at - place.from + stop.result.taken ≡ place.at + stop.result.taken - place.from = omega (arith, from) in
-    subst (λ (n : ℕ). IsAheadOf g.A.Automaton a None c.args.held.now n stop.result.sid stop.new.ahead) at
-    (subst (λ (sid : StateID). IsAheadOf g.A.Automaton a None c.args.held.now (place.at - place.from + stop.result.taken) sid stop.new.ahead) (onward-stays (g.A.Automaton.matches a) stop.result.sid) stop.ensures.ahead)
+    let stands = c.requires.stands.1.stands in
+    let behind = stands.course.kept.1 in
+    let from : place.from ≤ place.at = omega (arith, behind, stands.from, stands.at) in
+    let at : place.at - place.from + stop.result.taken ≡ place.at + stop.result.taken - place.from =
+    omega (arith, from) in
+    subst (λ n. IsAheadOf g.A.Automaton a None c.args.held.now n stop.result.sid stop.new.ahead) at
+    (subst (λ sid. IsAheadOf g.A.Automaton a None c.args.held.now (place.at - place.from + stop.result.taken) sid
+    stop.new.ahead) (onward-stays (g.A.Automaton.matches a) stop.result.sid) stop.ensures.ahead)

@@ -4,4 +4,5 @@ use Rattle.ac_automaton.specs.Automaton.{Built}
 use Rattle.ac_automaton.proofs.stream.replacer.StreamReplacer.next_counted.Goals as goal
 
 pub bytes-requires-clause-one_each : goal.bytes-requires-clause-one_each
-bytes-requires-clause-one_each g c = c.requires.one_each ∙ ap (λ (b : Built). length b.dictionary.patterns) (sym (c.in_ok-slice.ensures.advances.0 []).same.built)
+bytes-requires-clause-one_each g c =
+    c.requires.one_each ∙ ap (λ b. length b.dictionary.patterns) (sym (c.in_ok-slice.ensures.advances.0 []).same.built)

@@ -1,5 +1,4 @@
 -- A search that has read nothing stands in the start state, and its buffer holds nothing.
-use Rattle.std.proofs.Common.{[]}
 use Rattle.ac_input.specs.declared.search.Anchored.TheVariants.{No}
 use Rattle.ac_automaton.proofs.stream.StreamAheadLemmas.{fresh-kept}
 use Rattle.ac_automaton.proofs.stream.StreamSearchLemmas.{fresh-right, fresh-view}
@@ -10,11 +9,18 @@ invariant_of-result g c =
     let a = c.args.automaton in
     let start = c.args.start in
     let begins = c.requires.starts in
-    let right = fresh-right (g.A.Automaton.built a) (g.A.Automaton.Reaches a No) start c.max_pattern_len.result c.zero.result.value c.in_ok-buffer.buffer c.requires.filled begins (g.met.A.Automaton.pairs a No [] start begins) (g.met.A.Automaton.lives a No [] start begins) c.max_pattern_len.ensures c.zero.ensures c.in_ok-buffer.ensures.fresh c.in_ok-buffer.ensures.paid in
-    fresh-kept g.A.Automaton a start c.max_pattern_len.result c.in_ok-buffer.buffer c.none.result c.zero.result c.empty.result c.new-2.result right c.empty.ensures c.zero.ensures c.in_ok-buffer.ensures.fresh c.new-2.ensures c.none.ensures.room c.none.ensures.none c.none.ensures.nothing
+    let right = fresh-right (g.A.Automaton.built a) (g.A.Automaton.Reaches a No) start c.max_pattern_len.result
+    c.zero.result.value c.in_ok-buffer.buffer c.requires.filled begins c.max_pattern_len.ensures c.zero.ensures
+    c.in_ok-buffer.ensures.fresh c.in_ok-buffer.ensures.paid in
+    fresh-kept g.A.Automaton a start c.max_pattern_len.result c.in_ok-buffer.buffer c.none.result c.zero.result
+    c.empty.result c.new-2.result right c.empty.ensures c.zero.ensures c.in_ok-buffer.ensures.fresh c.new-2.ensures
+    c.none.ensures.room c.none.ensures.none c.none.ensures.nothing
 
 pub returns-clause-fresh : goal.returns-clause-fresh
-returns-clause-fresh g c = fresh-view (g.A.Automaton.built c.args.automaton) c.empty.result.items c.zero.result.value c.args.start c.max_pattern_len.result c.in_ok-buffer.buffer c.new-2.result c.empty.ensures c.zero.ensures c.in_ok-buffer.ensures.fresh c.new-2.ensures
+returns-clause-fresh g c =
+    fresh-view (g.A.Automaton.built c.args.automaton) c.empty.result.items c.zero.result.value c.args.start
+    c.max_pattern_len.result c.in_ok-buffer.buffer c.new-2.result c.empty.ensures c.zero.ensures
+    c.in_ok-buffer.ensures.fresh c.new-2.ensures
 
 pub returns-clause-kept : goal.returns-clause-kept
 returns-clause-kept g c = (invariant_of-result g c).0

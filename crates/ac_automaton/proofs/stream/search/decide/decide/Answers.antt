@@ -9,29 +9,40 @@ use Rattle.ac_automaton.proofs.stream.DecideWalkLemmas.{reads-there, waited-bett
 use Rattle.ac_automaton.proofs.stream.search.decide.decide.Goals as goal
 
 pub loop-at-init : goal.loop-at-init
-loop-at-init g c = λ s is. waited-none _ s c.args.start c.args.progress.now.sid c.args.progress.now.at c.args.progress.now.best c.args.met _ is.stands c.requires.met is.at
+loop-at-init g c =
+    λ s is. waited-none _ s c.args.start c.args.progress.now.sid c.args.progress.now.at c.args.progress.now.best
+    c.args.met _ is.stands c.requires.met is.at
 
 pub advance-stop-requires : goal.advance-stop-requires
 advance-stop-requires g c =
     let a = c.args.automaton.now in
     let w = c.requires.walk in
-    waited-reached g.A.Automaton a w.0 c.args.start c.args.progress.now c.args.held.now (g.met.A.Automaton.tells a No) (g.met.A.Automaton.lives a No) w.1 c.loop-at.sid c.loop-at.at c.loop-at.best _ _ (c.loop-at.invariant w.0 w.1)
+    waited-reached g.A.Automaton a w.0 c.args.start c.args.progress.now c.args.held.now (g.met.A.Automaton.tells a No)
+    w.1 c.loop-at.sid c.loop-at.at c.loop-at.best _ _ (c.loop-at.invariant w.0 w.1)
 
 pub is_dead-requires : goal.is_dead-requires
 is_dead-requires g c =
     let a = c.args.automaton.now in
     let w = c.requires.walk in
     let met = g.met.A.Automaton in
-    waited-state g.A.Automaton a w.0 c.args.start c.args.progress.now c.args.held.now (met.tells a No) (met.lives a No) w.1 c.loop-at.sid c.loop-at.at c.loop-at.best _ _ (c.loop-at.invariant w.0 w.1) (met.stops a No) c.advance-stop.result _ (omega (arith, c.loop-at-test.true)) c.advance-stop.ensures.goes c.advance-stop.ensures.cost
+    waited-state g.A.Automaton a w.0 c.args.start c.args.progress.now c.args.held.now (met.tells a No) w.1 c.loop-at.sid
+    c.loop-at.at c.loop-at.best _ _ (c.loop-at.invariant w.0 w.1) (met.stops a No) c.advance-stop.result _
+    (omega (arith, c.loop-at-test.true)) c.advance-stop.ensures.goes c.advance-stop.ensures.cost
 
 pub returns-then-is_dead : goal.returns-then-is_dead
 returns-then-is_dead g c = record {
   walk = λ s is.
       let a = c.args.automaton.now in
       let met = g.met.A.Automaton in
-      let reads = reads-there g.A.Automaton a s c.args.start c.args.progress.now c.args.held.now (met.tells a No) (met.lives a No) is c.loop-at.sid c.loop-at.at c.loop-at.best _ _ (c.loop-at.invariant s is) (met.stops a No) c.advance-stop.result _ (omega (arith, c.loop-at-test.true)) c.advance-stop.ensures.goes c.advance-stop.ensures.cost in
-      subst (λ (r : Searched). SearchesOn (g.A.Automaton.Reaches a No) s c.args.start r c.args.steps.now c.advance-stop.new.steps) (sym c.decided.ensures)
-      (waited-dead g.A.Automaton a s c.args.start c.args.progress.now c.args.held.now (met.tells a No) (met.lives a No) is c.loop-at.sid c.loop-at.at c.loop-at.best _ _ (c.loop-at.invariant s is) (met.stops a No) c.advance-stop.result _ (omega (arith, c.loop-at-test.true)) c.advance-stop.ensures.goes c.advance-stop.ensures.cost ((c.is_dead.ensures No _ reads).0 c.if-is_dead.true));
+      let reads = reads-there g.A.Automaton a s c.args.start c.args.progress.now c.args.held.now (met.tells a No) is
+      c.loop-at.sid c.loop-at.at c.loop-at.best _ _ (c.loop-at.invariant s is) (met.stops a No) c.advance-stop.result _
+      (omega (arith, c.loop-at-test.true)) c.advance-stop.ensures.goes c.advance-stop.ensures.cost in
+      subst (λ r. SearchesOn (g.A.Automaton.Reaches a No) s c.args.start r c.args.steps.now c.advance-stop.new.steps)
+      (sym c.decided.ensures)
+      (waited-dead g.A.Automaton a s c.args.start c.args.progress.now c.args.held.now (met.tells a No) is c.loop-at.sid
+      c.loop-at.at c.loop-at.best _ _ (c.loop-at.invariant s is) (met.stops a No) c.advance-stop.result _
+      (omega (arith, c.loop-at-test.true)) c.advance-stop.ensures.goes c.advance-stop.ensures.cost
+      ((c.is_dead.ensures No _ reads).0 c.if-is_dead.true));
 }
 
 pub is_match-requires : goal.is_match-requires
@@ -39,36 +50,56 @@ is_match-requires g c =
     let a = c.args.automaton.now in
     let w = c.requires.walk in
     let met = g.met.A.Automaton in
-    waited-state g.A.Automaton a w.0 c.args.start c.args.progress.now c.args.held.now (met.tells a No) (met.lives a No) w.1 c.loop-at.sid c.loop-at.at c.loop-at.best _ _ (c.loop-at.invariant w.0 w.1) (met.stops a No) c.advance-stop.result _ (omega (arith, c.loop-at-test.true)) c.advance-stop.ensures.goes c.advance-stop.ensures.cost
+    waited-state g.A.Automaton a w.0 c.args.start c.args.progress.now c.args.held.now (met.tells a No) w.1 c.loop-at.sid
+    c.loop-at.at c.loop-at.best _ _ (c.loop-at.invariant w.0 w.1) (met.stops a No) c.advance-stop.result _
+    (omega (arith, c.loop-at-test.true)) c.advance-stop.ensures.goes c.advance-stop.ensures.cost
 
 pub first_match-best-requires-clause-reads : goal.first_match-best-requires-clause-reads
 first_match-best-requires-clause-reads g c =
     let a = c.args.automaton.now in
     let w = c.requires.walk in
     let met = g.met.A.Automaton in
-    waited-text g.A.Automaton a w.0 c.args.start c.args.progress.now c.args.held.now (met.tells a No) (met.lives a No) w.1 c.loop-at.sid c.loop-at.at c.loop-at.best _ _ (c.loop-at.invariant w.0 w.1) (met.stops a No) c.advance-stop.result _ (omega (arith, c.loop-at-test.true)) c.advance-stop.ensures.goes c.advance-stop.ensures.cost
+    waited-text g.A.Automaton a w.0 c.args.start c.args.progress.now c.args.held.now (met.tells a No) w.1 c.loop-at.sid
+    c.loop-at.at c.loop-at.best _ _ (c.loop-at.invariant w.0 w.1) (met.stops a No) c.advance-stop.result _
+    (omega (arith, c.loop-at-test.true)) c.advance-stop.ensures.goes c.advance-stop.ensures.cost
 
 pub loop-at-preserved-then-is_match : goal.loop-at-preserved-then-is_match
 loop-at-preserved-then-is_match g c = λ s is.
     let a = c.args.automaton.now in
     let met = g.met.A.Automaton in
-    let reads = reads-there g.A.Automaton a s c.args.start c.args.progress.now c.args.held.now (met.tells a No) (met.lives a No) is c.loop-at.sid c.loop-at.at c.loop-at.best _ _ (c.loop-at.invariant s is) (met.stops a No) c.advance-stop.result _ (omega (arith, c.loop-at-test.true)) c.advance-stop.ensures.goes c.advance-stop.ensures.cost in
-    waited-better g.A.Automaton a s c.args.start c.args.progress.now c.args.held.now (met.tells a No) (met.lives a No) is c.loop-at.sid c.loop-at.at c.loop-at.best _ _ (c.loop-at.invariant s is) (met.stops a No) c.advance-stop.result _ (omega (arith, c.loop-at-test.true)) c.advance-stop.ensures.goes c.advance-stop.ensures.cost c.first_match-best.result (λ dead. false≢true (sym c.if-is_dead.false ∙ (c.is_dead.ensures No _ reads).1 dead)) (c.is_match.ensures.0 c.if-is_match.true) c.first_match-best.ensures
+    let reads = reads-there g.A.Automaton a s c.args.start c.args.progress.now c.args.held.now (met.tells a No) is
+    c.loop-at.sid c.loop-at.at c.loop-at.best _ _ (c.loop-at.invariant s is) (met.stops a No) c.advance-stop.result _
+    (omega (arith, c.loop-at-test.true)) c.advance-stop.ensures.goes c.advance-stop.ensures.cost in
+    waited-better g.A.Automaton a s c.args.start c.args.progress.now c.args.held.now (met.tells a No) is c.loop-at.sid
+    c.loop-at.at c.loop-at.best _ _ (c.loop-at.invariant s is) (met.stops a No) c.advance-stop.result _
+    (omega (arith, c.loop-at-test.true)) c.advance-stop.ensures.goes c.advance-stop.ensures.cost
+    c.first_match-best.result (λ dead. false≢true (sym c.if-is_dead.false ∙ (c.is_dead.ensures No _ reads).1 dead))
+    (c.is_match.ensures.0 c.if-is_match.true) c.first_match-best.ensures
 
 pub loop-at-preserved : goal.loop-at-preserved
 loop-at-preserved g c = λ s is.
     let a = c.args.automaton.now in
     let met = g.met.A.Automaton in
-    let reads = reads-there g.A.Automaton a s c.args.start c.args.progress.now c.args.held.now (met.tells a No) (met.lives a No) is c.loop-at.sid c.loop-at.at c.loop-at.best _ _ (c.loop-at.invariant s is) (met.stops a No) c.advance-stop.result _ (omega (arith, c.loop-at-test.true)) c.advance-stop.ensures.goes c.advance-stop.ensures.cost in
-    waited-same g.A.Automaton a s c.args.start c.args.progress.now c.args.held.now (met.tells a No) (met.lives a No) is c.loop-at.sid c.loop-at.at c.loop-at.best _ _ (c.loop-at.invariant s is) (met.stops a No) c.advance-stop.result _ (omega (arith, c.loop-at-test.true)) c.advance-stop.ensures.goes c.advance-stop.ensures.cost (λ dead. false≢true (sym c.if-is_dead.false ∙ (c.is_dead.ensures No _ reads).1 dead)) (list-none (g.A.Automaton.matches a c.advance-stop.result.sid) (λ some. false≢true (sym c.if-is_match.false ∙ c.is_match.ensures.1 some)))
+    let reads = reads-there g.A.Automaton a s c.args.start c.args.progress.now c.args.held.now (met.tells a No) is
+    c.loop-at.sid c.loop-at.at c.loop-at.best _ _ (c.loop-at.invariant s is) (met.stops a No) c.advance-stop.result _
+    (omega (arith, c.loop-at-test.true)) c.advance-stop.ensures.goes c.advance-stop.ensures.cost in
+    waited-same g.A.Automaton a s c.args.start c.args.progress.now c.args.held.now (met.tells a No) is c.loop-at.sid
+    c.loop-at.at c.loop-at.best _ _ (c.loop-at.invariant s is) (met.stops a No) c.advance-stop.result _
+    (omega (arith, c.loop-at-test.true)) c.advance-stop.ensures.goes c.advance-stop.ensures.cost
+    (λ dead. false≢true (sym c.if-is_dead.false ∙ (c.is_dead.ensures No _ reads).1 dead))
+    (list-none (g.A.Automaton.matches a c.advance-stop.result.sid)
+    (λ some. false≢true (sym c.if-is_match.false ∙ c.is_match.ensures.1 some)))
 
 pub returns-then-progress : goal.returns-then-progress
 returns-then-progress g c = record {
   walk = λ s is.
       let a = c.args.automaton.now in
       let met = g.met.A.Automaton in
-      subst (λ (r : Searched). SearchesOn (g.A.Automaton.Reaches a No) s c.args.start r c.args.steps.now c.loop-at.steps) (sym c.decided-then-progress.ensures)
-      (waited-closed g.A.Automaton a s c.args.start c.args.progress.now c.args.held.now (met.tells a No) (met.lives a No) is c.loop-at.sid c.loop-at.at c.loop-at.best _ _ (c.loop-at.invariant s is) (omega (arith, c.loop-at-test.false)) c.if-progress.true);
+      subst (λ r. SearchesOn (g.A.Automaton.Reaches a No) s c.args.start r c.args.steps.now c.loop-at.steps)
+      (sym c.decided-then-progress.ensures)
+      (waited-closed g.A.Automaton a s c.args.start c.args.progress.now c.args.held.now (met.tells a No) is
+      c.loop-at.sid c.loop-at.at c.loop-at.best _ _ (c.loop-at.invariant s is) (omega (arith, c.loop-at-test.false))
+      c.if-progress.true);
 }
 
 pub returns : goal.returns
@@ -76,5 +107,7 @@ returns g c = record {
   walk = λ s is.
       let a = c.args.automaton.now in
       let met = g.met.A.Automaton in
-      waited-open g.A.Automaton a s c.args.start c.args.progress.now c.args.held.now (met.tells a No) (met.lives a No) is c.loop-at.sid c.loop-at.at c.loop-at.best _ _ (c.loop-at.invariant s is) (omega (arith, c.loop-at-test.false)) c.if-progress.false;
+      waited-open g.A.Automaton a s c.args.start c.args.progress.now c.args.held.now (met.tells a No) is c.loop-at.sid
+      c.loop-at.at c.loop-at.best _ _ (c.loop-at.invariant s is) (omega (arith, c.loop-at-test.false))
+      c.if-progress.false;
 }

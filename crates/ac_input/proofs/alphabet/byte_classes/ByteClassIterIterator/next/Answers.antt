@@ -6,11 +6,11 @@ use Rattle.ac_input.proofs.alphabet.byte_classes.ByteClassIterIterator.next.Goal
 pub returns-clause-steps : goal.returns-clause-steps
 returns-clause-steps c =
     let more : c.self.inside.at < c.self.inside.end = omega arith in
-    sym c.self.view_is ∙ range-first c.self.inside.at c.self.inside.end more
+    sym c.self.view_is ∙ range-first more
 
 pub returns-clause-goes : goal.returns-clause-goes
 returns-clause-goes c =
     let more : c.self.inside.at < c.self.inside.end = omega arith in
-    let split = sym c.self.view_is ∙ range-first c.self.inside.at c.self.inside.end more in
+    let split = sym c.self.view_is ∙ range-first more in
     let longer = ap length split in
     record { on = λ _. (tt, tt, omega arith); keeps = tt; rests = λ _. tt }

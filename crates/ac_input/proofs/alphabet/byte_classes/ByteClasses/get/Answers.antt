@@ -4,4 +4,4 @@ use Rattle.ac_input.proofs.alphabet.AlphabetLemmas.{class-within}
 use Rattle.ac_input.proofs.alphabet.byte_classes.ByteClasses.get.Goals as goal
 
 pub returns-clause-fits : goal.returns-clause-fits
-returns-clause-fits c = rw (← c.self.view_is) (class-within c.self.inside.classes c.args.byte c.self.invariant (omega arith))
+returns-clause-fits c = rw (← c.self.view_is) (class-within c.self.invariant (omega arith))

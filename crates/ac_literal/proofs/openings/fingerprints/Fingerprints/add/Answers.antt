@@ -11,12 +11,14 @@ returns-clause-own c =
     let bits = c.args.self.now.bits in
     let print = c.print_of-print.result in
     let fits = c.print_of-print.ensures.fits in
-    subst (λ k. bit_at (get_or (with_bucket bits (print / 8) (print % 8)) (k / 8) 0) (k % 8) ≡ 1) c.print_of-print.ensures.value (added-own bits print (omega (arith, fits)))
+    subst (λ k. bit_at (get_or (with_bucket bits (print / 8) (print % 8)) (k / 8) 0) (k % 8) ≡ 1)
+    c.print_of-print.ensures.value (added-own bits print (omega (arith, fits)))
 
 pub returns-clause-kept : goal.returns-clause-kept
 returns-clause-kept c =
     let fits = c.print_of-print.ensures.fits in
     record {
       pairing = refl;
-      has = λ bytes had. added-kept c.args.self.now.bits c.print_of-print.result (print_of c.args.self.now.pairing bytes) (omega (arith, fits)) had;
+      has = λ bytes had. added-kept c.args.self.now.bits c.print_of-print.result
+          (print_of c.args.self.now.pairing bytes) (omega (arith, fits)) had;
     }

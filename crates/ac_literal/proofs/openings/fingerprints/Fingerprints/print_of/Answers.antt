@@ -11,6 +11,8 @@ returns-clause-value c =
     let at = λ (k : ℕ). canonical c.args.self.now.pairing (get_or bytes k 0) in
     let two = c.requires in
     let place : length bytes - 1 - 1 ≡ length bytes - 2 = omega arith in
-    ap₂ (λ a b. (((a * 31 + b) * 961 + (c.lesser-3.result * 31 + c.lesser-4.result)) % 8192)) c.lesser.ensures.value c.lesser-2.ensures.value
-    ∙ ap₂ (λ c d. (((at 0) * 31 + (at 1)) * 961 + (c * 31 + d)) % 8192) (c.lesser-3.ensures.value ∙ ap at place) c.lesser-4.ensures.value
+    ap₂ (λ a b. (((a * 31 + b) * 961 + (c.lesser-3.result * 31 + c.lesser-4.result)) % 8192)) c.lesser.ensures.value
+    c.lesser-2.ensures.value
+    ∙ ap₂ (λ c d. (((at 0) * 31 + (at 1)) * 961 + (c * 31 + d)) % 8192) (c.lesser-3.ensures.value ∙ ap at place)
+    c.lesser-4.ensures.value
     ∙ print-canonical c.args.self.now.pairing bytes two

@@ -16,6 +16,6 @@ loop-pattern-preserved c =
     let front = take-map text_of i patterns in
     let more = map_more text_of patterns i (record { ref_ptr = (0, 0); now = [] }) c.loop-pattern-test.true in
     c.in_ok-try_add.ensures.ok
-    ∙ ap (λ (b : Building). added b pattern) (c.loop-pattern.invariant ∙ ap (added_all c.args.self.now) front)
+    ∙ ap (λ b. added b pattern) (c.loop-pattern.invariant ∙ ap (added_all c.args.self.now) front)
     ∙ sym (added_all-push c.args.self.now (map text_of (take i patterns)) pattern)
     ∙ ap (added_all c.args.self.now) (sym (take-map text_of (i + 1) patterns ∙ more))

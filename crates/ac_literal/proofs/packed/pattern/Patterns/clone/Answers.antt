@@ -8,9 +8,10 @@ bytes_of v = v.items
 
 pub loop-pattern-preserved : goal.loop-pattern-preserved
 loop-pattern-preserved c =
-    let more = map_more bytes_of c.deref-pattern-items.result.now c.loop-pattern.pattern-index c.pattern-item.result c.loop-pattern-test.true in
+    let more = map_more bytes_of c.deref-pattern-items.result.now c.loop-pattern.pattern-index c.pattern-item.result
+    c.loop-pattern-test.true in
     let pattern = c.deref.ensures.value ∙ ap bytes_of c.pattern-item.is in
-    c.in_ok-add.ensures.ok ∙ ap₂ (λ (ps : List (List ℕ)) (p : List ℕ). ps ++ p ∷ []) c.loop-pattern.invariant pattern ∙ sym more
+    c.in_ok-add.ensures.ok ∙ ap₂ (λ ps p. ps ++ p ∷ []) c.loop-pattern.invariant pattern ∙ sym more
 
 pub returns : goal.returns
 returns c =

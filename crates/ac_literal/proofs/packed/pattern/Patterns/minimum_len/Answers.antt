@@ -11,13 +11,15 @@ bytes_of v = v.items
 pub loop-pattern-preserved : goal.loop-pattern-preserved
 loop-pattern-preserved c =
     let front = map bytes_of (take c.loop-pattern.pattern-index c.deref-pattern-items.result.now) in
-    let more = map_more bytes_of c.deref-pattern-items.result.now c.loop-pattern.pattern-index c.pattern-item.result c.loop-pattern-test.true in
+    let more = map_more bytes_of c.deref-pattern-items.result.now c.loop-pattern.pattern-index c.pattern-item.result
+    c.loop-pattern-test.true in
     let pattern = ap bytes_of c.pattern-item.is in
     let long : c.len.result ≡ length c.pattern-item.result.items = omega (arith, c.pattern-item.result.ok.0) in
     c.min-least.ensures ∙ ap₂ min c.loop-pattern.invariant long ∙ sym (shortest-push front c.pattern-item.result.items)
-    ∙ ap (λ (p : List ℕ). shortest (front ++ p ∷ [])) pattern ∙ ap shortest (sym more)
+    ∙ ap (λ p. shortest (front ++ p ∷ [])) pattern ∙ ap shortest (sym more)
 
 pub returns : goal.returns
 returns c =
     let all = take_all c.loop-pattern.pattern-index c.deref-pattern-items.result.now c.loop-pattern-test.false in
-    c.loop-pattern.invariant ∙ ap (λ (vs : List (Vec ℕ Global)). shortest (map bytes_of vs)) (all ∙ c.deref-pattern-items.ensures.value) ∙ ap shortest c.self.view_is
+    c.loop-pattern.invariant ∙ ap (λ vs. shortest (map bytes_of vs)) (all ∙ c.deref-pattern-items.ensures.value)
+    ∙ ap shortest c.self.view_is

@@ -7,7 +7,8 @@ use Rattle.ac_literal.proofs.packed.rabinkarp.RabinKarp.find_between.Goals as go
 
 pub returns-then-is_some : goal.returns-then-is_some
 returns-then-is_some c =
-    found-first c.args.self.now.kind (part_search c.args.patterns.now c.args.haystack.now c.args.span.start c.args.span.end) c.loop-at.at c.args.to c.find_at-found.result (sym c.is_some.ensures ∙ c.if-is_some.true) c.loop-at.invariant.none c.find_at-found.ensures
+    found-first c.args.self.now.kind c.args.to c.find_at-found.result (sym c.is_some.ensures ∙ c.if-is_some.true)
+    c.loop-at.invariant.none c.find_at-found.ensures
 
 pub loop-at-preserved : goal.loop-at-preserved
 loop-at-preserved c =
@@ -16,11 +17,13 @@ loop-at-preserved c =
     record {
       first = omega (arith, c.loop-at.invariant.first);
       last = omega arith;
-      hash = c.roll-hash.ensures ∙ hash-roll c.args.haystack.now c.loop-at.at c.args.self.now.hash_len c.args.self.now.hash_2pow c.loop-at.hash c.requires.table.some (omega arith) c.requires.table.power c.loop-at.invariant.hash;
-      none = starts-later c.args.self.now.kind s c.loop-at.at c.find_at-found.result absent c.loop-at.invariant.none c.find_at-found.ensures;
+      hash = c.roll-hash.ensures ∙ hash-roll c.args.haystack.now c.loop-at.at c.requires.table.some (omega arith)
+          c.requires.table.power c.loop-at.invariant.hash;
+      none = starts-later c.args.self.now.kind c.find_at-found.result absent c.loop-at.invariant.none
+          c.find_at-found.ensures;
     }
 
 pub returns : goal.returns
 returns c =
     let s = part_search c.args.patterns.now c.args.haystack.now c.args.span.start c.args.span.end in
-    found-place c.args.self.now.kind s c.loop-at.at c.args.to c.find_at.result (omega arith) c.loop-at.invariant.none c.find_at.ensures
+    found-place c.args.self.now.kind c.find_at.result (omega arith) c.loop-at.invariant.none c.find_at.ensures

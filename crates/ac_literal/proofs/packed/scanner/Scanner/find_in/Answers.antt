@@ -5,11 +5,11 @@ use Rattle.ac_literal.proofs.packed.scanner.Scanner.find_in.Goals as goal
 
 pub returns-then-span-len : goal.returns-then-span-len
 returns-then-span-len c = λ o h.
-    let long = occurs-long c.args.patterns.now c.args.self.now.table c.args.haystack.now c.args.span.start c.args.span.end o c.requires.scanner.table c.requires.within h in
+    let long = occurs-long c.requires.scanner.table c.requires.within h in
     omega (arith, h.within)
 
 pub returns : goal.returns
 returns c = λ o h.
-    let long = occurs-long c.args.patterns.now c.args.self.now.table c.args.haystack.now c.args.span.start c.args.span.end o c.requires.scanner.table c.requires.within h in
+    let long = occurs-long c.requires.scanner.table c.requires.within h in
     let late = c.loop-at.invariant.none o h in
     omega (arith, h.within)

@@ -10,17 +10,20 @@ pub returns-then-is_some : goal.returns-then-is_some
 returns-then-is_some c =
     let s = part_search c.args.patterns.now c.args.haystack.now c.args.span.start c.args.span.end in
     let place = c.lowest-place.ensures in
-    let none = none-lowest s c.args.at c.loop-left.left c.lowest-place.result place.within c.requires.none c.loop-left.invariant.marks place.below in
-    found-first c.args.self.now.table.kind s (c.args.at + c.lowest-place.result) (c.args.at + 32) c.find_place-found.result (sym c.is_some.ensures ∙ c.if-is_some.true) none c.find_place-found.ensures
+    let none = none-lowest c.loop-left.left place.within c.requires.none c.loop-left.invariant.marks place.below in
+    found-first c.args.self.now.table.kind (c.args.at + 32) c.find_place-found.result
+    (sym c.is_some.ensures ∙ c.if-is_some.true) none c.find_place-found.ensures
 
 pub loop-left-preserved : goal.loop-left-preserved
 loop-left-preserved c =
     let s = part_search c.args.patterns.now c.args.haystack.now c.args.span.start c.args.span.end in
     let place = c.lowest-place.ensures in
-    let none = none-lowest s c.args.at c.loop-left.left c.lowest-place.result place.within c.requires.none c.loop-left.invariant.marks place.below in
+    let none = none-lowest c.loop-left.left place.within c.requires.none c.loop-left.invariant.marks place.below in
     let absent : is_some c.find_place-found.result ≢ true = λ e. cc in
-    let later = starts-later c.args.self.now.table.kind s (c.args.at + c.lowest-place.result) c.find_place-found.result absent none c.find_place-found.ensures in
+    let later =
+    starts-later c.args.self.now.table.kind c.find_place-found.result absent none c.find_place-found.ensures in
     record {
       few = omega (arith, c.without-left.ensures.less, c.loop-left.invariant.few);
-      marks = marks-left s c.args.at c.loop-left.left c.lowest-place.result c.without-left.result later c.loop-left.invariant.marks c.without-left.ensures.kept;
+      marks = marks-left c.args.at c.loop-left.left c.without-left.result later c.loop-left.invariant.marks
+          c.without-left.ensures.kept;
     }

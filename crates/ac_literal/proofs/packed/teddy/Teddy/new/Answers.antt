@@ -8,9 +8,10 @@ use Rattle.ac_literal.proofs.packed.teddy.Teddy.new.Goals as goal
 pub loop-number-preserved : goal.loop-number-preserved
 loop-number-preserved c =
     let patterns = c.args.patterns.now in
-    let text : c.get.result.now ≡ get_or patterns c.loop-number.number [] = c.get.ensures ∙ ap (λ number. get_or patterns number []) c.must-number.ensures in
-    let own = subst (λ (p : List ℕ). HasPattern c.add.new.self p c.bucket_of.result) text c.add.ensures.own in
+    let text : c.get.result.now ≡ get_or patterns c.loop-number.number [] = c.get.ensures
+    ∙ ap (λ number. get_or patterns number []) c.must-number.ensures in
+    let own = subst (λ p. HasPattern c.add.new.self p c.bucket_of.result) text c.add.ensures.own in
     record {
-      near = keeps-near c.loop-number.teddy c.add.new.self c.args.len c.add.ensures.kept c.loop-number.invariant.near;
-      all = has-more patterns c.loop-number.number c.bucket_of.result c.loop-number.teddy c.add.new.self c.loop-number.invariant.all c.add.ensures.kept own;
+      near = keeps-near c.add.ensures.kept c.loop-number.invariant.near;
+      all = has-more patterns c.loop-number.invariant.all c.add.ensures.kept own;
     }

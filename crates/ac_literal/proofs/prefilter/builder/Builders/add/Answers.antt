@@ -8,10 +8,11 @@ use Rattle.ac_literal.proofs.prefilter.builder.Builders.add.Goals as goal
 pub returns-clause-ok : goal.returns-clause-ok
 returns-clause-ok c =
     λ m e collected.
-    let starts = c.starts_with-self.ensures m.patterns (subst (λ (q : List ℕ). AreFew c.args.self.now.start_bytes (is_start q m.patterns)) e collected.starts) in
-    let rare = c.with-self.ensures m.patterns (subst (λ (q : List ℕ). IsRareSoFar q m.patterns c.args.self.now.rare_bytes) e collected.rare) in
-    collected-push m c.args.pattern.now c.args.self.now
-    (record { memmem = c.in_ok-memmem.memmem; packed = c.add_packed.new.packed; start_bytes = c.starts_with-self.result; rare_bytes = c.with-self.result })
+    let starts = c.starts_with-self.ensures m.patterns
+    (subst (λ q. AreFew c.args.self.now.start_bytes (is_start q m.patterns)) e collected.starts) in
+    let rare = c.with-self.ensures m.patterns
+    (subst (λ q. IsRareSoFar q m.patterns c.args.self.now.rare_bytes) e collected.rare) in
+    collected-push c.args.pattern.now
     c.requires collected (c.in_ok-memmem.ensures m.patterns collected.memmem) c.in_ok-add_packed.ensures.ok
-    (subst (λ (q : List ℕ). AreFew c.starts_with-self.result (is_start q (m.patterns ++ c.args.pattern.now ∷ []))) (sym e) starts)
-    (subst (λ (q : List ℕ). IsRareSoFar q (m.patterns ++ c.args.pattern.now ∷ []) c.with-self.result) (sym e) rare)
+    (subst (λ q. AreFew c.starts_with-self.result (is_start q (m.patterns ++ c.args.pattern.now ∷ []))) (sym e) starts)
+    (subst (λ q. IsRareSoFar q (m.patterns ++ c.args.pattern.now ∷ []) c.with-self.result) (sym e) rare)

@@ -17,7 +17,12 @@ where_none N F (Some needles) e h = absurd (false≢true (sym e))
 pub returns-then-is_none : goal.returns-then-is_none
 returns-then-is_none c =
     λ m e collected demand.
-    let several : ¬ MemmemServes m = subst (λ (r : Option Strategy). MatchOption r (¬ MemmemServes m) (IsStrategyOf m)) c.in_default.is (c.in_ok-strategy.ensures m e collected) in
-    let no_packed : ¬ (AreFull m.patterns × PackedServes m) = subst (λ (r : Option Strategy). MatchOption r (¬ (AreFull m.patterns × PackedServes m)) (IsStrategyOf m)) c.in_default-2.is (c.in_ok-strategy-2.ensures m several collected) in
-    let no_starts : ¬ (AreFull m.patterns × ((bytes : List ℕ) × AreStartBytes m bytes)) = where_none (¬ (AreFull m.patterns × ((bytes : List ℕ) × AreStartBytes m bytes))) (AreStarts m) c.build_start_bytes-starts.result c.if-is_none.ensures (c.build_start_bytes-starts.ensures m collected) in
+    let several : ¬ MemmemServes m = subst (λ r. MatchOption r (¬ MemmemServes m) (IsStrategyOf m)) c.in_default.is
+    (c.in_ok-strategy.ensures m e collected) in
+    let no_packed : ¬ (AreFull m.patterns × PackedServes m) = subst
+    (λ r. MatchOption r (¬ (AreFull m.patterns × PackedServes m)) (IsStrategyOf m)) c.in_default-2.is
+    (c.in_ok-strategy-2.ensures m several collected) in
+    let no_starts : ¬ (AreFull m.patterns × ((bytes : List ℕ) × AreStartBytes m bytes)) = where_none
+    (¬ (AreFull m.patterns × ((bytes : List ℕ) × AreStartBytes m bytes))) (AreStarts m)
+    c.build_start_bytes-starts.result c.if-is_none.ensures (c.build_start_bytes-starts.ensures m collected) in
     elim demand [ inl packed ↦ no_packed packed | inr starts ↦ no_starts starts ]

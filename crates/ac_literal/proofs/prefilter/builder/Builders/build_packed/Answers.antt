@@ -7,10 +7,10 @@ use Rattle.ac_literal.proofs.prefilter.builder.Builders.build_packed.Goals as go
 pub returns : goal.returns
 returns c =
     λ m several collected.
-    packed-serve m c.args.self.now c.in-Some.builder collected c.in-Some.is c.in-Some-2.searcher several (sym c.in_ok-searcher.ensures.value ∙ c.in-Some-2.is)
-    (subst (λ (r : Option Packed). IfSome r (λ s. AreServed s.patterns)) c.in-Some-2.is c.in_ok-searcher.ensures.served)
+    packed-serve collected c.in-Some.is several (sym c.in_ok-searcher.ensures.value ∙ c.in-Some-2.is)
+    (subst (λ r. IfSome r (λ s. AreServed s.patterns)) c.in-Some-2.is c.in_ok-searcher.ensures.served)
 
 pub returns-in_default-2 : goal.returns-in_default-2
 returns-in_default-2 c =
     λ m several collected demand.
-    packed-missed m c.args.self.now c.in-Some.builder collected c.in-Some.is (sym c.in_ok-searcher.ensures.value ∙ c.in_default-2.is) demand
+    packed-missed collected c.in-Some.is (sym c.in_ok-searcher.ensures.value ∙ c.in_default-2.is) demand

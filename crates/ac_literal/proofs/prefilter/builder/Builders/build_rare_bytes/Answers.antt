@@ -3,4 +3,4 @@ use Rattle.ac_literal.proofs.prefilter.builder.Builders.build_rare_bytes.Goals a
 
 pub returns : goal.returns
 returns c =
-    λ m collected. rare-serve m c.args.self.now c.in-Some.needles collected c.in-Some.is c.if-not-self.false
+    λ m collected. rare-serve collected c.in-Some.is c.if-not-self.false

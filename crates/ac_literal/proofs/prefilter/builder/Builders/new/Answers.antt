@@ -5,7 +5,7 @@ use Rattle.ac_literal.proofs.prefilter.builder.Builders.new.Goals as goal
 pub returns : goal.returns
 returns c =
     record {
-      full = λ p given. absurd (Contains-nil p given);
+      full = λ p given. absurd (Contains-nil given);
       memmem = refl;
       packed = c.packed_builder.ensures;
       starts = λ byte. refl;

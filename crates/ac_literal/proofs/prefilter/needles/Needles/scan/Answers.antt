@@ -4,8 +4,10 @@ use Rattle.ac_literal.proofs.prefilter.needles.Needles.scan.Goals as goal
 
 pub returns-in_default-clause-found : goal.returns-in_default-clause-found
 returns-in_default-clause-found c =
-    none_in_span (is_needle c.args.self.now) c.args.haystack.now c.args.span.start c.args.span.end c.requires.ordered c.requires.within c.of.result.now c.of.ensures (c.in_default.ensures)
+    none_in_span (is_needle c.args.self.now) c.args.haystack.now c.requires.ordered c.requires.within c.of.ensures
+    (c.in_default.ensures)
 
 pub returns-clause-found : goal.returns-clause-found
 returns-clause-found c =
-    first_in_span (is_needle c.args.self.now) c.args.haystack.now c.args.span.start c.args.span.end c.requires.ordered c.requires.within c.of.result.now c.in-Some.offset c.of.ensures (c.in-Some.ensures)
+    first_in_span (is_needle c.args.self.now) c.args.haystack.now c.requires.ordered c.requires.within c.of.ensures
+    (c.in-Some.ensures)

@@ -7,11 +7,13 @@ use Rattle.ac_literal.proofs.prefilter.rare_bytes.RareBytesBuilder.with.Goals as
 pub returns-else-self : goal.returns-else-self
 returns-else-self c =
     λ patterns so_far.
-    rare-push c.args.pairing.now patterns c.args.pattern.now c.args.self c.chosen.result c.reached.result c.args.self.is_short so_far (c.chosen.ensures so_far.closed) c.reached.ensures
+    rare-push c.args.pairing.now patterns c.args.pattern.now c.args.self c.chosen.result c.reached.result
+    c.args.self.is_short so_far (c.chosen.ensures so_far.closed) c.reached.ensures
     (λ e. e) (λ e. absurd (false≢true (sym c.if-self.false ∙ e)))
 
 pub returns-then-self : goal.returns-then-self
 returns-then-self c =
     λ patterns so_far.
-    rare-push c.args.pairing.now patterns c.args.pattern.now c.args.self c.chosen.result c.reached.result (nat_lt (length c.args.pattern.now) 256) so_far (c.chosen.ensures so_far.closed) c.reached.ensures
+    rare-push c.args.pairing.now patterns c.args.pattern.now c.args.self c.chosen.result c.reached.result
+    (nat_lt (length c.args.pattern.now) 256) so_far (c.chosen.ensures so_far.closed) c.reached.ensures
     (λ e. c.if-self.true) (λ e. ltb-true (length c.args.pattern.now) 256 e)

@@ -7,8 +7,9 @@ use Rattle.ac_literal.proofs.prefilter.strategy.RareBytes.find_start.Goals as go
 pub returns-in_default : goal.returns-in_default
 returns-in_default c =
     λ m rare.
-    scanned_none m c.args.self.now.needles c.args.haystack.now c.args.span c.requires.ordered c.requires.within c.args.steps.now c.scan.new.steps
-    (rare_hold m c.args.self.now.needles c.args.self.now.distances c.args.haystack.now c.args.span c.requires.within rare)
+    scanned_none m c.args.self.now.needles c.args.haystack.now c.args.span c.requires.ordered c.requires.within
+    c.args.steps.now c.scan.new.steps
+    (rare_hold c.requires.within rare)
     c.in_default.ensures.found c.in_default.ensures.counted
 
 pub returns : goal.returns
@@ -16,9 +17,12 @@ returns c =
     λ m rare.
     let near = rare.near (slice_index c.args.haystack.now c.in-Some.at) in
     let low : c.args.span.start ≤ c.in-Some.at = c.in-Some.ensures.found.0.low in
-    let is : c.max.result ≡ max c.args.span.start (c.in-Some.at - slice_index c.args.self.now.distances (slice_index c.args.haystack.now c.in-Some.at)) = c.max.ensures ∙ ap (λ (n : ℕ). max c.args.span.start n) c.saturating_sub.ensures in
-    scanned_some m c.args.self.now.needles c.args.haystack.now c.args.span c.requires.ordered c.requires.within c.args.steps.now c.scan.new.steps
-    (rare_hold m c.args.self.now.needles c.args.self.now.distances c.args.haystack.now c.args.span c.requires.within rare)
-    rare.known c.in-Some.at c.max.result c.in-Some.ensures.found c.in-Some.ensures.counted
+    let is : c.max.result ≡ max c.args.span.start
+    (c.in-Some.at - slice_index c.args.self.now.distances (slice_index c.args.haystack.now c.in-Some.at)) =
+    c.max.ensures ∙ ap (λ n. max c.args.span.start n) c.saturating_sub.ensures in
+    scanned_some m c.args.self.now.needles c.args.haystack.now c.args.span c.requires.ordered c.requires.within
+    c.args.steps.now c.scan.new.steps
+    (rare_hold c.requires.within rare)
+    rare.known c.in-Some.ensures.found c.in-Some.ensures.counted
     (omega arith) (omega arith) (omega arith)
-    (rare_no_earlier m c.args.self.now.needles c.args.self.now.distances c.args.haystack.now c.args.span c.requires.within rare c.in-Some.at c.max.result is c.in-Some.ensures.found)
+    (rare_no_earlier c.requires.within rare is c.in-Some.ensures.found)

@@ -10,28 +10,29 @@ use Rattle.ac_noncontiguous.proofs.compiler.rows.Rows.new.Goals as goal
 pub loop-id-init : goal.loop-id-init
 loop-id-init c =
     let all : c.len.result ≡ length c.args.numbering.now.at.items = omega (arith, c.len.ensures) in
-    let dead = subst (λ (n : ℕ). AreOfDead n c.args.dense_depth c.args.classes.now c.in_ok-rows.rows) all c.in_ok-rows.ensures in
+    let dead =
+    subst (λ n. AreOfDead n c.args.dense_depth c.args.classes.now c.in_ok-rows.rows) all c.in_ok-rows.ensures in
     record {
-      have = have-dead c.args.trie.now c.args.numbering.now c.args.links.now c.args.back c.args.dense_depth c.args.classes.now c.in_ok-rows.rows c.requires.numbering dead;
-      rowed = rowed-none c.args.trie.now c.args.numbering.now c.args.order.now c.args.dense_depth c.args.classes.now c.in_ok-rows.rows dead;
+      have = have-dead c.requires.numbering dead;
+      rowed = rowed-none dead;
     }
 
 pub push_state-requires-clause-within : goal.push_state-requires-clause-within
-push_state-requires-clause-within c = (order-read _ c.args.order.now c.loop-id.id-index c.id-item.result c.requires.order (omega arith) c.id-item.is).1
+push_state-requires-clause-within c = (order-read c.requires.order (omega arith) c.id-item.is).1
 
 pub push_state-requires-clause-above : goal.push_state-requires-clause-above
 push_state-requires-clause-above c =
     let lt : c.loop-id.id-index < length c.args.order.now = omega arith in
-    rowed-above c.args.trie.now c.args.numbering.now c.args.order.now c.args.dense_depth c.loop-id.id-index c.id-item.result c.loop-id.rows c.requires.order lt
-    (order-read _ c.args.order.now c.loop-id.id-index c.id-item.result c.requires.order lt c.id-item.is).0 c.loop-id.invariant.rowed
+    rowed-above c.requires.order lt
+    (order-read c.requires.order lt c.id-item.is).0 c.loop-id.invariant.rowed
 
 pub loop-id-preserved : goal.loop-id-preserved
 loop-id-preserved c =
     let lt : c.loop-id.id-index < length c.args.order.now = omega arith in
     record {
       have = c.in_ok-push_state.ensures.have;
-      rowed = rowed-more c.args.trie.now c.args.numbering.now c.args.order.now c.args.dense_depth c.loop-id.id-index c.id-item.result _ _ c.requires.numbering c.requires.order lt
-          (order-read _ c.args.order.now c.loop-id.id-index c.id-item.result c.requires.order lt c.id-item.is).0 c.in_ok-push_state.ensures.rowed c.loop-id.invariant.rowed;
+      rowed = rowed-more c.requires.numbering c.requires.order lt
+          (order-read c.requires.order lt c.id-item.is).0 c.in_ok-push_state.ensures.rowed c.loop-id.invariant.rowed;
     }
 
 pub returns-clause-rowed : goal.returns-clause-rowed
@@ -41,10 +42,14 @@ returns-clause-rowed c =
     let start = c.as_usize-start.ensures.value in
     let counted = c.loop-id.invariant.have.counted in
     let is : c.index.result.now ≡ slice_index offsets c.args.numbering.now.start =
-    get_or_read offsets c.as_usize-start.result c.index.result.now (omega (arith, start, c.requires.numbering.places.starts.1, counted)) c.index.ensures 0 ∙ ap (slice_index offsets) start in
+    get_or_read offsets c.as_usize-start.result c.index.result.now
+    (omega (arith, start, c.requires.numbering.places.starts.1, counted)) c.index.ensures 0
+    ∙ ap (slice_index offsets) start in
     let all : c.loop-id.id-index ≡ length order = omega arith in
-    let rowed = subst (λ (k : ℕ). AreRowedUpTo c.args.trie.now c.args.numbering.now order c.args.dense_depth k c.loop-id.rows) all c.loop-id.invariant.rowed in
-    rowed-shared c.args.trie.now c.args.numbering.now order c.args.dense_depth c.index.result.now c.loop-id.rows _ (ap (λ (k : ℕ). slice_set offsets (k + 1) c.index.result.now) start) refl c.requires.numbering c.requires.order counted is rowed
+    let rowed = subst (λ k. AreRowedUpTo c.args.trie.now c.args.numbering.now order c.args.dense_depth k c.loop-id.rows)
+    all c.loop-id.invariant.rowed in
+    rowed-shared (ap (λ k. slice_set offsets (k + 1) c.index.result.now) start) refl c.requires.numbering
+    c.requires.order counted is rowed
 
 pub returns-clause-rows : goal.returns-clause-rows
 returns-clause-rows c =
@@ -53,6 +58,10 @@ returns-clause-rows c =
     let n = c.requires.numbering in
     let start = c.as_usize-start.ensures.value in
     let is : c.index.result.now ≡ slice_index offsets c.args.numbering.now.start =
-    get_or_read offsets c.as_usize-start.result c.index.result.now (omega (arith, start, n.places.starts.1, c.loop-id.invariant.have.counted)) c.index.ensures 0 ∙ ap (slice_index offsets) start in
-    subst (λ (k : ℕ). AreRowsOf c.args.trie.now c.args.numbering.now c.args.links.now c.args.back c.args.classes.now (slice_set offsets (k + 1) c.index.result.now) rows) (sym start)
-    (have-shared c.args.trie.now c.args.numbering.now c.args.links.now c.args.back c.index.result.now c.args.classes.now offsets rows n is c.loop-id.invariant.have)
+    get_or_read offsets c.as_usize-start.result c.index.result.now
+    (omega (arith, start, n.places.starts.1, c.loop-id.invariant.have.counted)) c.index.ensures 0
+    ∙ ap (slice_index offsets) start in
+    subst (λ k.
+    AreRowsOf c.args.trie.now c.args.numbering.now c.args.links.now c.args.back c.args.classes.now
+    (slice_set offsets (k + 1) c.index.result.now) rows) (sym start)
+    (have-shared n is c.loop-id.invariant.have)

@@ -11,26 +11,35 @@ use Rattle.ac_noncontiguous.proofs.compiler.rows.Rows.push_state.Goals as goal
 pub with_failures-leads-requires : goal.with_failures-leads-requires
 with_failures-leads-requires c b small =
     let offsets = c.args.self.now.offsets.items in
-    let f = failure-within c.args.numbering.now c.args.links.now _ c.args.id c.failure.result c.requires.numbering c.requires.links c.failure.ensures in
+    let f = failure-within c.args.id c.requires.numbering c.requires.links c.failure.ensures in
     let from : c.index-from.result.now ≡ slice_index offsets c.failure.result =
-    get_or_read offsets c.as_usize.result c.index-from.result.now (omega (arith, f.0, c.requires.have.counted, c.as_usize.ensures.value)) c.index-from.ensures 0 ∙ ap (slice_index offsets) c.as_usize.ensures.value in
-    let h = c.requires.have.right c.failure.result (omega (arith, f.0, c.requires.have.counted)) f.1 (λ e. c.if-from.false (from ∙ e)) b small in
+    get_or_read offsets c.as_usize.result c.index-from.result.now
+    (omega (arith, f.0, c.requires.have.counted, c.as_usize.ensures.value)) c.index-from.ensures 0
+    ∙ ap (slice_index offsets) c.as_usize.ensures.value in
+    let h = c.requires.have.right c.failure.result (omega (arith, f.0, c.requires.have.counted)) f.1
+    (λ e. c.if-from.false (from ∙ e)) b small in
     omega (arith, h.0, from, ap length c.deref.ensures.value)
 
 pub push_row-requires : goal.push_row-requires
 push_row-requires c =
     let of = c.args.numbering.now.of.items in
     let own = c.requires.numbering.numbers.numbers c.args.id c.requires.within in
-    let is = get_or_read of c.as_usize-2.result c.index.result.now (omega (arith, c.requires.within, c.requires.numbering.numbers.counted, c.as_usize-2.ensures.value)) c.index.ensures 0 ∙ ap (slice_index of) c.as_usize-2.ensures.value in
-    failures-alike c.args.classes.now c.edges-edges.result c.deref.result.now c.with_failures-leads.result c.index-from.result.now
-    (lead-alike c.args.trie.now c.args.numbering.now c.args.back c.as_usize-state.result c.args.classes.now c.edges-edges.result c.requires.classes (λ e. omega (arith, e, own.0, is, c.as_usize-state.ensures.value)) c.edges-edges.ensures)
+    let is = get_or_read of c.as_usize-2.result c.index.result.now
+    (omega (arith, c.requires.within, c.requires.numbering.numbers.counted, c.as_usize-2.ensures.value)) c.index.ensures
+    0 ∙ ap (slice_index of) c.as_usize-2.ensures.value in
+    failures-alike c.args.classes.now c.edges-edges.result c.deref.result.now c.with_failures-leads.result
+    c.index-from.result.now
+    (lead-alike c.args.classes.now c.edges-edges.result c.requires.classes
+    (λ e. omega (arith, e, own.0, is, c.as_usize-state.ensures.value)) c.edges-edges.ensures)
     c.with_failures-leads.ensures
 
 pub index_mut-requires : goal.index_mut-requires
 index_mut-requires c =
     let of = c.args.numbering.now.of.items in
     let own = c.requires.numbering.numbers.numbers c.args.id c.requires.within in
-    let is = get_or_read of c.as_usize-2.result c.index.result.now (omega (arith, c.requires.within, c.requires.numbering.numbers.counted, c.as_usize-2.ensures.value)) c.index.ensures 0 ∙ ap (slice_index of) c.as_usize-2.ensures.value in
+    let is = get_or_read of c.as_usize-2.result c.index.result.now
+    (omega (arith, c.requires.within, c.requires.numbering.numbers.counted, c.as_usize-2.ensures.value)) c.index.ensures
+    0 ∙ ap (slice_index of) c.as_usize-2.ensures.value in
     omega (arith, own.1, is, c.as_usize-state.ensures.value, c.requires.have.counted)
 
 pub returns-clause-have : goal.returns-clause-have
@@ -38,23 +47,40 @@ returns-clause-have c =
     let offsets = c.args.self.now.offsets.items in
     let of = c.args.numbering.now.of.items in
     let rows = c.args.self.now.rows.items in
-    let f = failure-within c.args.numbering.now c.args.links.now _ c.args.id c.failure.result c.requires.numbering c.requires.links c.failure.ensures in
+    let f = failure-within c.args.id c.requires.numbering c.requires.links c.failure.ensures in
     let from : c.index-from.result.now ≡ slice_index offsets c.failure.result =
-    get_or_read offsets c.as_usize.result c.index-from.result.now (omega (arith, f.0, c.requires.have.counted, c.as_usize.ensures.value)) c.index-from.ensures 0 ∙ ap (slice_index offsets) c.as_usize.ensures.value in
+    get_or_read offsets c.as_usize.result c.index-from.result.now
+    (omega (arith, f.0, c.requires.have.counted, c.as_usize.ensures.value)) c.index-from.ensures 0
+    ∙ ap (slice_index offsets) c.as_usize.ensures.value in
     let is : c.as_usize-state.result ≡ slice_index of c.args.id =
-    c.as_usize-state.ensures.value ∙ (get_or_read of c.as_usize-2.result c.index.result.now (omega (arith, c.requires.within, c.requires.numbering.numbers.counted, c.as_usize-2.ensures.value)) c.index.ensures 0 ∙ ap (slice_index of) c.as_usize-2.ensures.value) in
-    let with : AreWithFailures c.args.classes.now c.edges-edges.result rows c.index-from.result.now c.with_failures-leads.result =
-    subst (λ (xs : List ℕ). AreWithFailures c.args.classes.now c.edges-edges.result xs c.index-from.result.now c.with_failures-leads.result) c.deref.ensures.value c.with_failures-leads.ensures in
-    have-more c.args.trie.now c.args.numbering.now c.args.links.now c.args.back c.args.id c.as_usize-state.result c.failure.result c.index-from.result.now c.len-row.result c.args.classes.now offsets c.edges-edges.result c.with_failures-leads.result rows c.push_row.new.rows.items
-    c.requires.numbering c.requires.links c.requires.within is c.failure.ensures from c.if-from.false c.edges-edges.ensures with (omega (arith, c.len-row.ensures)) c.in_ok-push_row.ensures c.requires.have
+    c.as_usize-state.ensures.value
+    ∙ (get_or_read of c.as_usize-2.result c.index.result.now
+    (omega (arith, c.requires.within, c.requires.numbering.numbers.counted, c.as_usize-2.ensures.value)) c.index.ensures
+    0 ∙ ap (slice_index of) c.as_usize-2.ensures.value) in
+    let with : AreWithFailures c.args.classes.now c.edges-edges.result rows c.index-from.result.now
+    c.with_failures-leads.result =
+    subst (λ xs.
+    AreWithFailures c.args.classes.now c.edges-edges.result xs c.index-from.result.now c.with_failures-leads.result)
+    c.deref.ensures.value c.with_failures-leads.ensures in
+    have-more c.args.trie.now c.args.numbering.now c.args.links.now c.args.back c.args.id c.as_usize-state.result
+    c.failure.result c.index-from.result.now c.len-row.result c.args.classes.now offsets c.edges-edges.result
+    c.with_failures-leads.result rows c.push_row.new.rows.items
+    c.requires.numbering c.requires.links c.requires.within is
+    (record { fails = c.failure.ensures; is = from; some = c.if-from.false }) c.edges-edges.ensures
+    (record { with = with; at = omega (arith, c.len-row.ensures); appended = c.in_ok-push_row.ensures }) c.requires.have
 
 pub returns-clause-rowed : goal.returns-clause-rowed
 returns-clause-rowed c =
     let of = c.args.numbering.now.of.items in
     let own = c.requires.numbering.numbers.numbers c.args.id c.requires.within in
     let is : c.as_usize-state.result ≡ slice_index of c.args.id =
-    c.as_usize-state.ensures.value ∙ (get_or_read of c.as_usize-2.result c.index.result.now (omega (arith, c.requires.within, c.requires.numbering.numbers.counted, c.as_usize-2.ensures.value)) c.index.ensures 0 ∙ ap (slice_index of) c.as_usize-2.ensures.value) in
-    let appended : IsRowAppended c.args.classes.now c.with_failures-leads.result 256 c.args.self.now.rows.items c.push_row.new.rows.items = c.in_ok-push_row.ensures in
-    let deep : c.state-depth.result.depth ≡ depth c.args.trie.now.states.items c.args.id = ap (λ (s : State). s.depth) c.state-depth.ensures in
-    rowed-added c.args.trie.now c.args.numbering.now c.args.dense_depth c.args.id c.as_usize-state.result c.len-row.result c.args.self.now _ refl is
+    c.as_usize-state.ensures.value
+    ∙ (get_or_read of c.as_usize-2.result c.index.result.now
+    (omega (arith, c.requires.within, c.requires.numbering.numbers.counted, c.as_usize-2.ensures.value)) c.index.ensures
+    0 ∙ ap (slice_index of) c.as_usize-2.ensures.value) in
+    let appended : IsRowAppended c.args.classes.now c.with_failures-leads.result 256 c.args.self.now.rows.items
+    c.push_row.new.rows.items = c.in_ok-push_row.ensures in
+    let deep : c.state-depth.result.depth ≡ depth c.args.trie.now.states.items c.args.id =
+    ap (λ s. s.depth) c.state-depth.ensures in
+    rowed-added refl is
     (omega (arith, own.1, is, c.requires.have.counted)) (omega (arith, deep)) (omega arith) appended.keeps.longer

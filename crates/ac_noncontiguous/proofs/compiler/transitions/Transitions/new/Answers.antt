@@ -9,6 +9,8 @@ loop-state-preserved c =
     let old = c.loop-state.offsets.items in
     let transitions = c.push_state.new.transitions.items in
     let len : c.len.result ≡ length transitions = omega (arith, c.len.ensures) in
-    let pushed : c.push-in-loop-state.new.self.items ≡ old ++ length transitions ∷ [] = c.in_ok-push-2.ensures.items ∙ ap (λ (n : ℕ). old ++ n ∷ []) len in
-    subst (λ (xs : List ℕ). AreLaidOut c.args.trie.now c.args.numbering.now c.args.back (c.loop-state.state + 1) xs transitions) (sym pushed)
-    (laid-more c.args.trie.now c.args.numbering.now c.args.back c.loop-state.state old c.loop-state.transitions.items transitions c.loop-state.invariant c.in_ok-push_state.ensures)
+    let pushed : c.push-in-loop-state.new.self.items ≡ old ++ length transitions ∷ [] = c.in_ok-push-2.ensures.items
+    ∙ ap (λ n. old ++ n ∷ []) len in
+    subst (λ xs. AreLaidOut c.args.trie.now c.args.numbering.now c.args.back (c.loop-state.state + 1) xs transitions)
+    (sym pushed)
+    (laid-more c.loop-state.invariant c.in_ok-push_state.ensures)

@@ -6,4 +6,5 @@ use Rattle.ac_noncontiguous.proofs.nfa.automaton.NFAAutomaton.is_dead.Goals as g
 pub returns : goal.returns
 returns c =
     let at = c.as_u32.ensures.value in
-    dead-said c.args.self.now c.args.sid _ ((λ dead. sym at ∙ eqb-true c.as_u32.result 0 dead), (λ is. eq-eqb c.as_u32.result 0 (at ∙ is)))
+    dead-said c.args.self.now
+    ((λ dead. sym at ∙ eqb-true c.as_u32.result 0 dead), (λ is. eq-eqb c.as_u32.result 0 (at ∙ is)))

@@ -10,8 +10,10 @@ returns-then-as_usize-gt-FAIL c =
     let low = c.as_u32.ensures.value in
     let top = c.as_u32-then-as_usize-gt-FAIL.ensures.value in
     let past = c.if-as_usize-gt-FAIL.true in (
-      λ e. let le = leb-true c.as_u32.result c.as_u32-then-as_usize-gt-FAIL.result e in state-many a c.args.sid c.requires (omega (arith, at, past)) (omega (arith, le, low, top)),
-      λ some. let m = (state-matches a c.args.sid c.requires some).1 in le-leb c.as_u32.result c.as_u32-then-as_usize-gt-FAIL.result (omega (arith, m, low, top)),
+      λ e. let le = leb-true c.as_u32.result c.as_u32-then-as_usize-gt-FAIL.result e in
+          state-many a c.requires (omega (arith, at, past)) (omega (arith, le, low, top)),
+      λ some. let m = (state-matches a c.requires some).1 in
+          le-leb c.as_u32.result c.as_u32-then-as_usize-gt-FAIL.result (omega (arith, m, low, top)),
     )
 
 pub returns-else-as_usize-gt-FAIL : goal.returns-else-as_usize-gt-FAIL
@@ -20,5 +22,5 @@ returns-else-as_usize-gt-FAIL c =
     let at = c.as_usize.ensures.value in
     let past = c.if-as_usize-gt-FAIL.false in (
       λ e. let lt = leb-true 2 c.as_usize.result e in absurd (omega (arith, lt, past)),
-      λ some. let m = (state-matches a c.args.sid c.requires some).0 in absurd (omega (arith, m, at, past)),
+      λ some. let m = (state-matches a c.requires some).0 in absurd (omega (arith, m, at, past)),
     )

@@ -7,6 +7,6 @@ use Rattle.ac_noncontiguous.proofs.nfa.automaton.NFAAutomaton.match_len.Goals as
 pub returns : goal.returns
 returns c =
     let a = c.args.self.now in
-    let kept = state-kept a c.args.sid c.requires.valid in
-    let here = ap (λ (s : State). s.matches_len) (kept-read a.tables c.args.sid c.as_usize.result c.index.result.now kept c.as_usize.ensures.value c.index.ensures) in
-    sym (list-long a.tables.states.items a.tables.matches.items c.args.sid (state-range a c.args.sid c.requires.valid) ∙ here)
+    let kept = state-kept a c.requires.valid in
+    let here = ap (λ s. s.matches_len) (kept-read kept c.as_usize.ensures.value c.index.ensures) in
+    sym (list-long a.tables.states.items a.tables.matches.items c.args.sid (state-range a c.requires.valid) ∙ here)

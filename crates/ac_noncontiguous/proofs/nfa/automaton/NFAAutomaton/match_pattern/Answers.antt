@@ -7,11 +7,12 @@ use Rattle.ac_noncontiguous.proofs.nfa.automaton.NFAAutomaton.match_pattern.Goal
 pub returns-clause-value : goal.returns-clause-value
 returns-clause-value c =
     let a = c.args.self.now in
-    let kept = state-kept a c.args.sid c.requires.valid in
-    let here = ap (λ (s : State). s.matches) (kept-read a.tables c.args.sid c.as_usize.result c.index.result.now kept c.as_usize.ensures.value c.index.ensures) in
-    let range = state-range a c.args.sid c.requires.valid in
-    list-at a.tables.states.items a.tables.matches.items c.args.sid c.args.index c.index-2.result.now range c.requires.within
-    (subst (λ (k : ℕ). c.index-2.result.now ≡ get_or a.tables.matches.items (k + c.args.index) c.index-2.result.now) (sym here) c.index-2.ensures)
+    let kept = state-kept a c.requires.valid in
+    let here = ap (λ s. s.matches) (kept-read kept c.as_usize.ensures.value c.index.ensures) in
+    let range = state-range a c.requires.valid in
+    list-at a.tables.states.items a.tables.matches.items c.args.sid range c.requires.within
+    (subst (λ k. c.index-2.result.now ≡ get_or a.tables.matches.items (k + c.args.index) c.index-2.result.now)
+    (sym here) c.index-2.ensures)
 
 pub returns-clause-known : goal.returns-clause-known
-returns-clause-known c = state-known c.args.self.now c.args.sid c.args.index c.index-2.result.now c.requires.valid (returns-clause-value c)
+returns-clause-known c = state-known c.args.self.now c.args.index c.requires.valid (returns-clause-value c)

@@ -9,9 +9,12 @@ pub returns : goal.returns
 returns c =
     let a = c.args.self.now in (
       tt,
-      start-read a c.args.anchored c.match-anchored.result
+      start-read a
           (elim c.match-anchored.branch [
-            | in-No w ↦ w.result-is ∙ sym (ap (λ (x : Anchored). start_of a.tables.start (is_anchored x)) w.in-No.is)
-            | in-Yes w ↦ w.result-is ∙ (w.must.ensures ∙ (w.one_more.ensures.value ∙ sym (ap (λ (x : Anchored). start_of a.tables.start (is_anchored x)) w.in-Yes.is)))
+            | in-No w ↦ w.result-is ∙ sym (ap (λ x. start_of a.tables.start (is_anchored x)) w.in-No.is)
+            | in-Yes w ↦
+                w.result-is
+                ∙ (w.must.ensures
+                ∙ (w.one_more.ensures.value ∙ sym (ap (λ x. start_of a.tables.start (is_anchored x)) w.in-Yes.is)))
           ]),
     )

@@ -2,10 +2,10 @@ use Rattle.ac_noncontiguous.proofs.nfa.ReadLemmas.{state-visited, next-read, nex
 use Rattle.ac_noncontiguous.proofs.nfa.automaton.NFALookUp.look_up.Goals as goal
 
 pub next-requires : goal.next-requires
-next-requires c = state-visited c.args.self.now c.args.anchored c.args.sid c.requires
+next-requires c = state-visited c.args.self.now c.requires
 
 pub returns-clause-next : goal.returns-clause-next
-returns-clause-next c = next-read c.args.self.now c.args.anchored c.args.sid c.args.byte c.next.result _ _ c.next.ensures
+returns-clause-next c = next-read c.args.self.now c.next.ensures
 
 pub returns-clause-cost : goal.returns-clause-cost
-returns-clause-cost c = next-cost c.args.self.now c.args.anchored c.args.sid c.args.byte c.next.result _ _ c.next.ensures
+returns-clause-cost c = next-cost c.args.self.now c.next.ensures

@@ -12,7 +12,8 @@ invariant_of-self-2 c =
     let kept = c.self.invariant in
     let new = c.and-self-inside.ensures in
     record {
-      lens = c.in_ok-push.ensures.items ∙ (ap (λ (xs : List ℕ). xs ++ length p ∷ []) kept.lens ∙ sym (ap (map (λ p. length p)) new ∙ lens-more old p));
+      lens = c.in_ok-push.ensures.items
+          ∙ (ap (λ xs. xs ++ length p ∷ []) kept.lens ∙ sym (ap (map (λ p. length p)) new ∙ lens-more old p));
       no_shorter =
           let before = kept.no_shorter in
           let min = c.min-self-inside.ensures in

@@ -4,7 +4,7 @@ use Rattle.ac_noncontiguous.proofs.nfa.LookupLemmas.{kept-within, kept-read}
 use Rattle.ac_noncontiguous.proofs.nfa.tables.Tables.fail.Goals as goal
 
 pub index-requires : goal.index-requires
-index-requires c = let k = kept-within c.args.self.now c.args.sid c.requires in let e = c.as_usize.ensures.value in omega arith
+index-requires c = let k = kept-within c.requires in let e = c.as_usize.ensures.value in omega arith
 
 pub returns : goal.returns
-returns c = sym (ap (λ (s : State). s.fail) (kept-read c.args.self.now c.args.sid c.as_usize.result c.index.result.now c.requires c.as_usize.ensures.value c.index.ensures))
+returns c = sym (ap (λ s. s.fail) (kept-read c.requires c.as_usize.ensures.value c.index.ensures))

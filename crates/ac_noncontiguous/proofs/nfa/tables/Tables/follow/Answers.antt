@@ -6,30 +6,33 @@ use Rattle.ac_noncontiguous.proofs.nfa.OverLemmas.{followed-over}
 use Rattle.ac_noncontiguous.proofs.nfa.tables.Tables.follow.Goals as goal
 
 pub loop-next-init : goal.loop-next-init
-loop-next-init c = followed-none c.args.self.now c.args.sid c.args.byte c.args.steps.now c.requires.visited c.requires.stuck
+loop-next-init c = followed-none c.requires.visited c.requires.stuck
 
 pub step_by_row-requires : goal.step_by_row-requires
-step_by_row-requires c = subst (IsKept c.args.self.now) (sym c.fail-from.ensures) (kept-fail c.args.self.now c.loop-next.from c.loop-next.invariant.visited.0)
+step_by_row-requires c =
+    subst (IsKept c.args.self.now) (sym c.fail-from.ensures) (kept-fail c.loop-next.invariant.visited.0)
 
 pub step-next-requires : goal.step-next-requires
-step-next-requires c = subst (IsKept c.args.self.now) (sym c.fail-from.ensures) (kept-fail c.args.self.now c.loop-next.from c.loop-next.invariant.visited.0)
+step-next-requires c =
+    subst (IsKept c.args.self.now) (sym c.fail-from.ensures) (kept-fail c.loop-next.invariant.visited.0)
 
 pub returns-in-Some : goal.returns-in-Some
 returns-in-Some c =
-    followed-over c.args.self.now c.args.sid c.args.byte c.loop-next.from c.fail-from.result c.in-Some.next c.args.steps.now c.loop-next.steps c.look.new.self c.loop-next.invariant c.fail-from.ensures c.look.ensures c.in-Some.ensures
+    followed-over c.loop-next.invariant c.fail-from.ensures c.look.ensures c.in-Some.ensures
 
 pub returns-then-as_usize-ne-FAIL : goal.returns-then-as_usize-ne-FAIL
 returns-then-as_usize-ne-FAIL c =
-    followed-end c.args.self.now c.args.sid c.args.byte c.loop-next.from c.fail-from.result c.step-next.result c.args.steps.now c.loop-next.steps c.look.new.self c.loop-next.invariant c.fail-from.ensures c.look.ensures c.step-next.ensures
+    followed-end c.loop-next.invariant c.fail-from.ensures c.look.ensures c.step-next.ensures
     (λ e. c.if-as_usize-ne-FAIL.true (c.as_usize.ensures.value ∙ e))
 
 pub loop-next-smaller : goal.loop-next-smaller
 loop-next-smaller c =
-    let less = kept-shallower c.args.self.now c.loop-next.from c.args.byte c.loop-next.invariant.visited c.loop-next.invariant.stuck in
+    let less = kept-shallower c.loop-next.invariant.visited c.loop-next.invariant.stuck in
     let at = ap (λ i. (kept_of c.args.self.now.states.items i).depth) c.fail-from.ensures in
     omega (arith, less, at)
 
 pub loop-next-preserved : goal.loop-next-preserved
 loop-next-preserved c =
-    followed-more c.args.self.now c.args.sid c.args.byte c.loop-next.from c.fail-from.result c.args.steps.now c.loop-next.steps c.look.new.self c.loop-next.invariant c.fail-from.ensures c.look.ensures
-    (subst (StepsTo c.args.self.now c.fail-from.result c.args.byte) (sym c.as_usize.ensures.value ∙ c.if-as_usize-ne-FAIL.false) c.step-next.ensures)
+    followed-more c.loop-next.invariant c.fail-from.ensures c.look.ensures
+    (subst (StepsTo c.args.self.now c.fail-from.result c.args.byte)
+    (sym c.as_usize.ensures.value ∙ c.if-as_usize-ne-FAIL.false) c.step-next.ensures)

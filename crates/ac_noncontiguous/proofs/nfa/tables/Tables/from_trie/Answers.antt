@@ -15,24 +15,25 @@ returns-clause-stands c m t l =
     let links = c.args.links in
     let numbering = c.in_ok-numbering.numbering in
     let made = c.in_ok-numbering.ensures.made in
-    let back = c.start_back-back.result in
     let offsets = c.in_ok-layout.layout.offsets.items in
     let row_offsets = c.in_ok-rows.rows.offsets.items in
     let states = c.in_ok-states.states.items in
-    let s = setting m trie links numbering back t l made c.in_ok-numbering.ensures.runs c.start_back-back.ensures in
+    let s = setting t l made c.in_ok-numbering.ensures.runs c.start_back-back.ensures in
     let kept : AreKept trie numbering links offsets row_offsets states =
-    subst (λ (xs : List ℕ). AreKept trie numbering links offsets xs states) c.deref-2.ensures.value (subst (λ (xs : List ℕ). AreKept trie numbering links xs c.deref-2.result.now states) c.deref.ensures.value c.in_ok-states.ensures) in (
+    subst (λ xs. AreKept trie numbering links offsets xs states) c.deref-2.ensures.value
+    (subst (λ xs. AreKept trie numbering links xs c.deref-2.result.now states) c.deref.ensures.value
+    c.in_ok-states.ensures) in (
       text_of trie numbering,
       record {
         len = length numbering.at.items;
         counted = kept.counted;
         few = omega (arith, made.places.counted, trie.few);
-        has = subst (HasStates m) (sym made.places.counted) (stand-counts m trie.states.items trie.ends.items trie.tree t.stands);
-        texts = are-texts m trie numbering back s;
-        transitions = are-transitions m trie links numbering back offsets row_offsets states c.in_ok-layout.layout.transitions.items s c.in_ok-layout.ensures kept;
-        rows = are-rows m trie links numbering back offsets row_offsets c.in_ok-rows.rows.rows.items c.classes-classes.result states s l c.in_ok-rows.ensures.rows kept;
-        failures = are-failures m trie links numbering back offsets row_offsets states s l kept;
-        lists = are-lists m trie links numbering back offsets row_offsets states s l c.in_ok-numbering.ensures.matches kept;
+        has = subst (HasStates m) (sym made.places.counted) (stand-counts trie.tree t.stands);
+        texts = are-texts s;
+        transitions = are-transitions s c.in_ok-layout.ensures kept;
+        rows = are-rows s l c.in_ok-rows.ensures.rows kept;
+        failures = are-failures s l kept;
+        lists = are-lists s l c.in_ok-numbering.ensures.matches kept;
       },
     )
 
@@ -45,8 +46,11 @@ returns-clause-rowed c =
     let row_offsets = c.in_ok-rows.rows.offsets.items in
     let states = c.in_ok-states.states.items in
     let kept : AreKept trie numbering links offsets row_offsets states =
-    subst (λ (xs : List ℕ). AreKept trie numbering links offsets xs states) c.deref-2.ensures.value (subst (λ (xs : List ℕ). AreKept trie numbering links xs c.deref-2.result.now states) c.deref.ensures.value c.in_ok-states.ensures) in
-    rows-below trie numbering links c.args.order.now c.start_back-back.result c.args.dense_depth offsets c.in_ok-rows.rows _ refl c.in_ok-numbering.ensures.made c.in_ok-numbering.ensures.runs c.requires.order c.in_ok-rows.ensures.rows c.in_ok-rows.ensures.rowed kept
+    subst (λ xs. AreKept trie numbering links offsets xs states) c.deref-2.ensures.value
+    (subst (λ xs. AreKept trie numbering links xs c.deref-2.result.now states) c.deref.ensures.value
+    c.in_ok-states.ensures) in
+    rows-below refl c.in_ok-numbering.ensures.made c.in_ok-numbering.ensures.runs c.requires.order
+    c.in_ok-rows.ensures.rows c.in_ok-rows.ensures.rowed kept
 
 pub returns-clause-classed : goal.returns-clause-classed
-returns-clause-classed c m t = trie-classed c.args.trie.now c.classes-classes.result c.classes-classes.ensures.made m t
+returns-clause-classed c m t = trie-classed c.classes-classes.ensures.made t

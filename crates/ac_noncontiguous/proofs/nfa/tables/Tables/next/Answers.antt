@@ -5,12 +5,12 @@ use Rattle.ac_noncontiguous.proofs.nfa.OverLemmas.{leads-over, leads-own, kept-o
 use Rattle.ac_noncontiguous.proofs.nfa.tables.Tables.next.Goals as goal
 
 pub own-requires : goal.own-requires
-own-requires c = (c.requires.0, kept-over c.args.self.now c.args.sid c.args.byte c.in-Some.next c.requires.0 c.in-Some.ensures)
+own-requires c = (c.requires.0, kept-over c.requires.0 c.in-Some.ensures)
 
 pub returns-in-No : goal.returns-in-No
 returns-in-No c =
-    leads-over c.args.self.now (is_anchored c.args.anchored) c.args.sid c.args.byte c.in-Some.next c.args.steps.now c.look.new.self (ap is_anchored c.in-No.is) c.in-Some.ensures c.look.ensures
+    leads-over (is_anchored c.args.anchored) (ap is_anchored c.in-No.is) c.in-Some.ensures c.look.ensures
 
 pub returns-in-Yes : goal.returns-in-Yes
 returns-in-Yes c =
-    leads-own c.args.self.now (is_anchored c.args.anchored) c.args.sid c.args.byte c.in-Some.next c.own.result c.args.steps.now c.look.new.self (ap is_anchored c.in-Yes.is) c.in-Some.ensures c.own.ensures c.look.ensures
+    leads-own (is_anchored c.args.anchored) (ap is_anchored c.in-Yes.is) c.in-Some.ensures c.own.ensures c.look.ensures

@@ -6,35 +6,38 @@ use Rattle.ac_noncontiguous.proofs.nfa.LookupLemmas.{kept-within, kept-read, kep
 use Rattle.ac_noncontiguous.proofs.nfa.tables.Tables.step.Goals as goal
 
 pub index-requires : goal.index-requires
-index-requires c = let k = kept-within c.args.self.now c.args.sid c.requires in let e = c.as_usize-at.ensures.value in omega arith
+index-requires c = let k = kept-within c.requires in let e = c.as_usize-at.ensures.value in omega arith
 
 pub index-requires-2 : goal.index-requires-2
-index-requires-2 c = let k = kept-within c.args.self.now c.args.sid c.requires in let e = c.as_usize-at.ensures.value in omega arith
+index-requires-2 c = let k = kept-within c.requires in let e = c.as_usize-at.ensures.value in omega arith
 
 pub find-requires-clause-ordered : goal.find-requires-clause-ordered
 find-requires-clause-ordered c =
-    let from = ap (λ (s : State). s.transitions) (kept-read c.args.self.now c.args.sid c.as_usize-at.result c.index.result.now c.requires c.as_usize-at.ensures.value c.index.ensures) in
-    let end = ap (λ (s : State). s.transitions) (kept-read_next c.args.self.now c.args.sid c.as_usize-at.result c.index-2.result.now c.requires c.as_usize-at.ensures.value c.index-2.ensures) in
-    let le = kept-ordered c.args.self.now c.args.sid c.requires in
+    let from = ap (λ s. s.transitions) (kept-read c.requires c.as_usize-at.ensures.value c.index.ensures) in
+    let end = ap (λ s. s.transitions) (kept-read_next c.requires c.as_usize-at.ensures.value c.index-2.ensures) in
+    let le = kept-ordered c.requires in
     omega (arith, from, end, le)
 
 pub find-requires-clause-within : goal.find-requires-clause-within
 find-requires-clause-within c =
-    let end = ap (λ (s : State). s.transitions) (kept-read_next c.args.self.now c.args.sid c.as_usize-at.result c.index-2.result.now c.requires c.as_usize-at.ensures.value c.index-2.ensures) in
-    let le = kept-ends c.args.self.now c.args.sid c.requires in
+    let end = ap (λ s. s.transitions) (kept-read_next c.requires c.as_usize-at.ensures.value c.index-2.ensures) in
+    let le = kept-ends c.requires in
     omega (arith, end, le)
 
 pub find-requires-clause-rising : goal.find-requires-clause-rising
 find-requires-clause-rising c =
-    let from = ap (λ (s : State). s.transitions) (kept-read c.args.self.now c.args.sid c.as_usize-at.result c.index.result.now c.requires c.as_usize-at.ensures.value c.index.ensures) in
-    let end = ap (λ (s : State). s.transitions) (kept-read_next c.args.self.now c.args.sid c.as_usize-at.result c.index-2.result.now c.requires c.as_usize-at.ensures.value c.index-2.ensures) in
-    subst (λ (a : ℕ). AreRisingIn c.args.self.now.transitions.items a c.index-2.result.now.transitions) from
-    (subst (λ (b : ℕ). AreRisingIn c.args.self.now.transitions.items (kept_of c.args.self.now.states.items c.args.sid).transitions b) end (kept-rises c.args.self.now c.args.sid c.requires))
+    let from = ap (λ s. s.transitions) (kept-read c.requires c.as_usize-at.ensures.value c.index.ensures) in
+    let end = ap (λ s. s.transitions) (kept-read_next c.requires c.as_usize-at.ensures.value c.index-2.ensures) in
+    subst (λ a. AreRisingIn c.args.self.now.transitions.items a c.index-2.result.now.transitions) from
+    (subst (λ b. AreRisingIn c.args.self.now.transitions.items
+    (kept_of c.args.self.now.states.items c.args.sid).transitions b) end (kept-rises c.requires))
 
 pub returns : goal.returns
 returns c =
-    let from = ap (λ (s : State). s.transitions) (kept-read c.args.self.now c.args.sid c.as_usize-at.result c.index.result.now c.requires c.as_usize-at.ensures.value c.index.ensures) in
-    let end = ap (λ (s : State). s.transitions) (kept-read_next c.args.self.now c.args.sid c.as_usize-at.result c.index-2.result.now c.requires c.as_usize-at.ensures.value c.index-2.ensures) in
-    leads-range c.args.self.now c.args.sid c.args.byte c.find.result c.ranges.byte.fits
-    (subst (λ (a : ℕ). IsNextIn c.args.self.now.transitions.items a (kept_of c.args.self.now.states.items (c.args.sid + 1)).transitions c.args.byte c.find.result) (sym from)
-    (subst (λ (b : ℕ). IsNextIn c.args.self.now.transitions.items c.index.result.now.transitions b c.args.byte c.find.result) (sym end) c.find.ensures))
+    let from = ap (λ s. s.transitions) (kept-read c.requires c.as_usize-at.ensures.value c.index.ensures) in
+    let end = ap (λ s. s.transitions) (kept-read_next c.requires c.as_usize-at.ensures.value c.index-2.ensures) in
+    leads-range c.ranges.byte.fits
+    (subst (λ a. IsNextIn c.args.self.now.transitions.items a
+    (kept_of c.args.self.now.states.items (c.args.sid + 1)).transitions c.args.byte c.find.result) (sym from)
+    (subst (λ b. IsNextIn c.args.self.now.transitions.items c.index.result.now.transitions b c.args.byte c.find.result)
+    (sym end) c.find.ensures))

@@ -10,8 +10,11 @@ returns-then-as_u32-gt-NOWHERE c =
     let low = c.as_u32-then-as_u32-gt-NOWHERE.ensures.value in
     let top = c.as_u32-then-as_u32-gt-NOWHERE-2.ensures.value in
     let past = c.if-as_u32-gt-NOWHERE.true in (
-      λ e. let le = leb-true c.as_u32-then-as_u32-gt-NOWHERE.result c.as_u32-then-as_u32-gt-NOWHERE-2.result e in state-many a c.args.sid c.requires (omega (arith, at, past)) (omega (arith, le, low, top)),
-      λ some. let m = (state-matches a c.args.sid c.requires some).1 in le-leb c.as_u32-then-as_u32-gt-NOWHERE.result c.as_u32-then-as_u32-gt-NOWHERE-2.result (omega (arith, m, low, top)),
+      λ e. let le = leb-true c.as_u32-then-as_u32-gt-NOWHERE.result c.as_u32-then-as_u32-gt-NOWHERE-2.result e in
+          state-many a c.args.sid c.requires (omega (arith, at, past)) (omega (arith, le, low, top)),
+      λ some. let m = (state-matches a c.args.sid c.requires some).1 in
+          le-leb c.as_u32-then-as_u32-gt-NOWHERE.result c.as_u32-then-as_u32-gt-NOWHERE-2.result
+          (omega (arith, m, low, top)),
     )
 
 pub returns-else-as_u32-gt-NOWHERE : goal.returns-else-as_u32-gt-NOWHERE

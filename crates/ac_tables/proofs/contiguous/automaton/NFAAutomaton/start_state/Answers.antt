@@ -11,7 +11,7 @@ returns c =
       tt,
       start-read a c.args.anchored c.match-anchored.result
           (elim c.match-anchored.branch [
-            | in-No w ↦ w.result-is ∙ sym (ap (λ (x : Anchored). nfa_start_of a.table (is_anchored x)) w.in-No.is)
-            | in-Yes w ↦ w.result-is ∙ sym (ap (λ (x : Anchored). nfa_start_of a.table (is_anchored x)) w.in-Yes.is)
+            | in-No w ↦ w.result-is ∙ sym (ap (λ x. nfa_start_of a.table (is_anchored x)) w.in-No.is)
+            | in-Yes w ↦ w.result-is ∙ sym (ap (λ x. nfa_start_of a.table (is_anchored x)) w.in-Yes.is)
           ]),
     )

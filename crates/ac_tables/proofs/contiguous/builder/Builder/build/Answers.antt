@@ -10,7 +10,7 @@ pub returns-clause-built : goal.returns-clause-built
 returns-clause-built c =
     let from = c.in_ok-nfa.nfa in
     let patterns = c.args.patterns.now in
-    let own = subst (λ (s : Settings). IsBuiltOf s patterns (built_as from)) c.self.view_is c.in_ok-nfa.ensures.built in
+    let own = subst (λ s. IsBuiltOf s patterns (built_as from)) c.self.view_is c.in_ok-nfa.ensures.built in
     IfOk-weaker c.build_from_noncontiguous.result _ _
     (λ made h. record { built = subst (IsBuiltOf c.args.self.now patterns) (sym h.built) own; from = (from, h) })
     c.build_from_noncontiguous.ensures.made
@@ -19,5 +19,6 @@ pub returns-clause-refused : goal.returns-clause-refused
 returns-clause-refused c =
     let from = c.in_ok-nfa.nfa in
     let patterns = c.args.patterns.now in
-    let own = c.in_ok-nfa.ensures.built.dictionary ∙ ap (λ (s : Settings). dictionary_by s patterns) c.self.view_is in
-    IfErr-weaker c.build_from_noncontiguous.result _ _ (λ error h. inr (from, own, h)) c.build_from_noncontiguous.ensures.refused
+    let own = c.in_ok-nfa.ensures.built.dictionary ∙ ap (λ s. dictionary_by s patterns) c.self.view_is in
+    IfErr-weaker c.build_from_noncontiguous.result _ _ (λ error h. inr (from, own, h))
+    c.build_from_noncontiguous.ensures.refused

@@ -15,7 +15,10 @@ next-requires-clause-within c =
 pub returns-clause-next : goal.returns-clause-next
 returns-clause-next c =
     let by = c.args.self.now in
-    row-leads by c.args.anchored c.args.sid c.args.byte c.next.result c.ranges.byte.fits (c.next.ensures ∙ ap (λ (trans : List ℕ). slice_index trans (c.args.sid + class by.nfa.now.table.classes c.args.byte)) c.deref.ensures.value)
+    row-leads by c.args.anchored c.args.sid c.args.byte c.next.result c.ranges.byte.fits
+    (c.next.ensures ∙ ap (λ trans. slice_index trans (c.args.sid + class by.nfa.now.table.classes c.args.byte))
+    c.deref.ensures.value)
 
 pub returns-clause-cost : goal.returns-clause-cost
-returns-clause-cost c = cost-looks (by_rows_built_as c.args.self.now) (IsRowRead c.args.self.now) c.args.anchored c.args.sid (c.args.byte ∷ []) 1 _ _ refl c.look.ensures
+returns-clause-cost c =
+    cost-looks (by_rows_built_as c.args.self.now) (IsRowRead c.args.self.now) (c.args.byte ∷ []) refl c.look.ensures

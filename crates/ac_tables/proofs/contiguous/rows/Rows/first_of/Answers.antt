@@ -9,7 +9,8 @@ returns-then-has c =
     let len = c.len.ensures in
     let more = c.if-len-lt2.false in
     let read = get_or_read rows.places.items 0 c.index.result.now (omega (arith, len, more)) c.index.ensures 0 in
-    cut-first rows.places.items c.args.to c.index.result.now rows.rise (omega (arith, len, more)) (sym read) (sym c.has.ensures ∙ c.if-has.true)
+    cut-first rows.places.items c.args.to c.index.result.now rows.rise (omega (arith, len, more)) (sym read)
+    (sym c.has.ensures ∙ c.if-has.true)
 
 pub returns-then-has-2 : goal.returns-then-has-2
 returns-then-has-2 c =
@@ -18,4 +19,5 @@ returns-then-has-2 c =
     let more = c.if-len-lt2.false in
     let first = get_or_read rows.places.items 0 c.index.result.now (omega (arith, len, more)) c.index.ensures 0 in
     let second = get_or_read rows.places.items 1 c.index-2.result.now (omega (arith, len, more)) c.index-2.ensures 0 in
-    cut-second rows.places.items c.args.to c.index.result.now c.index-2.result.now rows.rise (omega (arith, len, more)) (sym first) (sym second) (sym c.has.ensures ∙ c.if-has.false) (sym c.has-2.ensures ∙ c.if-has-2.true)
+    cut-second rows.places.items c.args.to c.index.result.now c.index-2.result.now rows.rise (omega (arith, len, more))
+    (sym first) (sym second) (sym c.has.ensures ∙ c.if-has.false) (sym c.has-2.ensures ∙ c.if-has-2.true)

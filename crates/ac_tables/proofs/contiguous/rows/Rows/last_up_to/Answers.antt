@@ -9,5 +9,5 @@ returns c =
     let rows = c.args.self.now in
     let end = c.in_ok-end.end in
     last-up-to rows c.args.sid end _ (pow_pos rows.stride2) c.in_ok-end.ensures.0
-    (subst (λ (n : ℕ). IsCountBelow rows.places.items (n + 1) end) c.new.ensures.last c.in_ok-end.ensures.1)
-    (c.must.ensures ∙ ap (λ (n : ℕ). end * n - 1) c.stride.ensures)
+    (subst (λ n. IsCountBelow rows.places.items (n + 1) end) c.new.ensures.last c.in_ok-end.ensures.1)
+    (c.must.ensures ∙ ap (λ n. end * n - 1) c.stride.ensures)

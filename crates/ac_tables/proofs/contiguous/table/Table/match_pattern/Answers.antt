@@ -8,27 +8,35 @@ use Rattle.ac_tables.proofs.contiguous.table.Table.match_pattern.Goals as goal
 pub must-requires : goal.must-requires
 must-requires c =
     let t = c.args.self.now in
-    let word = first-of t.words.items (list_place t c.args.sid) c.list_place-at.result c.index-word.result.now c.requires.list.list c.list_place-at.ensures c.index-word.ensures in
+    let word = first-of t.words.items (list_place t c.args.sid) c.list_place-at.result c.index-word.result.now
+    c.requires.list.list c.list_place-at.ensures c.index-word.ensures in
     let high = c.if-word-ge-ONE_PATTERN.true in
     c.requires.known c.args.index (c.index-word.result.now - 2147483648)
-    (one-at_index t.words.items (list_place t c.args.sid) c.args.index (c.index-word.result.now - 2147483648) (omega (arith, word, high)) c.requires.within (omega (arith, word)))
+    (one-at_index t.words.items (list_place t c.args.sid) c.args.index (c.index-word.result.now - 2147483648)
+    (omega (arith, word, high)) c.requires.within (omega (arith, word)))
 
 pub must-requires-2 : goal.must-requires-2
 must-requires-2 c =
     let t = c.args.self.now in
-    let word = first-of t.words.items (list_place t c.args.sid) c.list_place-at.result c.index-word.result.now c.requires.list.list c.list_place-at.ensures c.index-word.ensures in
+    let word = first-of t.words.items (list_place t c.args.sid) c.list_place-at.result c.index-word.result.now
+    c.requires.list.list c.list_place-at.ensures c.index-word.ensures in
     let low = c.if-word-ge-ONE_PATTERN.false in
     let less : slice_index t.words.items (list_place t c.args.sid) < 2147483648 = omega (arith, word, low) in
     c.requires.known c.args.index c.index.result.now
-    (many-at_index t.words.items (list_place t c.args.sid) c.args.index c.index.result.now less (c.requires.list.rest less) c.requires.within
-    (subst (λ (n : ℕ). c.index.result.now ≡ get_or t.words.items (n + 1 + c.args.index) c.index.result.now) c.list_place-at.ensures c.index.ensures))
+    (many-at_index t.words.items (list_place t c.args.sid) c.args.index c.index.result.now less
+    (c.requires.list.rest less) c.requires.within
+    (subst (λ n. c.index.result.now ≡ get_or t.words.items (n + 1 + c.args.index) c.index.result.now)
+    c.list_place-at.ensures c.index.ensures))
 
 pub returns : goal.returns
 returns c =
     let t = c.args.self.now in
-    let word = first-of t.words.items (list_place t c.args.sid) c.list_place-at.result c.index-word.result.now c.requires.list.list c.list_place-at.ensures c.index-word.ensures in
+    let word = first-of t.words.items (list_place t c.args.sid) c.list_place-at.result c.index-word.result.now
+    c.requires.list.list c.list_place-at.ensures c.index-word.ensures in
     let low = c.if-word-ge-ONE_PATTERN.false in
     let less : slice_index t.words.items (list_place t c.args.sid) < 2147483648 = omega (arith, word, low) in
-    many-at_index t.words.items (list_place t c.args.sid) c.args.index c.must-2.result less (c.requires.list.rest less) c.requires.within
-    (subst (λ (x : ℕ). x ≡ get_or t.words.items (list_place t c.args.sid + 1 + c.args.index) x) (sym c.must-2.ensures)
-    (subst (λ (n : ℕ). c.index.result.now ≡ get_or t.words.items (n + 1 + c.args.index) c.index.result.now) c.list_place-at.ensures c.index.ensures))
+    many-at_index t.words.items (list_place t c.args.sid) c.args.index c.must-2.result less (c.requires.list.rest less)
+    c.requires.within
+    (subst (λ x. x ≡ get_or t.words.items (list_place t c.args.sid + 1 + c.args.index) x) (sym c.must-2.ensures)
+    (subst (λ n. c.index.result.now ≡ get_or t.words.items (n + 1 + c.args.index) c.index.result.now)
+    c.list_place-at.ensures c.index.ensures))

@@ -1,9 +1,16 @@
-use Rattle.ac_tables.proofs.dfa.DfaIdleLemmas.{between-special}
-use Rattle.ac_tables.proofs.dfa.DfaPassingLemmas.{may-read-by, special-below}
+use Rattle.ac_automaton.proofs.skip.StopLemmas.{between-special, special-below}
+use Rattle.ac_tables.specs.Dfa.Reads.{IsDfaRead}
+use Rattle.ac_tables.proofs.dfa.PassingLemmas.{may-read-by, starts-ordered}
 use Rattle.ac_tables.proofs.dfa.automaton.DFAAutomaton.advance.Goals as goal
 
 pub read_to-requires-clause-may : goal.read_to-requires-clause-may
-read_to-requires-clause-may c = may-read-by c.args.self.now c.new-special.result (special-below c.args.self.now c.new-special.result.last c.new-special.ensures.last)
+read_to-requires-clause-may c =
+    let a = c.args.self.now in may-read-by a c.new-special.result
+    (special-below a.prefilter a.table.start a.table.start_anchored a.table.max_match a.max_special
+    c.new-special.result.last (starts-ordered a) a.special c.new-special.ensures.last)
 
 pub returns-clause-goes : goal.returns-clause-goes
-returns-clause-goes c = let a = c.args.self.now in between-special a c.new-special.result c.args.anchored c.args.sid c.args.bytes.now c.read_to.result c.new-special.ensures.first c.new-special.ensures.last c.requires c.read_to.ensures.goes
+returns-clause-goes c =
+    let a = c.args.self.now in between-special (IsDfaRead a c.args.anchored) a.max_special c.new-special.result
+    c.args.sid c.args.bytes.now c.read_to.result c.new-special.ensures.first c.new-special.ensures.last c.requires
+    c.read_to.ensures.goes

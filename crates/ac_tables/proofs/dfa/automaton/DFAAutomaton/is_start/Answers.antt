@@ -1,4 +1,4 @@
-use Rattle.ac_tables.proofs.dfa.DfaReadLemmas.{start-said}
+use Rattle.ac_tables.proofs.dfa.ReadLemmas.{start-said}
 use Rattle.ac_tables.proofs.dfa.automaton.DFAAutomaton.is_start.Goals as goal
 
 pub returns-clause-tells : goal.returns-clause-tells

@@ -1,5 +1,5 @@
 use Rattle.std.proofs.Common.{length, ap, sym, ◌∙◌}
-use Rattle.ac_tables.proofs.dfa.DfaReadLemmas.{state-list, state-listed}
+use Rattle.ac_tables.proofs.dfa.ReadLemmas.{state-list, state-listed}
 use Rattle.ac_tables.proofs.dfa.automaton.DFAAutomaton.match_len.Goals as goal
 
 pub match_list-requires : goal.match_list-requires

@@ -1,6 +1,6 @@
 -- What is noted holds of the DFA's own states.
 use Rattle.ac_automaton.proofs.lanes.NoteLemmas.{reads-nothing}
-use Rattle.ac_tables.proofs.dfa.DfaPassingLemmas.{dfa-ahead, may-note}
+use Rattle.ac_tables.proofs.dfa.PassingLemmas.{dfa-ahead, may-note}
 use Rattle.ac_tables.proofs.dfa.automaton.DFAAutomaton.note_ahead.Goals as goal
 
 pub note_ahead-requires-clause-may : goal.note_ahead-requires-clause-may

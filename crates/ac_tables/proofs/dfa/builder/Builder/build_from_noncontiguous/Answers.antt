@@ -7,40 +7,46 @@ use Rattle.std.specs.Prelude.{IfSome}
 use Rattle.ac_literal.specs.Openings.{AreOpenings}
 use Rattle.ac_noncontiguous.specs.Nfa.Reads.{dictionary, built_as}
 use Rattle.ac_noncontiguous.specs.declared.settings.Settings.{Settings}
-use Rattle.ac_tables.specs.Dfa.DfaMade.{IsTableFor, IsTableRefused}
-use Rattle.ac_tables.specs.Dfa.DfaReads.{IsDfaMadeOf}
-use Rattle.ac_tables.proofs.dfa.DfaBuildLemmas.{dfa-of, refused-of, parts-of}
+use Rattle.ac_tables.specs.Dfa.Made.{IsTableFor, IsTableRefused}
+use Rattle.ac_tables.specs.Dfa.Reads.{IsDfaMadeOf}
+use Rattle.ac_tables.proofs.dfa.BuildLemmas.{dfa-of, refused-of, parts-of}
 use Rattle.ac_tables.proofs.dfa.builder.Builder.build_from_noncontiguous.Goals as goal
 
 pub returns-in_err-table-clause-refused : goal.returns-in_err-table-clause-refused
 returns-in_err-table-clause-refused c =
     let p = err_from_is_err_and c.from_residual.result c.from_residual.ensures.1 in
-    let h = subst (λ (s : Settings). IsTableRefused c.args.nfa.now s.start_kind s.byte_classes c.in_err-table.field-0.0) c.self.view_is c.in_err-table.ensures.refused in
+    let h = subst (λ s. IsTableRefused c.args.nfa.now s.start_kind s.byte_classes c.in_err-table.field-0.0)
+    c.self.view_is c.in_err-table.ensures.refused in
     rw (p.1, p.2) (refused-of c.args.self.now c.args.nfa.now c.in_err-table.field-0.0 h)
 
 pub from_parts-requires-clause-parts : goal.from_parts-requires-clause-parts
 from_parts-requires-clause-parts c =
     let nfa = c.args.nfa.now in
     let same : dictionary_of c.in_ok-lens.lens c.pairing.result.now c.match_kind.result ≡ dictionary nfa =
-    ap (λ (q : List (List ℕ)). dictionary_of q c.pairing.result.now c.match_kind.result) (c.in_ok-lens.ensures ∙ c.pattern_lens.ensures)
-    ∙ (ap (λ (q : List ℕ). dictionary_of (dictionary nfa).patterns q c.match_kind.result) c.pairing.ensures.value ∙ ap (λ (k : MatchKind). dictionary_of (dictionary nfa).patterns (dictionary nfa).pairing k) c.match_kind.ensures) in
-    parts-of nfa c.in_ok-table.table c.in_ok-prefilter.prefilter _ same c.in_ok-table.ensures.made.made c.prefilter.ensures.made (c.in_ok-prefilter.ensures ∙ c.prefilter.ensures.value)
+    ap (λ q. dictionary_of q c.pairing.result.now c.match_kind.result) (c.in_ok-lens.ensures ∙ c.pattern_lens.ensures)
+    ∙ (ap (λ q. dictionary_of (dictionary nfa).patterns q c.match_kind.result) c.pairing.ensures.value
+    ∙ ap (λ k. dictionary_of (dictionary nfa).patterns (dictionary nfa).pairing k) c.match_kind.ensures) in
+    parts-of nfa c.in_ok-table.table c.in_ok-prefilter.prefilter _ same c.in_ok-table.ensures.made.made
+    c.prefilter.ensures.made (c.in_ok-prefilter.ensures ∙ c.prefilter.ensures.value)
 
 pub from_parts-requires-clause-opened : goal.from_parts-requires-clause-opened
 from_parts-requires-clause-opened c =
     let nfa = c.args.nfa.now in
     let same : dictionary_of c.in_ok-lens.lens c.pairing.result.now c.match_kind.result ≡ dictionary nfa =
-    ap (λ (q : List (List ℕ)). dictionary_of q c.pairing.result.now c.match_kind.result) (c.in_ok-lens.ensures ∙ c.pattern_lens.ensures)
-    ∙ (ap (λ (q : List ℕ). dictionary_of (dictionary nfa).patterns q c.match_kind.result) c.pairing.ensures.value ∙ ap (λ (k : MatchKind). dictionary_of (dictionary nfa).patterns (dictionary nfa).pairing k) c.match_kind.ensures) in
-    subst (λ (m : Dictionary). ∥ IfSome c.openings-openings.result (AreOpenings m) ∥₁) (sym same) c.openings-openings.ensures
+    ap (λ q. dictionary_of q c.pairing.result.now c.match_kind.result) (c.in_ok-lens.ensures ∙ c.pattern_lens.ensures)
+    ∙ (ap (λ q. dictionary_of (dictionary nfa).patterns q c.match_kind.result) c.pairing.ensures.value
+    ∙ ap (λ k. dictionary_of (dictionary nfa).patterns (dictionary nfa).pairing k) c.match_kind.ensures) in
+    subst (λ m. ∥ IfSome c.openings-openings.result (AreOpenings m) ∥₁) (sym same) c.openings-openings.ensures
 
 pub returns-clause-built : goal.returns-clause-built
 returns-clause-built c =
     let nfa = c.args.nfa.now in
     let same : dictionary_of c.in_ok-lens.lens c.pairing.result.now c.match_kind.result ≡ dictionary nfa =
-    ap (λ (q : List (List ℕ)). dictionary_of q c.pairing.result.now c.match_kind.result) (c.in_ok-lens.ensures ∙ c.pattern_lens.ensures)
-    ∙ (ap (λ (q : List ℕ). dictionary_of (dictionary nfa).patterns q c.match_kind.result) c.pairing.ensures.value ∙ ap (λ (k : MatchKind). dictionary_of (dictionary nfa).patterns (dictionary nfa).pairing k) c.match_kind.ensures) in
-    let h = subst (λ (s : Settings). IsTableFor nfa s.start_kind s.byte_classes c.in_ok-table.table) c.self.view_is c.in_ok-table.ensures.made in
+    ap (λ q. dictionary_of q c.pairing.result.now c.match_kind.result) (c.in_ok-lens.ensures ∙ c.pattern_lens.ensures)
+    ∙ (ap (λ q. dictionary_of (dictionary nfa).patterns q c.match_kind.result) c.pairing.ensures.value
+    ∙ ap (λ k. dictionary_of (dictionary nfa).patterns (dictionary nfa).pairing k) c.match_kind.ensures) in
+    let h = subst (λ s. IsTableFor nfa s.start_kind s.byte_classes c.in_ok-table.table) c.self.view_is
+    c.in_ok-table.ensures.made in
     let made : IsDfaMadeOf (dictionary nfa) c.in_ok-table.table (built_as nfa).prefilter c.from_parts.result = record {
       dictionary = c.from_parts.ensures.dictionary ∙ same;
       table = c.from_parts.ensures.table;

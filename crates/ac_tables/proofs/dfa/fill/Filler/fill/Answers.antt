@@ -5,42 +5,60 @@ use Rattle.ac_input.specs.declared.search.Anchored.TheVariants.{No, Yes}
 use Rattle.ac_input.specs.declared.search.StartKind.{StartKind}
 use Rattle.ac_input.specs.declared.search.StartKind.TheVariants as starts
 use Rattle.ac_input.specs.Dfa.{Serves}
-use Rattle.ac_tables.specs.Dfa.Filler.{row_plan_of}
-use Rattle.ac_tables.proofs.dfa.FilledLemmas.{filled-plain, filled-anchored, filled-both, blank-still}
+use Rattle.ac_tables.specs.Dfa.Fill.{row_plan_of}
+use Rattle.ac_tables.proofs.dfa.FilledLemmas.{HasOwnRow, filled-plain, filled-anchored, filled-both, blank-still}
 use Rattle.ac_tables.proofs.dfa.fill.Filler.fill.Goals as goal
 
 -- which anchorings a start kind serves
 serves-plain : (kind : StartKind) → kind ≡ starts.Unanchored → Serves kind No × (¬ Serves kind Yes)
-serves-plain kind is = subst (λ (k : StartKind). Serves k No × (¬ Serves k Yes)) (sym is) (refl, λ e. let f : Yes ≡ No = e in cc)
+serves-plain kind is =
+    subst (λ k. Serves k No × (¬ Serves k Yes)) (sym is) (refl, λ e. let f : Yes ≡ No = e in cc)
 
 serves-anchored : (kind : StartKind) → kind ≡ starts.Anchored → (¬ Serves kind No) × Serves kind Yes
-serves-anchored kind is = subst (λ (k : StartKind). (¬ Serves k No) × Serves k Yes) (sym is) (λ e. let f : No ≡ Yes = e in cc, refl)
+serves-anchored kind is =
+    subst (λ k. (¬ Serves k No) × Serves k Yes) (sym is) (λ e. let f : No ≡ Yes = e in cc, refl)
 
 serves-both : (kind : StartKind) (a : Anchored) → kind ≡ starts.Both → Serves kind a
-serves-both kind a is = subst (λ (k : StartKind). Serves k a) (sym is) tt
+serves-both kind a is = subst (λ k. Serves k a) (sym is) tt
 
 pub fill_anchored-requires-in-Both-clause-blank : goal.fill_anchored-requires-in-Both-clause-blank
 fill_anchored-requires-in-Both-clause-blank c =
     let p = row_plan_of c.args.self.now in
     let met = c.requires.met in
-    blank-still p c.args.plain c.args.anchored c.args.trans.now c.fill_unanchored-in-Both.new.trans c.args.self.now.fit (serves-both p.kind No c.in-Both.is) (serves-both p.kind Yes c.in-Both.is) met.0 met.1 met.2 c.fill_unanchored-in-Both.ensures.alone (c.requires.blank (serves-both p.kind Yes c.in-Both.is))
+    let plain : HasOwnRow p No c.args.plain =
+    record { serves = serves-both p.kind No c.in-Both.is; met = met.0; past = met.1 } in
+    let own : HasOwnRow p Yes c.args.anchored =
+    record { serves = serves-both p.kind Yes c.in-Both.is; met = met.2; past = met.3 } in
+    blank-still p c.args.plain c.args.anchored c.args.trans.now c.fill_unanchored-in-Both.new.trans c.args.self.now.fit
+    plain own c.fill_unanchored-in-Both.ensures.alone (c.requires.blank own.serves)
 
 pub returns-in-Unanchored : goal.returns-in-Unanchored
 returns-in-Unanchored c =
     let p = row_plan_of c.args.self.now in
     let met = c.requires.met in
     let s = serves-plain p.kind c.in-Unanchored.is in
-    filled-plain p c.args.plain c.args.anchored c.args.trans.now c.fill_unanchored.new.trans c.args.self.now.fit s.0 s.1 met.0 met.1 c.fill_unanchored.ensures.alone c.fill_unanchored.ensures.right
+    filled-plain p c.args.plain c.args.anchored c.args.trans.now c.fill_unanchored.new.trans c.args.self.now.fit
+    (record { serves = s.0; met = met.0; past = met.1 }) s.1
+    (record { changed = c.fill_unanchored.ensures.alone; right = c.fill_unanchored.ensures.right })
 
 pub returns-in-Anchored : goal.returns-in-Anchored
 returns-in-Anchored c =
     let p = row_plan_of c.args.self.now in
     let met = c.requires.met in
     let s = serves-anchored p.kind c.in-Anchored.is in
-    filled-anchored p c.args.plain c.args.anchored c.args.trans.now c.fill_anchored.new.trans c.args.self.now.fit s.0 s.1 met.2 met.3 c.fill_anchored.ensures.alone c.fill_anchored.ensures.right
+    filled-anchored p c.args.plain c.args.anchored c.args.trans.now c.fill_anchored.new.trans c.args.self.now.fit s.0
+    (record { serves = s.1; met = met.2; past = met.3 })
+    (record { changed = c.fill_anchored.ensures.alone; right = c.fill_anchored.ensures.right })
 
 pub returns-in-Both : goal.returns-in-Both
 returns-in-Both c =
     let p = row_plan_of c.args.self.now in
     let met = c.requires.met in
-    filled-both p c.args.plain c.args.anchored c.args.trans.now c.fill_unanchored-in-Both.new.trans c.fill_anchored-in-Both.new.trans c.args.self.now.fit (serves-both p.kind No c.in-Both.is) (serves-both p.kind Yes c.in-Both.is) met.0 met.1 met.2 met.3 c.fill_unanchored-in-Both.ensures.alone c.fill_unanchored-in-Both.ensures.right c.fill_anchored-in-Both.ensures.alone c.fill_anchored-in-Both.ensures.right
+    let plain : HasOwnRow p No c.args.plain =
+    record { serves = serves-both p.kind No c.in-Both.is; met = met.0; past = met.1 } in
+    let own : HasOwnRow p Yes c.args.anchored =
+    record { serves = serves-both p.kind Yes c.in-Both.is; met = met.2; past = met.3 } in
+    filled-both p c.args.plain c.args.anchored c.args.trans.now c.fill_unanchored-in-Both.new.trans
+    c.fill_anchored-in-Both.new.trans c.args.self.now.fit plain own
+    (record { changed = c.fill_unanchored-in-Both.ensures.alone; right = c.fill_unanchored-in-Both.ensures.right })
+    (record { changed = c.fill_anchored-in-Both.ensures.alone; right = c.fill_anchored-in-Both.ensures.right })

@@ -1,6 +1,6 @@
 use Rattle.std.proofs.Common.{◌+◌, ◌-◌, ◌≤◌}
 use Rattle.ac_tables.specs.Dfa.Filling.{AreRowsUpTo}
-use Rattle.ac_tables.specs.Dfa.Filler.{row_plan_of}
+use Rattle.ac_tables.specs.Dfa.Fill.{row_plan_of}
 use Rattle.ac_tables.proofs.dfa.fill.Filler.fill_all.Given as goal
 
 abbrev pub invariant-loop-low : goal.invariant-loop-low

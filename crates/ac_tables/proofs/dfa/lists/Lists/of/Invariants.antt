@@ -1,5 +1,5 @@
 use Rattle.std.proofs.Common.{◌-◌}
-use Rattle.ac_tables.specs.Dfa.DfaLists.{AreFirstLists}
+use Rattle.ac_tables.specs.Dfa.Lists.{AreFirstLists}
 use Rattle.ac_tables.proofs.dfa.lists.Lists.of.Given as goal
 
 abbrev pub invariant-loop-sid : goal.invariant-loop-sid

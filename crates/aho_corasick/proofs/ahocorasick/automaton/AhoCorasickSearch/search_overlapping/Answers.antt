@@ -1,79 +1,15 @@
--- The front shows what the automaton that serves shows.
-use Rattle.std.proofs.Common.{[], List, ◌≡◌}
-use Rattle.ac_input.specs.Input.{Asked}
-use Rattle.ac_input.specs.Occurrence.{Occurrence}
-use Rattle.ac_automaton.specs.Automaton.{Built, searched}
-use Rattle.ac_automaton.specs.Overlapping.{IsLeft, ShowsFirst}
-use Rattle.ac_automaton.specs.declared.overlapping.Position.{Position}
-use Rattle.ac_automaton.specs.declared.overlapping.Shown.{Shown}
-use Rattle.aho_corasick.specs.declared.engine.Engine.{Engine}
-use Rattle.aho_corasick.specs.Engine.{engine_matches_at, IsEngineRead}
-use Rattle.ac_automaton.specs.Overlapping.OverlappingSearch.{CountsOn, KeepsPaying}
-use Rattle.ac_input.specs.declared.search.MatchKind.TheVariants.{Standard}
-use Rattle.aho_corasick.proofs.lemmas.EngineLemmas.{to-engine, to-front}
+-- It holds of the front since it does of the automaton that serves.
 use Rattle.aho_corasick.proofs.ahocorasick.automaton.AhoCorasickSearch.search_overlapping.Goals as goal
 
--- what is shown by whichever automaton serves
-abbrev EngineShowsNext : Asked → Position → Shown → Built → Engine → Type 0
-EngineShowsNext asked place shown b e =
-    (left : List Occurrence) → IsLeft (IsEngineRead e asked.anchored) (engine_matches_at e) b.dictionary (searched b asked) place left
-    → ShowsFirst (IsEngineRead e asked.anchored) (engine_matches_at e) b.dictionary (searched b asked) left shown
+pub returns-in-Noncontiguous : goal.returns-in-Noncontiguous
+returns-in-Noncontiguous c =
+    rw (c.serving.ensures.built, c.serving.ensures.engine, c.in-Noncontiguous.is) c.search_overlapping.ensures
 
-pub returns-in-Noncontiguous-clause-shows : goal.returns-in-Noncontiguous-clause-shows
-returns-in-Noncontiguous-clause-shows c = to-front (EngineShowsNext c.args.input.now c.args.place c.search_overlapping.result) c.serving.ensures.engine c.serving.ensures.built c.in-Noncontiguous.is c.search_overlapping.ensures.shows
+pub returns-in-Contiguous : goal.returns-in-Contiguous
+returns-in-Contiguous c =
+    rw (c.serving.ensures.built, c.serving.ensures.engine, c.in-Contiguous.is)
+    c.search_overlapping-in-Contiguous.ensures
 
-pub returns-in-Contiguous-clause-shows : goal.returns-in-Contiguous-clause-shows
-returns-in-Contiguous-clause-shows c = to-front (EngineShowsNext c.args.input.now c.args.place c.search_overlapping-in-Contiguous.result) c.serving.ensures.engine c.serving.ensures.built c.in-Contiguous.is c.search_overlapping-in-Contiguous.ensures.shows
-
-pub returns-in-Dfa-clause-shows : goal.returns-in-Dfa-clause-shows
-returns-in-Dfa-clause-shows c = to-front (EngineShowsNext c.args.input.now c.args.place c.search_overlapping-in-Dfa.result) c.serving.ensures.engine c.serving.ensures.built c.in-Dfa.is c.search_overlapping-in-Dfa.ensures.shows
-
-pub search_overlapping-requires-clause-standard : goal.search_overlapping-requires-clause-standard
-search_overlapping-requires-clause-standard c = to-engine (λ (b : Built) (e : Engine). b.dictionary.kind ≡ Standard) c.serving.ensures.engine c.serving.ensures.built c.in-Noncontiguous.is c.requires.standard
-
-pub search_overlapping-requires-clause-starts : goal.search_overlapping-requires-clause-starts
-search_overlapping-requires-clause-starts c = to-engine (λ (b : Built) (e : Engine). IsEngineRead e c.args.input.now.anchored [] c.args.start) c.serving.ensures.engine c.serving.ensures.built c.in-Noncontiguous.is c.requires.starts
-
-pub returns-in-Noncontiguous-clause-pays : goal.returns-in-Noncontiguous-clause-pays
-returns-in-Noncontiguous-clause-pays c = to-front (λ (b : Built) (e : Engine). KeepsPaying b c.args.input.now c.args.place c.search_overlapping.result c.args.steps.now c.search_overlapping.new.steps) c.serving.ensures.engine c.serving.ensures.built c.in-Noncontiguous.is c.search_overlapping.ensures.pays
-
-pub returns-in-Noncontiguous-clause-counts : goal.returns-in-Noncontiguous-clause-counts
-returns-in-Noncontiguous-clause-counts c = to-front (λ (b : Built) (e : Engine). CountsOn b c.args.input.now c.args.place c.search_overlapping.result c.args.steps.now c.search_overlapping.new.steps) c.serving.ensures.engine c.serving.ensures.built c.in-Noncontiguous.is c.search_overlapping.ensures.counts
-
-pub search_overlapping-requires-in-Contiguous-clause-standard : goal.search_overlapping-requires-in-Contiguous-clause-standard
-search_overlapping-requires-in-Contiguous-clause-standard c = to-engine (λ (b : Built) (e : Engine). b.dictionary.kind ≡ Standard) c.serving.ensures.engine c.serving.ensures.built c.in-Contiguous.is c.requires.standard
-
-pub search_overlapping-requires-in-Contiguous-clause-starts : goal.search_overlapping-requires-in-Contiguous-clause-starts
-search_overlapping-requires-in-Contiguous-clause-starts c = to-engine (λ (b : Built) (e : Engine). IsEngineRead e c.args.input.now.anchored [] c.args.start) c.serving.ensures.engine c.serving.ensures.built c.in-Contiguous.is c.requires.starts
-
-pub returns-in-Contiguous-clause-pays : goal.returns-in-Contiguous-clause-pays
-returns-in-Contiguous-clause-pays c = to-front (λ (b : Built) (e : Engine). KeepsPaying b c.args.input.now c.args.place c.search_overlapping-in-Contiguous.result c.args.steps.now c.search_overlapping-in-Contiguous.new.steps) c.serving.ensures.engine c.serving.ensures.built c.in-Contiguous.is c.search_overlapping-in-Contiguous.ensures.pays
-
-pub returns-in-Contiguous-clause-counts : goal.returns-in-Contiguous-clause-counts
-returns-in-Contiguous-clause-counts c = to-front (λ (b : Built) (e : Engine). CountsOn b c.args.input.now c.args.place c.search_overlapping-in-Contiguous.result c.args.steps.now c.search_overlapping-in-Contiguous.new.steps) c.serving.ensures.engine c.serving.ensures.built c.in-Contiguous.is c.search_overlapping-in-Contiguous.ensures.counts
-
-pub search_overlapping-requires-in-Dfa-clause-standard : goal.search_overlapping-requires-in-Dfa-clause-standard
-search_overlapping-requires-in-Dfa-clause-standard c = to-engine (λ (b : Built) (e : Engine). b.dictionary.kind ≡ Standard) c.serving.ensures.engine c.serving.ensures.built c.in-Dfa.is c.requires.standard
-
-pub search_overlapping-requires-in-Dfa-clause-starts : goal.search_overlapping-requires-in-Dfa-clause-starts
-search_overlapping-requires-in-Dfa-clause-starts c = to-engine (λ (b : Built) (e : Engine). IsEngineRead e c.args.input.now.anchored [] c.args.start) c.serving.ensures.engine c.serving.ensures.built c.in-Dfa.is c.requires.starts
-
-pub returns-in-Dfa-clause-pays : goal.returns-in-Dfa-clause-pays
-returns-in-Dfa-clause-pays c = to-front (λ (b : Built) (e : Engine). KeepsPaying b c.args.input.now c.args.place c.search_overlapping-in-Dfa.result c.args.steps.now c.search_overlapping-in-Dfa.new.steps) c.serving.ensures.engine c.serving.ensures.built c.in-Dfa.is c.search_overlapping-in-Dfa.ensures.pays
-
-pub returns-in-Dfa-clause-counts : goal.returns-in-Dfa-clause-counts
-returns-in-Dfa-clause-counts c = to-front (λ (b : Built) (e : Engine). CountsOn b c.args.input.now c.args.place c.search_overlapping-in-Dfa.result c.args.steps.now c.search_overlapping-in-Dfa.new.steps) c.serving.ensures.engine c.serving.ensures.built c.in-Dfa.is c.search_overlapping-in-Dfa.ensures.counts
-
--- something is left at the place, whichever automaton serves
-abbrev EngineHasLeft : Asked → Position → Built → Engine → Type 0
-EngineHasLeft asked place b e =
-    (left : List Occurrence) × IsLeft (IsEngineRead e asked.anchored) (engine_matches_at e) b.dictionary (searched b asked) place left
-
-pub search_overlapping-requires-clause-left : goal.search_overlapping-requires-clause-left
-search_overlapping-requires-clause-left c = to-engine (EngineHasLeft c.args.input.now c.args.place) c.serving.ensures.engine c.serving.ensures.built c.in-Noncontiguous.is c.requires.left
-
-pub search_overlapping-requires-in-Contiguous-clause-left : goal.search_overlapping-requires-in-Contiguous-clause-left
-search_overlapping-requires-in-Contiguous-clause-left c = to-engine (EngineHasLeft c.args.input.now c.args.place) c.serving.ensures.engine c.serving.ensures.built c.in-Contiguous.is c.requires.left
-
-pub search_overlapping-requires-in-Dfa-clause-left : goal.search_overlapping-requires-in-Dfa-clause-left
-search_overlapping-requires-in-Dfa-clause-left c = to-engine (EngineHasLeft c.args.input.now c.args.place) c.serving.ensures.engine c.serving.ensures.built c.in-Dfa.is c.requires.left
+pub returns-in-Dfa : goal.returns-in-Dfa
+returns-in-Dfa c =
+    rw (c.serving.ensures.built, c.serving.ensures.engine, c.in-Dfa.is) c.search_overlapping-in-Dfa.ensures

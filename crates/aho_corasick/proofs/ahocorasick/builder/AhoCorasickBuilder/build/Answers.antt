@@ -1,6 +1,6 @@
--- The noncontiguous NFA of the patterns first, then the automaton that serves, with what it was built as and by which settings.
+-- The noncontiguous NFA of the patterns first, then the automaton that serves, with what it was built as and by which
+-- settings.
 use Rattle.std.proofs.Common.{ap, refl, subst, sym, ◌∙◌}
-use Rattle.ac_input.specs.Dictionary.{Dictionary}
 use Rattle.ac_literal.specs.Packed.{bytes_of}
 use Rattle.ac_noncontiguous.specs.Builder.{HasRowsBy, IsBuiltOf}
 use Rattle.ac_noncontiguous.specs.Nfa.Reads.{built_as}
@@ -9,7 +9,7 @@ use Rattle.aho_corasick.specs.Builder.{front_dictionary}
 use Rattle.aho_corasick.specs.Served.{IsEngineOf}
 use Rattle.aho_corasick.specs.declared.ahocorasick.builder.AhoCorasickBuilder.{AhoCorasickBuilder}
 use Rattle.aho_corasick.specs.declared.shared.Shared.{Shared}
-use Rattle.aho_corasick.proofs.lemmas.ServedLemmas.{built-for, front-built, made-as, starts-shared}
+use Rattle.aho_corasick.proofs.lemmas.ServedLemmas.{front-built, made-as, starts-shared}
 use Rattle.aho_corasick.proofs.ahocorasick.builder.AhoCorasickBuilder.build.Goals as goal
 
 pub invariant_of-shared : goal.invariant_of-shared
@@ -17,19 +17,25 @@ invariant_of-shared c =
     let s = c.args.self.now.settings in
     let patterns = bytes_of c.args.patterns.now in
     let nfa = c.in_ok-nfa.nfa in
-    let own = subst (λ (t : Settings). IsBuiltOf t c.args.patterns.now (built_as nfa)) c.from.ensures c.in_ok-nfa.ensures.built in
-    let rows = subst (λ (t : Settings). HasRowsBy t nfa) c.from.ensures c.in_ok-nfa.ensures.rows in
-    let by = ap (λ (b : AhoCorasickBuilder). b.settings) c.of-2.ensures in
+    let own = subst (λ t. IsBuiltOf t c.args.patterns.now (built_as nfa)) c.from.ensures
+    c.in_ok-nfa.ensures.built in
+    let rows = subst (λ t. HasRowsBy t nfa) c.from.ensures c.in_ok-nfa.ensures.rows in
+    let by = ap (λ b. b.settings) c.of-2.ensures in
     record {
       same = c.of.ensures;
-      made = ∣ made-as s (front_dictionary s patterns) nfa c.in_ok-engine.engine c.of.result.value c.of-2.result.value.settings own rows c.in_ok-engine.ensures.served.0 c.of.ensures by ∣₁;
+      made =
+          ∣ made-as s (front_dictionary s patterns) nfa c.in_ok-engine.engine c.of.result.value
+          c.of-2.result.value.settings own rows c.in_ok-engine.ensures.served.0 c.of.ensures by ∣₁;
     }
 
 pub invariant_of-result : goal.invariant_of-result
 invariant_of-result c =
     let s = c.args.self.now.settings in
-    let same = ap (λ (t : Shared). t.engine) c.in-Ok.ensures.ok in
-    record { starts = starts-shared s c.in_ok-nfa.nfa s.start_kind c.in_ok-engine.engine c.in-Ok.shared.value.engine refl c.in_ok-engine.ensures.served.0 same }
+    let same = ap (λ t. t.engine) c.in-Ok.ensures.ok in
+    record {
+      starts = starts-shared s c.in_ok-nfa.nfa s.start_kind c.in_ok-engine.engine c.in-Ok.shared.value.engine
+          refl c.in_ok-engine.ensures.served.0 same;
+    }
 
 pub returns-in-Ok : goal.returns-in-Ok
 returns-in-Ok c =
@@ -37,18 +43,9 @@ returns-in-Ok c =
     let s = b.settings in
     let patterns = bytes_of c.args.patterns.now in
     let nfa = c.in_ok-nfa.nfa in
-    let shared = c.in-Ok.shared.value in
-    let own = subst (λ (t : Settings). IsBuiltOf t c.args.patterns.now (built_as nfa)) c.from.ensures c.in_ok-nfa.ensures.built in
-    let made = subst (IsEngineOf b.kind s nfa) (sym (ap (λ (t : Shared). t.engine) c.in-Ok.ensures.ok)) c.in_ok-engine.ensures.served in
-    let settings = ap (λ (t : Shared). t.settings.value) c.in-Ok.ensures.ok ∙ c.of-2.ensures in
-    let for_patterns = built-for s (front_dictionary s patterns) nfa shared.engine shared.built.value own made.0 shared.same in
-    record {
-      configured = record {
-        patterns = ap (λ (m : Dictionary). m.patterns) for_patterns;
-        kind = ap (λ (m : Dictionary). m.kind) for_patterns;
-        pairing = ap (λ (m : Dictionary). m.pairing) for_patterns;
-        starts = refl;
-      };
-      served = front-built b patterns nfa _ own made settings;
-      refused = tt;
-    }
+    let own = subst (λ t. IsBuiltOf t c.args.patterns.now (built_as nfa)) c.from.ensures
+    c.in_ok-nfa.ensures.built in
+    let made = subst (IsEngineOf b.kind s nfa) (sym (ap (λ t. t.engine) c.in-Ok.ensures.ok))
+    c.in_ok-engine.ensures.served in
+    let settings = ap (λ t. t.settings.value) c.in-Ok.ensures.ok ∙ c.of-2.ensures in
+    record { served = front-built b patterns nfa _ own made refl settings; refused = tt }

@@ -1,7 +1,7 @@
 -- The contiguous NFA, within its limit, is taken if no DFA is.
 use Rattle.std.proofs.Common.{rules}
 use Rattle.ac_noncontiguous.specs.Nfa.Reads.{dictionary}
-use Rattle.ac_tables.specs.Contiguous.ContiguousBuilder.{IsMadeFrom}
+use Rattle.ac_tables.specs.Contiguous.Builder.{IsMadeFrom}
 use Rattle.aho_corasick.specs.Served.{TakesDfa}
 use Rattle.aho_corasick.proofs.lemmas.ServedLemmas.{within-contiguous}
 use Rattle.aho_corasick.proofs.ahocorasick.builder.AhoCorasickBuilder.take.Goals as goal

@@ -13,4 +13,5 @@ returns-clause-tried c =
     let nfa = c.args.nfa.now in
     let one : s.start_kind ≢ Both = search rules in
     let few : length (dictionary nfa).patterns ≤ most_for_dfa = omega (arith, c.patterns_len.ensures) in
-    tries-dfa s nfa c.dfa.result c.build_from_noncontiguous.result c.fitting.result c.dfa.ensures one few c.build_from_noncontiguous.ensures.built c.build_from_noncontiguous.ensures.refused c.fitting.ensures
+    tries-dfa s nfa c.dfa.result c.build_from_noncontiguous.result c.fitting.result c.dfa.ensures one few
+    c.build_from_noncontiguous.ensures.built c.build_from_noncontiguous.ensures.refused c.fitting.ensures

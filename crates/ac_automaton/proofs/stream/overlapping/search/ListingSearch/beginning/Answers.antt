@@ -2,36 +2,51 @@
 use Rattle.std.proofs.Common.{[], None, false, subst, sym, arith}
 use Rattle.ac_input.specs.declared.search.Anchored.TheVariants.{No}
 use Rattle.ac_automaton.specs.Ahead.{less_ahead}
-use Rattle.ac_automaton.specs.Stream.StreamListing.{IsOnListing, ListingProgress, fresh_listing}
+use Rattle.ac_automaton.specs.Stream.{IsOnCourse, Occurrences, StreamProgress, fresh_progress}
 use Rattle.ac_automaton.specs.Stream.StreamListingSearch.{IsListingSearch}
 use Rattle.ac_automaton.proofs.ahead.AheadLemmas.{ahead-none}
 use Rattle.ac_automaton.proofs.stream.StreamListingSearchLemmas.{first_place, fresh-listing-right, fresh-listing-view, less-none}
 use Rattle.ac_automaton.proofs.stream.overlapping.search.ListingSearch.beginning.Given.{Over}
 use Rattle.ac_automaton.proofs.stream.overlapping.search.ListingSearch.beginning.Goals as goal
 
-right : (g : Over) (c : goal.After-new g) → IsListingSearch (g.A.Automaton.Reaches c.args.automaton.now No) (g.A.Automaton.matches c.args.automaton.now) (fresh_listing (g.A.Automaton.built c.args.automaton.now)) (first_place c.args.start c.list_len.result) c.zero.result.value c.in_ok-bytes.bytes.len [] 0 false
+right : (g : Over) (c : goal.After-new g)
+    → IsListingSearch (g.A.Automaton.Reaches c.args.automaton.now No) (g.A.Automaton.matches c.args.automaton.now)
+    (fresh_progress (g.A.Automaton.built c.args.automaton.now)) (first_place c.args.start c.list_len.result)
+    c.zero.result.value c.in_ok-bytes.bytes.len [] 0 false
 right g c =
     let a = c.args.automaton.now in
     let start = c.args.start in
     let begins = c.requires.starts in
-    fresh-listing-right (g.A.Automaton.built a) (g.A.Automaton.supports a) (g.A.Automaton.Reaches a No) (g.A.Automaton.matches a) start c.list_len.result c.zero.result.value c.in_ok-bytes.bytes.len c.requires.can begins (g.met.A.Automaton.tells a No [] start begins) (g.met.A.Automaton.lives a No [] start begins) c.list_len.ensures (omega (arith, c.list_len.type_inv)) c.zero.ensures c.in_ok-bytes.ensures
+    fresh-listing-right (g.A.Automaton.built a) (g.A.Automaton.supports a) (g.A.Automaton.Reaches a No)
+    (g.A.Automaton.matches a) start c.list_len.result c.zero.result.value c.in_ok-bytes.bytes.len c.requires.can begins
+    (g.met.A.Automaton.tells a No [] start begins) c.list_len.ensures (omega (arith, c.list_len.type_inv))
+    c.zero.ensures c.in_ok-bytes.ensures
 
 pub invariant_of-result : goal.invariant_of-result
 invariant_of-result g c =
     let a = c.args.automaton.now in
     let b = g.A.Automaton.built a in
-    let view = fresh-listing-view b c.empty.result.items c.zero.result.value c.args.start c.list_len.result c.new.result c.empty.ensures c.zero.ensures c.new.ensures in
-    let less = fresh-listing-view b c.empty.result.items c.zero.result.value c.args.start c.list_len.result (less_ahead c.new.result c.none.result) c.empty.ensures c.zero.ensures (less-none c.new.result c.none.result c.new.ensures) in (
-      subst IsOnListing (sym view) (right g c).stands.course,
-      subst (λ (t : ListingProgress). IsListingSearch (g.A.Automaton.Reaches a No) (g.A.Automaton.matches a) t (first_place c.args.start c.list_len.result) c.zero.result.value c.in_ok-bytes.bytes.len [] 0 false) (sym less) (right g c),
-      ahead-none b (g.A.Automaton.Reaches a No) (g.A.Automaton.matches a) None [] 0 c.args.start c.none.result c.none.ensures.room c.none.ensures.none (λ standard. omega (arith, c.none.ensures.nothing)),
+    let view = fresh-listing-view b c.empty.result.items c.zero.result.value c.args.start c.list_len.result c.new.result
+    c.empty.ensures c.zero.ensures c.new.ensures in
+    let less = fresh-listing-view b c.empty.result.items c.zero.result.value c.args.start c.list_len.result
+    (less_ahead c.new.result c.none.result) c.empty.ensures c.zero.ensures
+    (less-none c.new.result c.none.result c.new.ensures) in (
+      subst IsOnCourse (sym view) (right g c).stands.course,
+      subst (λ t. IsListingSearch (g.A.Automaton.Reaches a No) (g.A.Automaton.matches a) t
+          (first_place c.args.start c.list_len.result) c.zero.result.value c.in_ok-bytes.bytes.len [] 0 false)
+          (sym less)
+          (right g c),
+      ahead-none c.none.ensures.room c.none.ensures.none (λ standard. omega (arith, c.none.ensures.nothing)),
       omega (arith, c.none.ensures.nothing),
     )
 
 pub returns-clause-fresh : goal.returns-clause-fresh
-returns-clause-fresh g c = fresh-listing-view (g.A.Automaton.built c.args.automaton.now) c.empty.result.items c.zero.result.value c.args.start c.list_len.result c.new.result c.empty.ensures c.zero.ensures c.new.ensures
+returns-clause-fresh g c =
+    fresh-listing-view (g.A.Automaton.built c.args.automaton.now) c.empty.result.items c.zero.result.value c.args.start
+    c.list_len.result c.new.result c.empty.ensures c.zero.ensures c.new.ensures
 
 pub returns-clause-kept : goal.returns-clause-kept
 returns-clause-kept g c =
-    let view = fresh-listing-view (g.A.Automaton.built c.args.automaton.now) c.empty.result.items c.zero.result.value c.args.start c.list_len.result c.new.result c.empty.ensures c.zero.ensures c.new.ensures in
-    subst IsOnListing (sym view) (right g c).stands.course
+    let view = fresh-listing-view (g.A.Automaton.built c.args.automaton.now) c.empty.result.items c.zero.result.value
+    c.args.start c.list_len.result c.new.result c.empty.ensures c.zero.ensures c.new.ensures in
+    subst IsOnCourse (sym view) (right g c).stands.course

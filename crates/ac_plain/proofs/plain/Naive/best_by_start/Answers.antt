@@ -1,9 +1,0 @@
-use Rattle.std.proofs.Common.{◌≡◌, true}
-use Rattle.std.specs.Prelude.{is_some}
-use Rattle.ac_plain.proofs.plain.Places.{best_at_start}
-use Rattle.ac_plain.proofs.plain.Naive.best_by_start.Goals as goal
-
-pub returns-then-is_some : goal.returns-then-is_some
-returns-then-is_some c =
-    let some : is_some c.best_starting_at-best.result ≡ true = cc in
-    best_at_start _ c.args.self.now _ _ c.requires some c.loop-at.invariant c.best_starting_at-best.ensures

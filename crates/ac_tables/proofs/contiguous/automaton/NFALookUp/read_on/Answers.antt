@@ -1,9 +1,0 @@
--- An unanchored search reads on by the rows, if there are any.
-use Rattle.std.proofs.Common.{subst}
-use Rattle.ac_input.specs.declared.search.Anchored.{Anchored}
-use Rattle.ac_automaton.specs.Automaton.{IsReached}
-use Rattle.ac_tables.specs.Contiguous.ContiguousReads.{IsContiguousRead}
-use Rattle.ac_tables.proofs.contiguous.automaton.NFALookUp.read_on.Goals as goal
-
-pub read_rows-requires-clause-reached : goal.read_rows-requires-clause-reached
-read_rows-requires-clause-reached c = subst (λ (a : Anchored). IsReached (IsContiguousRead c.args.self.now a) c.args.sid) c.in-No.is c.requires

@@ -1,0 +1,41 @@
+use Rattle.std.proofs.Common.{rules, ◌≡◌, ◌∙◌, sym, ap, refl, ℕ, Option, Some, None, Result, Ok, Err, codes}
+use Rattle.std.specs.Prelude.{option_map}
+use Rattle.std.specs.Str.Parse.{ExplainsUnsignedError, HasUnsignedDigitsIfOk, ParsesUnsigned}
+use Rattle.clap.specs.Words.{IsUnsignedIn, ReadsOne, Text, found_of, one_of, rows_of}
+use Rattle.clap.proofs.WalkLemmas.{one_text-rows}
+use Rattle.acsub.specs.Args.Words.{number_of}
+use Rattle.acsub.specs.Args.Command.{greatest_depth}
+use Rattle.acsub.proofs.args.asked_for.Goals as goal
+
+-- a number that clap accepts is read as that number
+depth_read : {E : Type 0} (gives : Text → Result ℕ E → Type 0) (o : Option Text) (r : Option ℕ) → (o ≡ None → r ≡ None)
+    → ((t : Text) → o ≡ Some t → ReadsOne gives t r)
+    → ((t : Text) (x : Result ℕ E) → gives t x → ParsesUnsigned 64 10 t x)
+    → ((t : Text) → o ≡ Some t → IsUnsignedIn 0 greatest_depth t) → option_map number_of o ≡ r
+depth_read gives None r none read parses fits = sym (none refl)
+depth_read gives (Some t) (Some v) none read parses fits = ap Some (sym (parses t (Ok v) (read t refl)).1)
+depth_read gives (Some t) None none read parses fits =
+    let failed = read t refl in
+    let in_range = fits t refl in
+    absurd (parses t (Err failed.0) failed.1 (in_range.0, in_range.1))
+
+pub returns : goal.returns
+returns c =
+    let f = found_of c.args.matches.now in
+    let same = one_text-rows f (codes "dense-depth") in
+    record {
+      mode = search rules;
+      rules = search rules;
+      text = search rules;
+      stream = search rules;
+      kind = search rules;
+      engine = search rules;
+      dense_depth =
+          depth_read (λ bs r. ParsesUnsigned 64 10 bs r × ExplainsUnsignedError 10 bs r × HasUnsignedDigitsIfOk bs r)
+          (one_of (codes "dense-depth") (rows_of f)) c.get_one.result (λ e. c.get_one.ensures.none (same ∙ e))
+          (λ t e. c.get_one.ensures.value t (same ∙ e))
+          (λ t x g. g.0) c.requires.dense_depth;
+      prefilter = search rules;
+      byte_classes = search rules;
+      pairing = c.in_ok-pairing_of.ensures;
+    }

@@ -1,0 +1,9 @@
+use Rattle.acsub.proofs.args.BuiltLemmas.{acting_rule, helped_rule, long_rule, named_rule}
+use Rattle.acsub.proofs.args.option.Goals as goal
+
+pub returns-clause-rule : goal.returns-clause-rule
+returns-clause-rule c =
+    let long = long_rule c.new.result c.long.result _ _ c.long.ensures c.new.ensures.rule in
+    let named = named_rule c.long.result c.value_name.result _ _ c.value_name.ensures long in
+    let helped = helped_rule c.value_name.result c.help.result _ _ c.help.ensures named in
+    acting_rule c.help.result c.action.result _ _ c.action.ensures helped

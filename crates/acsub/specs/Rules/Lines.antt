@@ -1,0 +1,33 @@
+-- What a text of rules begins with, and how many rules it has.
+use Rattle.std.specs.Prelude.{◌≡◌, ℕ, Bool, List, [], ◌∷◌, ◌++◌, length, slice_index_or, Contains, Option, Some, None}
+use Rattle.ac_input.specs.Rules.{Rule, Spells}
+use Rattle.acsub.specs.Rules.File.{Grammar, grammar_of}
+use Rattle.acsub.specs.declared.rules.RuleLine.{RuleLine}
+
+-- the text spells some bytes in hex
+abbrev pub IsSpelling : List ℕ → Type 0
+IsSpelling text = (bytes : List ℕ) × Spells text bytes
+
+-- the text is split at the first separator, with these bytes before it and after it
+abbrev pub IsSplitAt : List ℕ → ℕ → List ℕ → List ℕ → Type 0
+IsSplitAt text separator before after = (text ≡ before ++ separator ∷ after) × ¬ Contains before separator
+
+-- both sides of the line, as they are written, stand for those of the rule
+abbrev pub SpellsRule : Grammar → RuleLine → Rule → Type 0
+SpellsRule grammar line rule = grammar.spells line.pattern.now rule.0 × grammar.spells line.replacement.now rule.1
+
+-- the text begins with this line, which spells a rule; or it begins with no rule
+abbrev pub BeginsWithLine : Grammar → List ℕ → Option RuleLine → Type 0
+BeginsWithLine grammar text (Some line) =
+    (rule : Rule) × SpellsRule grammar line rule × grammar.begins text rule line.rest.now
+BeginsWithLine grammar text None = (rule : Rule) (more : List ℕ) → ¬ grammar.begins text rule more
+
+-- the file has this many rules
+abbrev pub HasCount : Bool → List ℕ → ℕ → Type 0
+HasCount text file count = (rules : List Rule) × (grammar_of text).holds file rules × (count ≡ length rules)
+
+-- ---- rules
+
+-- rule i, or an empty rule past the last
+abbrev pub rule_at : List Rule → ℕ → Rule
+rule_at rules i = slice_index_or rules i ([], [])

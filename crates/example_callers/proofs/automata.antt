@@ -1,0 +1,2 @@
+pub mod BuildLemmas
+pub mod TableLemmas

@@ -1,0 +1,14 @@
+-- A read that returned some bytes hasn't ended the reader.
+use Rattle.std.proofs.Common.{refl, ◌∙◌}
+use Rattle.ac_automaton.specs.Stream.StreamIter.{reader_of}
+use Rattle.ac_automaton.proofs.devices.MovedLemmas.{turns-filled}
+use Rattle.example_callers.proofs.generic_stream.StreamLemmas.{filled-standard}
+use Rattle.example_callers.proofs.generic_stream_overlap.next_occurrence.Goals as goal
+
+pub returns-in-Some-Ok-clause-open : goal.returns-in-Some-Ok-clause-open
+returns-in-Some-Ok-clause-open g c =
+    let standard = c.next_counted.ensures.goes.1.standard refl in
+    let gives = rw c.in-Some-Ok.field-0-is at c.in-Some-Ok.ensures.gives.0 in
+    turns-filled gives.gained gives.has.read.turns
+    (filled-standard c.args.occurrences.now.stream c.next_counted.new.self.stream gives.gained standard gives.read)
+    ∙ c.requires.unended

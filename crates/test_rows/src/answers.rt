@@ -1,0 +1,111 @@
+//! What is asked of a search, and what it gives, as a list of occurrences: by an iterator and by the plain program.
+ghost use Rattle.std.specs.Iterator.{IsFinite};
+
+use crate::engines::{Asked, Pick, pairing};
+use ac_input::search::{Anchored, Input, Match, MatchKind};
+use std::alloc::{AllocError, Global};
+use std::test::Fail;
+use test_plain::plain::{Found, Naive};
+
+/// What is asked of a search.
+#[derive(Clone, Copy)]
+pub enum Asks {
+    /// The matches, one after another; the first of them is the match of the text.
+    Walk,
+    /// All occurrences, also those that overlap.
+    List,
+}
+
+/// A text, and how it is searched.
+#[derive(Clone, Copy)]
+pub enum Text<'a> {
+    /// All of it.
+    Whole(&'a [u8]),
+    /// From one place to another.
+    Part(&'a [u8], usize, usize),
+    /// All of it, for what ends first.
+    Earliest(&'a [u8]),
+    /// All of it, anchored.
+    Bound(&'a [u8]),
+    /// From one place to another, anchored.
+    BoundPart(&'a [u8], usize, usize),
+    /// All of it, anchored, for what ends first.
+    BoundEarliest(&'a [u8]),
+}
+
+/// The text from one place to another.
+fn part(text: &[u8], start: usize, end: usize) -> Result<Input<'_>, Fail> {
+    if end > text.len() || start.saturating_sub(1) > end {
+        return Err("no such part".into());
+    }
+    Ok(Input::new(text).range(start..end))
+}
+
+/// What a search of the text is given.
+pub fn input<'a>(text: &Text<'a>) -> Result<Input<'a>, Fail> {
+    let input = match *text {
+        Text::Part(text, start, end) | Text::BoundPart(text, start, end) => part(text, start, end)?,
+        Text::Whole(text) | Text::Bound(text) => Input::new(text),
+        Text::Earliest(text) | Text::BoundEarliest(text) => Input::new(text).earliest(true),
+    };
+    Ok(match text {
+        Text::Whole(_) | Text::Part(..) | Text::Earliest(_) => input,
+        Text::Bound(_) | Text::BoundPart(..) | Text::BoundEarliest(_) => {
+            input.anchored(Anchored::Yes)
+        }
+    })
+}
+
+/// The occurrence of a match.
+fn occurrence(found: Match) -> Pick {
+    (found.pattern().as_usize(), found.start(), found.end())
+}
+
+/// All that an iterator gives.
+pub fn collected<I: Iterator<Item = Match> + Drop>(
+    alloc: Global,
+    matches: I,
+) -> Result<Vec<Pick>, AllocError>
+    requires can { I.can_next matches }
+    requires ends { IsFinite (I.remaining matches) }
+{
+    matches.map(occurrence).collect(alloc)
+}
+
+/// The matches of the plain program, or all occurrences.
+fn plain_matches(
+    alloc: Global,
+    plain: &Naive,
+    kind: MatchKind,
+    asks: Asks,
+    earliest: bool,
+) -> Result<Vec<Found>, AllocError> {
+    match asks {
+        Asks::Walk => plain.walk(alloc, kind, earliest),
+        Asks::List => plain.listing(alloc),
+    }
+}
+
+/// What the plain program gives.
+pub fn by_plain(
+    alloc: Global,
+    asked: Asked<'_>,
+    asks: Asks,
+    input: &Input<'_>,
+) -> Result<Vec<Pick>, Fail> {
+    let pairing = pairing(asked.letters)?;
+    let plain = Naive::new(
+        asked.patterns,
+        pairing,
+        input.haystack(),
+        input.get_span(),
+        input.get_anchored(),
+    );
+    let found = plain_matches(alloc, &plain, asked.kind, asks, input.get_earliest())?;
+    Ok(
+        found
+            .iter()
+            .map(|it| (it.pattern, it.start, it.end))
+            .collect(alloc)?,
+    )
+}

@@ -1,0 +1,46 @@
+//! What the tests of searches assert of results.
+ghost use Rattle.ac_automaton.specs.Overlapping.{CameFrom};
+
+use ac_input::search::Input;
+use ac_input::steps::Steps;
+use ac_noncontiguous::{FindIter, OverlappingState, Search};
+use std::fmt::Debug;
+use std::process::Abort;
+use test_rows::engines::{Pick, pick};
+
+/// Asserts that one call of an overlapping search after another shows these, and then none for good.
+pub fn shows_in_turn<T: Abort, A: Search>(
+    rt: &T,
+    automaton: &A,
+    input: &Input<'_>,
+    state: &mut OverlappingState,
+    want: &[Pick],
+)
+    requires { CameFrom (A.built automaton.now) (A.Reaches automaton.now) (A.matches automaton.now)
+        input.now state.old }
+{
+    for at in 0..want.len() + 2 {
+        assert!(rt; automaton.try_find_overlapping(input, state).is_ok());
+        assert_eq!(rt; pick(state.get_match()), want.get(at).copied());
+    }
+}
+
+/// Asserts that a walk that counts what it does gives these, and then none for good.
+pub fn walks_on<T: Abort, A: Search>(rt: &T, matches: &mut FindIter<'_, '_, A>, want: &[Pick]) {
+    let mut steps = Steps::new();
+    for at in 0..want.len() + 2 {
+        let found = matches.next_counted(&mut steps);
+        assert_eq!(rt; pick(found), want.get(at).copied());
+    }
+    assert!(rt; matches.next().is_none());
+}
+
+/// Asserts that a value is this one.
+pub fn equal<T: Abort, X: PartialEq + Debug>(rt: &T, found: &X, want: &X, shows: &str) {
+    assert_eq!(rt; found, want, "{shows}");
+}
+
+/// Asserts that a list is this one.
+pub fn same<T: Abort, X: PartialEq + Debug>(rt: &T, found: &[X], want: &[X], shows: &str) {
+    assert_eq!(rt; found, want, "{shows}");
+}

@@ -1,9 +1,0 @@
-use Rattle.std.proofs.Common.{length}
-use Rattle.uses.proofs.callers.pushed.push_whole.Given as goal
-use Rattle.uses.proofs.callers.PushedLemmas.{Pushing}
-
-abbrev pub invariant-loop-rest : goal.invariant-loop-rest
-invariant-loop-rest g l = Pushing l.fn.search l.search l.piece l.rest l.found.items
-
-abbrev pub decreases-loop-rest : goal.decreases-loop-rest
-decreases-loop-rest g l = length l.rest

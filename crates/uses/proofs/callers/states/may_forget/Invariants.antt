@@ -1,6 +1,0 @@
-use Rattle.std.proofs.Common.{take}
-use Rattle.ac_input.specs.declared.search.Anchored.TheVariants.{No}
-use Rattle.uses.proofs.callers.states.may_forget.Given as goal
-
-abbrev pub invariant-loop-byte : goal.invariant-loop-byte
-invariant-loop-byte g l = g.A.Automaton.Reaches l.automaton No (take l.byte-index l.text) l.sid

@@ -1,4 +1,5 @@
 pub mod Buffer
 pub mod Moved
 pub mod Output
+pub mod SendLaws
 pub mod Watched

@@ -1,16 +1,19 @@
 -- A search of a stream: how far it has come, what its calls do, and what it costs.
+pub mod SinkLaws
 pub mod StreamAnswer
 pub mod StreamIter
 pub mod StreamLaws
 pub mod StreamListing
 pub mod StreamListingSearch
 pub mod StreamListingWalk
+pub mod StreamPump
 pub mod StreamPush
 pub mod StreamReplace
 pub mod StreamReplaceWith
 pub mod StreamReplacer
 pub mod StreamReplacerNext
 pub mod StreamSearch
+pub mod StreamTexts
 pub mod StreamWalk
 use Rattle.std.specs.Prelude.{◌≡◌, ◌≢◌, ◌⊎◌, ℕ, ◌+◌, ◌-◌, ◌*◌, ◌<◌, ◌≤◌, max, Bool, List, [], ◌∷◌, ◌++◌, length, drop, take, false, true, Option, None, Some, Result, Ok, Err}
 use Rattle.std.specs.List.{All, concat}

@@ -23,6 +23,15 @@ use ac_input::primitives::StateID;
 use ac_input::search::Anchored;
 use ac_input::steps::Steps;
 
+/// How many bytes before a match are few. After fewer the search reads on by the automaton's own loop alone.
+const NEAR: usize = 16;
+
+/// For how many bytes it does, at most.
+const ALONE: usize = 32;
+
+/// For how many patterns an automaton passes bytes that begin none, at most. With more of them it reads by one loop in any case.
+const PASSED: usize = 128;
+
 /// How many notes a search keeps.
 pub const NOTES: usize = 128;
 
@@ -102,6 +111,8 @@ pub struct Ahead {
     until: usize,
     /// How many bytes are read ahead at a time.
     block: usize,
+    /// Whether the last part that was read was short.
+    close: bool,
     /// How many bytes were read ahead whose notes were lost.
     lost: Count,
 }
@@ -119,6 +130,7 @@ impl Ahead {
             end: 0,
             until: 0,
             block: FIRST,
+            close: false,
             lost: Count::zero(),
         }
     }
@@ -271,6 +283,46 @@ fn end_before(note: &Option<Note>, until: usize, at: usize, end: usize) -> usize
     }
 }
 
+/// Whether a match after so many bytes is close, for an automaton that would pass bytes otherwise.
+#[inline]
+fn is_close<A: Automaton>(automaton: &A, read: usize) -> bool {
+    read < NEAR && automaton.patterns_len() <= PASSED
+}
+
+/// Up to which place a search reads by one loop: fewer bytes where a match was close.
+#[inline]
+fn part_end(close: bool, at: usize, end: usize) -> usize
+    requires { at < end }
+    ensures after { at < result }
+    ensures within { result ≤ end }
+{
+    if close {
+        end.min(at.saturating_add(ALONE))
+    } else {
+        end
+    }
+}
+
+/// Reads on by the automaton's own loop alone where a match was close, and else by what passes bytes fastest.
+#[inline(always)]
+fn advance_by<A: Automaton>(
+    automaton: &A,
+    close: bool,
+    sid: StateID,
+    bytes: &[u8],
+    steps: &mut Steps,
+) -> Advance
+    requires { IsReached (A.Reaches automaton.now Anchored.No) sid }
+    ensures goes { AdvancesToMatch (A.Reaches automaton.now Anchored.No) (A.matches automaton.now) sid bytes.now result }
+    ensures cost { IsReadCost (A.built automaton.now) (A.Reaches automaton.now) Anchored.No sid
+        (take result.taken bytes.now) steps.old steps.new }
+{
+    if close {
+        return automaton.advance_alone(Anchored::No, sid, bytes, steps);
+    }
+    automaton.advance_to_match(Anchored::No, sid, bytes, steps)
+}
+
 /// Reads on over some bytes: those of a note, or those before the next one.
 #[inline]
 fn read_part<A: Automaton>(
@@ -302,8 +354,9 @@ fn read_part<A: Automaton>(
             };
         }
     }
-    let end = end_before(&upcoming, ahead.until, at, bytes.len());
-    automaton.advance_to_match(Anchored::No, sid, &bytes[at..end], steps)
+    let close = ahead.close;
+    let end = end_before(&upcoming, ahead.until, at, part_end(close, at, bytes.len()));
+    advance_by(automaton, close, sid, &bytes[at..end], steps)
 }
 
 /// Reads on from a state over bytes from a place on, to the first state that matches, or to the last byte: as
@@ -336,6 +389,7 @@ pub(crate) fn advance_to_match<A: Automaton>(
         let stop = read_part(automaton, anew, current, bytes, from + read, ahead, steps);
         current = stop.sid;
         read += stop.taken;
+        ahead.close = is_close(automaton, read);
         if automaton.is_match(current) {
             return Advance {
                 sid: current,

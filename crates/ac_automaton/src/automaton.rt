@@ -21,6 +21,9 @@ use crate::iter::{FindIter, WalkPlace};
 use crate::overlapping::{FindOverlappingIter, OverlappingState};
 use crate::search::Search;
 use crate::stream::overlapping::{self as stream_overlapping, StreamFindOverlappingIter};
+use crate::stream::replace::replace_all_counted;
+use crate::stream::replace_with::replace_all_with;
+use crate::stream::sink::Sink;
 use crate::stream::{self, StreamFindIter, StreamKinds, StreamReplacer, StreamSearch};
 use crate::watched::Watched;
 use crate::{overlapping, replace};
@@ -57,6 +60,7 @@ pub trait Automaton {
     ghost use Rattle.ac_automaton.specs.Items.{AreFewForEach, MatchesAreInOrder, EachLiesWithin, FindsWithin};
     ghost use Rattle.ac_automaton.specs.Stream.{AnswersNew};
     ghost use Rattle.ac_automaton.specs.Stream.StreamIter.{AnswersStreamListing, FindsStream};
+    ghost use Rattle.ac_automaton.specs.Stream.StreamPump.{PumpsMatches, PumpsOccurrences};
     ghost use Rattle.ac_automaton.specs.Stream.StreamReplace.{AcceptsStream, CostsStream, ReplacesStream};
     ghost use Rattle.ac_automaton.specs.Stream.StreamReplaceWith.{ReplacesStreamWith};
     ghost use Rattle.ac_automaton.specs.Stream.StreamReplacer.{AnswersReplacer};
@@ -158,6 +162,22 @@ pub trait Automaton {
             sid: current,
             taken: bytes.len(),
         }
+    }
+
+    /// The same by the automaton's own loop alone, which passes no byte unread: faster where a match is close.
+    fn advance_alone(
+        &self,
+        anchored: Anchored,
+        sid: StateID,
+        bytes: &[u8],
+        steps: &mut Steps,
+    ) -> Advance
+        requires { IsReached (Reaches self.now anchored) sid }
+        ensures goes { AdvancesToMatch (Reaches self.now anchored) (matches self.now) sid bytes.now result }
+        ensures cost { IsReadCost (built self.now) (Reaches self.now) anchored sid
+            (take result.taken bytes.now) steps.old steps.new }
+    {
+        self.advance_to_match(anchored, sid, bytes, steps)
     }
 
     /// Reads up to `len` bytes ahead of an unanchored search that stands at `at` in state `sid`, and writes notes of what it found, in
@@ -571,6 +591,49 @@ pub trait Automaton {
         replace::replace_all_with_bytes(self, haystack, dst, replace_with)
     }
 
+    /// Reads a stream to its end, and passes its matches to a [`Sink`] with the text between them, all that is decided before each
+    /// read; counts what it does. It returns an error where `stream_find_iter` does, before it reads, and if a read fails, the sink
+    /// stops, or there are more bytes than places.
+    final fn try_stream_pump_matches<R: Read, W, K: Sink<W>>(
+        &self,
+        kinds: StreamKinds,
+        alloc: Global,
+        reader: &mut Watched<R>,
+        writer: &mut Watched<W>,
+        sink: &mut K,
+        steps: &mut Steps,
+    ) -> Result<(), StreamError>
+    where
+        Self: Search,
+        requires open { reader.old.ended ≡ false }
+        requires ready { K.handling.ready (length (built self.now).dictionary.patterns) (sink.old, writer.old) }
+        requires settled { K.handling.settled (sink.old, writer.old) }
+        ensures { PumpsMatches K.handling R.remaining kinds (built self.now) (supports self.now)
+            reader.old reader.new (sink.old, writer.old) (sink.new, writer.new) steps.old steps.new result }
+    {
+        stream::pump::pump_matches(self, kinds, alloc, reader, writer, sink, steps)
+    }
+
+    /// The same for every occurrence; the sink is passed no text between them. It needs the standard kind.
+    final fn try_stream_pump_occurrences<R: Read, W, K: Sink<W>>(
+        &self,
+        alloc: Global,
+        reader: &mut Watched<R>,
+        writer: &mut Watched<W>,
+        sink: &mut K,
+        steps: &mut Steps,
+    ) -> Result<(), StreamError>
+    where
+        Self: Search,
+        requires open { reader.old.ended ≡ false }
+        requires ready { K.handling.ready (length (built self.now).dictionary.patterns) (sink.old, writer.old) }
+        requires settled { K.handling.settled (sink.old, writer.old) }
+        ensures { PumpsOccurrences K.handling R.remaining (built self.now) (supports self.now)
+            reader.old reader.new (sink.old, writer.old) (sink.new, writer.new) steps.old steps.new result }
+    {
+        stream::pump::pump_occurrences(self, alloc, reader, writer, sink, steps)
+    }
+
     /// Writes the input with each match replaced by the replacement of its pattern; there is one for each pattern. The input ends
     /// at its first empty read. Before each read it writes everything, unless the last bytes may still begin a match; then it
     /// holds back at most as many bytes as the longest pattern has. The writer isn't flushed.
@@ -618,15 +681,8 @@ pub trait Automaton {
         ensures cost { CostsStream (built self.now) reader.old reader.new
             steps.old steps.new result }
     {
-        stream::replace::replace_all_counted(
-            self,
-            StreamKinds::OnlyStandard,
-            alloc,
-            reader,
-            writer,
-            replacements,
-            steps,
-        )
+        let kinds = StreamKinds::OnlyStandard;
+        replace_all_counted(self, kinds, alloc, reader, writer, replacements, steps)
     }
 
     /// Writes the input, and in place of each match what the closure writes. The closure takes the match, its bytes and the
@@ -651,14 +707,8 @@ pub trait Automaton {
         ensures { ReplacesStreamWith W.contents F.FnMut R.remaining OnlyStandard (built self.now)
             (supports self.now) replace_with reader.old reader.new writer.old writer.new result }
     {
-        stream::replace_with::replace_all_with(
-            self,
-            StreamKinds::OnlyStandard,
-            alloc,
-            reader,
-            writer,
-            replace_with,
-        )
+        let kinds = StreamKinds::OnlyStandard;
+        replace_all_with(self, kinds, alloc, reader, writer, replace_with)
     }
 
     /// The same as `try_stream_replace_all` under any kind: under a leftmost one each match is replaced once it is decided. Before
@@ -714,15 +764,8 @@ pub trait Automaton {
         ensures cost { CostsStream (built self.now) reader.old reader.new
             steps.old steps.new result }
     {
-        stream::replace::replace_all_counted(
-            self,
-            StreamKinds::AnyKind,
-            alloc,
-            reader,
-            writer,
-            replacements,
-            steps,
-        )
+        let kinds = StreamKinds::AnyKind;
+        replace_all_counted(self, kinds, alloc, reader, writer, replacements, steps)
     }
 
     /// The same as `try_stream_replace_all_with` under any kind.
@@ -742,13 +785,7 @@ pub trait Automaton {
         ensures { ReplacesStreamWith W.contents F.FnMut R.remaining AnyKind (built self.now)
             (supports self.now) replace_with reader.old reader.new writer.old writer.new result }
     {
-        stream::replace_with::replace_all_with(
-            self,
-            StreamKinds::AnyKind,
-            alloc,
-            reader,
-            writer,
-            replace_with,
-        )
+        let kinds = StreamKinds::AnyKind;
+        replace_all_with(self, kinds, alloc, reader, writer, replace_with)
     }
 }

@@ -21,10 +21,12 @@ ghost use Rattle.ac_automaton.specs.Stream.{FindsHeld, GoesOn};
 ghost use Rattle.ac_automaton.specs.Stream.StreamIter.{FindsStream, GivesItem, KeepsReader, RestsIfRefused, TurnGives, reader_name, reader_of, search_of};
 
 pub mod overlapping;
+pub(crate) mod pump;
 pub(crate) mod replace;
 pub(crate) mod replace_with;
 mod replacer;
 mod search;
+pub mod sink;
 
 use crate::error::StreamError;
 use crate::search::Search;
@@ -52,8 +54,9 @@ pub enum StreamKinds {
 
 /// A search of a stream for the items of one sequence. An iterator asks it for the next one, and reads for it.
 pub trait ItemSearch {
-    ghost use Rattle.std.specs.Prelude.{◌≡◌, false, true, Option};
-    ghost use Rattle.ac_automaton.specs.Stream.{CanBeCounted, FindsHeld, GoesOn, IsOnCourse, IsSearched, ReadsMore, Sequence, StreamProgress, closed_by, read_by};
+    ghost use Rattle.std.specs.Prelude.{◌≡◌, false, true, length, Option};
+    ghost use Rattle.ac_automaton.specs.Stream.{CanBeCounted, FindsHeld, GoesOn, IsOnCourse, IsSearched, Picks, ReadsMore, Sequence, StreamProgress, closed_by, cut_of, read_by};
+    ghost use Rattle.ac_automaton.specs.Stream.StreamPump.{LiesHeld, bytes_between};
 
     /// What it returns.
     ghost sequence: { Sequence };
@@ -65,6 +68,21 @@ pub trait ItemSearch {
     fn next_held(&mut self, steps: &mut Steps) -> Option<Match>
         ensures finds { FindsHeld (progress self.old) result (progress self.new) }
         ensures goes { GoesOn (progress self.old) (progress self.new) steps.old steps.new };
+
+    /// The bytes between two places, which are held: what a sink is passed. None in a search for every occurrence.
+    fn between(&self, start: usize, end: usize) -> &[u8]
+        requires held { sequence ≡ Picks → LiesHeld (progress self.now) start end }
+        ensures { result.now ≡ bytes_between sequence (read_by (progress self.now)) start end };
+
+    /// The place up to which everything is decided.
+    fn cut(&self) -> usize
+        ensures cut { result ≡ cut_of (progress self.now) }
+        ensures kept { IsOnCourse (progress self.now) };
+
+    /// The place after the last byte that was read.
+    fn end(&self) -> usize
+        requires countable { CanBeCounted (read_by (progress self.now)) }
+        ensures { result ≡ length (read_by (progress self.now)) };
 
     /// Whether there are more bytes than places: then no item is left.
     fn is_past_places(&self) -> bool

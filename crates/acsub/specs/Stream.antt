@@ -1,13 +1,7 @@
 -- What a run that writes while it reads has read, written and returned.
 pub mod StreamList
-use Rattle.std.specs.Prelude.{◌≡◌, ◌≢◌, ℕ, ◌+◌, ◌≤◌, ◌++◌, List, length, Option, Result, Ok, Err, IfErr, OnOk}
-use Rattle.std.specs.List.{concat}
-use Rattle.ac_input.specs.declared.steps.Steps.{Steps}
-use Rattle.ac_automaton.specs.Automaton.{Built}
-use Rattle.ac_automaton.specs.Devices.Moved.{AllFit, HasMoved, Moved}
-use Rattle.ac_automaton.specs.Replace.{matches_in}
-use Rattle.ac_automaton.specs.Stream.StreamAnswer.{AnswersWriting}
-use Rattle.ac_automaton.specs.Stream.StreamReplace.{IsStreamCost}
+use Rattle.std.specs.Prelude.{◌≡◌, ◌≢◌, ℕ, List, Option, Result, Ok, Err, IfErr}
+use Rattle.ac_automaton.specs.Stream.StreamAnswer.{WritesStream}
 use Rattle.ac_automaton.specs.declared.error.MatchErrorKind.{MatchErrorKind}
 use Rattle.ac_automaton.specs.declared.error.StreamError.{StreamError}
 use Rattle.ac_automaton.specs.declared.error.StreamError.TheVariants as stream
@@ -27,30 +21,12 @@ IsReturnedAs (Err stream.WriteZero) result = result ≡ Err errors.WriteZero
 IsReturnedAs (Err stream.Memory) result = result ≡ Err errors.Memory
 IsReturnedAs (Err stream.Position) result = result ≡ Err errors.Position
 
--- What a search of a stream read and wrote, and its result; no piece was longer than the room. `output` is the text
--- that is made of
--- an input, and `front` what can be written of it once this much was read.
-abbrev pub WritesStream : {R W : Type 0} → (R → Option (List ℕ)) → (W → Option (List ℕ)) → ℕ → (List ℕ → List ℕ)
-    → (List ℕ → List ℕ → Type 0) → Watched R → Watched R → Watched W → Watched W → Result (Unit {0}) StreamError
-    → Type 0
-WritesStream remaining contents room output front reader_before reader_after writer_before writer_after result =
-    (m : Moved) × HasMoved remaining contents reader_before reader_after writer_before writer_after m
-    × AllFit room m.pieces × AnswersWriting output front m result
-
 -- what a search of a stream that writes the text of a plan read and wrote, and its result
 abbrev pub WritesPlan : {R W : Type 0} → (R → Option (List ℕ)) → (W → Option (List ℕ)) → Watched R → Watched R
     → Watched W → Watched W → Plan → Result (Unit {0}) StreamError → Type 0
 WritesPlan remaining contents reader_before reader_after writer_before writer_after plan result =
     WritesStream remaining contents (stream_room plan) (output_of plan.settings plan.rules)
     (IsOutputFront plan.settings plan.rules) reader_before reader_after writer_before writer_after result
-
--- What the search of a stream costs, by the bytes that were read and by their matches. If it returned Ok, it looked at
--- each byte.
-abbrev pub CostsSearch : {R E : Type 0} → Built → Watched R → Watched R → Steps → Steps → Result (Unit {0}) E → Type 0
-CostsSearch b reader_before reader_after before after result =
-    (pieces : List (List ℕ)) × (reader_after.pieces.items ≡ reader_before.pieces.items ++ pieces)
-    × IsStreamCost b (length (concat pieces)) (length (matches_in b (concat pieces))) before after
-    × OnOk result (before.looked.value + length (concat pieces) ≤ after.looked.value)
 
 -- the error is no refusal of the search
 abbrev pub IsNoRefusal : StreamError → Type 0

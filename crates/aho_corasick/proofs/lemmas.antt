@@ -2,6 +2,7 @@ pub mod EngineLemmas
 pub mod FindLemmas
 pub mod FrontLemmas
 pub mod OverlapLemmas
+pub mod PumpLemmas
 pub mod ReplaceLemmas
 pub mod ServedLemmas
 pub mod StreamLemmas

@@ -20,6 +20,8 @@ pub use Rattle.ac_automaton.specs.Overlapping.OverlappingIter
 pub use Rattle.ac_automaton.specs.Replace
 pub use Rattle.ac_automaton.specs.Stream
 pub use Rattle.ac_automaton.specs.Stream.StreamIter
+pub use Rattle.ac_automaton.specs.Stream.StreamAnswer
+pub use Rattle.ac_automaton.specs.Stream.StreamPump
 pub use Rattle.ac_automaton.specs.Stream.StreamReplace
 pub use Rattle.ac_automaton.specs.Stream.StreamReplaceWith
 pub use Rattle.ac_automaton.specs.Devices.Watched

@@ -1,4 +1,15 @@
 //! The automaton that most callers need, and which one serves it.
+/// Calls a function of the automaton that serves.
+macro_rules! dispatch {
+    ($ac:ident.$call:ident($($value:expr),*)) => {
+        match $ac.serving() {
+            Engine::Noncontiguous(nfa) => nfa.$call($($value),*),
+            Engine::Contiguous(nfa) => nfa.$call($($value),*),
+            Engine::Dfa(dfa) => dfa.$call($($value),*),
+        }
+    };
+}
+
 mod automaton;
 mod builder;
 mod replace;

@@ -111,6 +111,18 @@ ahead-end {anew} {at} {state} over is = record {
   taken = λ standard. (ahead-elsewhere anew at state (ahead-over standard over is).0 is).taken standard;
 }
 
+-- whether matches are close changes nothing of what was read ahead
+pub ahead-noticed : {b : Built} {Reaches : List ℕ → StateID → Type 0} {matches : StateID → List ℕ} {anew : Option StateID}
+    {bytes : List ℕ} {at : ℕ} {sid : StateID} {ahead : Ahead} (close : Bool)
+    → IsAhead b Reaches matches anew bytes at sid ahead
+    → IsAhead b Reaches matches anew bytes at sid (record ahead { close = close })
+ahead-noticed close is = record { room = is.room; are = is.are; most = is.most; taken = is.taken }
+
+-- nor of what it costs
+pub paid-noticed : {before after : Ahead} {steps paid : Steps} (close : Bool) → Settles before after steps paid
+    → Settles before (record after { close = close }) steps paid
+paid-noticed close paid = record { looked = paid.looked; scanned = paid.scanned; moved = paid.moved }
+
 -- after all notes are forgotten, none is left for other bytes; under standard the search stood at the end of the old
 -- ones
 pub ahead-forgotten : {b : Built} {Reaches : List ℕ → StateID → Type 0} {matches : StateID → List ℕ}

@@ -13,7 +13,6 @@ use Rattle.ac_input.specs.Number.{StateID}
 use Rattle.ac_input.specs.declared.search.Anchored.{Anchored}
 use Rattle.ac_input.specs.declared.search.Anchored.TheVariants.{No}
 use Rattle.ac_input.specs.declared.steps.Steps.{Steps}
-use Rattle.ac_input.specs.Input.{is_anchored}
 use Rattle.ac_input.specs.Steps.{Done}
 use Rattle.ac_automaton.specs.Ahead.{Frees, IsAhead, IsNext, IsNote, IsPaid, Settles, StaysReadOnce, TakesEach, TakesTo, bytes_ahead, left_notes, noted_len, onward}
 use Rattle.ac_automaton.specs.Automaton.{Built, IsReached, IsReadCost, Leads, has_some, is_matching}

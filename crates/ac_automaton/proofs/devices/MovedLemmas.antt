@@ -2,13 +2,14 @@
 use Rattle.std.proofs.Common.{◌≡◌, ◌≢◌, ◌↔◌, ℕ, ◌+◌, Bool, true, false, IsTrue, List, [], ◌∷◌, ◌++◌, length, take, Option, None, Some, sym, ap, ◌∙◌, subst, refl, arith, append_assoc, append-nil, add-zero}
 use Rattle.std.specs.List.{concat}
 use Rattle.std.specs.Io.KnownBytes.{Consumes, IsAtEnd, Keeps}
-use Rattle.std.proofs.KnownBytes.{Appends-nil, Appends-trans, Consumes-nil, Consumes-trans}
+use Rattle.std.proofs.KnownBytes.{Consumes-nil, Consumes-trans}
 use Rattle.std.proofs.lemmas.Bool.{false≢true}
 use Rattle.std.proofs.lemmas.List.{length-take-le, same_from_push}
 use Rattle.std.proofs.lemmas.List.Folds.{concat-append}
-use Rattle.ac_automaton.specs.Devices.Moved.{AreFilled, AreInTurn, AreWhole, HasGiven, HasTaken, is_empty}
+use Rattle.ac_automaton.specs.Devices.Moved.{AreFilled, AreInTurn, AreWhole, HasGiven, is_empty}
 use Rattle.ac_automaton.specs.Devices.Watched.{ReadGave, ReadFailed, NoneTaken}
 use Rattle.ac_automaton.specs.declared.watched.Watched.{Watched}
+pub use Rattle.ac_automaton.specs.Devices.SendLaws.{taken-none, taken-then}
 
 -- ---- pieces
 
@@ -160,30 +161,3 @@ module _ {R : Type 0} {remaining : R → Option (List ℕ)} where
       → HasGiven remaining old mid pieces 0 → HasGiven remaining mid new (piece ∷ []) failed
       → HasGiven remaining old new (pieces ++ piece ∷ []) failed
   given-push {piece} a b = given-then (λ e. let d : piece ∷ [] ≡ [] = e in cc) a b
-
--- ---- a writer
-
-module _ {W : Type 0} {contents : W → Option (List ℕ)} where
-  -- nothing was written yet
-  pub taken-none : {writer : Watched W} → HasTaken contents writer writer [] 0 0
-  taken-none {writer} = record {
-    taken = sym (append-nil _);
-    flushed = refl;
-    failures = sym (add-zero _);
-    stalls = sym (add-zero _);
-    reads = record { pieces = refl; ended = refl };
-    device = Appends-nil (contents writer.inner);
-  }
-
-  -- some bytes, and then more
-  pub taken-then : {old mid new : Watched W} {bytes more : List ℕ} {failed stalls : ℕ}
-      → HasTaken contents old mid bytes 0 0 → HasTaken contents mid new more failed stalls
-      → HasTaken contents old new (bytes ++ more) failed stalls
-  taken-then {old} {bytes} {more} {failed} {stalls} a b = record {
-    taken = b.taken ∙ ap (λ t. t ++ more) a.taken ∙ append_assoc old.taken.bytes bytes more;
-    flushed = b.flushed ∙ a.flushed;
-    failures = b.failures ∙ ap (λ n. n + failed) (a.failures ∙ add-zero _);
-    stalls = b.stalls ∙ ap (λ n. n + stalls) (a.stalls ∙ add-zero _);
-    reads = record { pieces = b.reads.pieces ∙ a.reads.pieces; ended = b.reads.ended ∙ a.reads.ended };
-    device = Appends-trans _ _ _ bytes more a.device b.device;
-  }

@@ -3,17 +3,15 @@ use Rattle.std.proofs.Common.{◌≡◌, ℕ, ◌+◌, Option, List, [], ◌++�
 use Rattle.std.proofs.lemmas.List.{append-nil}
 use Rattle.std.specs.Io.KnownBytes.{Appends}
 use Rattle.std.specs.Prelude.{IfErr, OnErr, OnOk}
-use Rattle.std.proofs.KnownBytes.{Appends-nil, Appends-trans}
+use Rattle.std.proofs.KnownBytes.{Appends-trans}
 use Rattle.ac_automaton.specs.declared.watched.Watched.{Watched}
 use Rattle.ac_automaton.specs.Devices.Moved.{HasTaken}
 use Rattle.ac_automaton.specs.Devices.Watched.{IsOfWrite, NoneRead, TookAll, TookFront, WritesWhole}
 use Rattle.ac_automaton.specs.Devices.Output.{Sends, Sent, Stopped}
+use Rattle.ac_automaton.specs.Devices.SendLaws.{NoneRead-then}
 use Rattle.ac_automaton.specs.declared.error.StreamError.{StreamError}
 use Rattle.ac_automaton.specs.declared.error.StreamError.TheVariants.{Config, Read, Write, WriteZero, Memory, Position}
-
--- two steps that read nothing together read nothing
-NoneRead-then : {W : Type 0} {old mid new : Watched W} → NoneRead old mid → NoneRead mid new → NoneRead old new
-NoneRead-then a b = record { pieces = b.pieces ∙ a.pieces; ended = b.ended ∙ a.ended }
+pub use Rattle.ac_automaton.specs.Devices.SendLaws.{Sent-none, Sent-then}
 
 -- the writer's history after a send
 pub HasTaken-from_sent : {W : Type 0} {contents : W → Option (List ℕ)} {old new : Watched W} {held after bytes : List ℕ}
@@ -42,20 +40,6 @@ HasTaken-from_stopped {stalls} s stalled =
       device = s.device;
     }
 
--- a send of nothing
-pub Sent-none : {W : Type 0} {contents : W → Option (List ℕ)} {writer : Watched W} {held : List ℕ}
-    → Sent contents writer writer held held []
-Sent-none {contents} {writer} {held} =
-    record {
-      gained = [];
-      taken = sym (append-nil _);
-      flushed = refl;
-      order = sym (append-nil held);
-      reads = record { pieces = refl; ended = refl };
-      fine = record { failures = refl; stalls = refl };
-      device = Appends-nil (contents writer.inner);
-    }
-
 -- what stopped with some bytes has stopped with more of them
 pub Stopped-more : {W : Type 0} {contents : W → Option (List ℕ)} {old new : Watched W} {held bytes : List ℕ}
     (more : List ℕ) → Stopped contents old new held bytes → Stopped contents old new held (bytes ++ more)
@@ -69,22 +53,6 @@ Stopped-more {held} {bytes} more s =
       order = sym (append_assoc s.gained s.lost more) ∙ ap (λ t. t ++ more) s.order ∙ append_assoc held bytes more;
       failures = s.failures;
       device = s.device;
-    }
-
--- one send after another
-pub Sent-then : {W : Type 0} {contents : W → Option (List ℕ)} {old mid new : Watched W}
-    {held between after bytes more : List ℕ} → Sent contents old mid held between bytes
-    → Sent contents mid new between after more → Sent contents old new held after (bytes ++ more)
-Sent-then {held} {between} {after} {bytes} {more} a b =
-    record {
-      gained = a.gained ++ b.gained;
-      taken = b.taken ∙ ap (λ t. t ++ b.gained) a.taken ∙ append_assoc _ a.gained b.gained;
-      order = append_assoc a.gained b.gained after ∙ ap (λ t. a.gained ++ t) b.order
-          ∙ sym (append_assoc a.gained between more) ∙ ap (λ t. t ++ more) a.order ∙ append_assoc held bytes more;
-      flushed = b.flushed ∙ a.flushed;
-      reads = NoneRead-then a.reads b.reads;
-      fine = record { failures = b.fine.failures ∙ a.fine.failures; stalls = b.fine.stalls ∙ a.fine.stalls };
-      device = Appends-trans _ _ _ a.gained b.gained a.device b.device;
     }
 
 -- a send that stopped, after one that did not

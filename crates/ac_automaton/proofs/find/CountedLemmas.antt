@@ -17,7 +17,6 @@ use Rattle.ac_automaton.specs.Automaton.{Built, prefilter_for, searched}
 use Rattle.ac_automaton.specs.Find.{IsWalkWork, come_by}
 use Rattle.ac_automaton.specs.Overlapping.{read_at_least, stands_at_least}
 use Rattle.ac_automaton.specs.Overlapping.OverlappingSearch.{ScanCounts, SkipCounts}
-use Rattle.ac_automaton.specs.declared.overlapping.Position.{Position}
 use Rattle.ac_automaton.specs.declared.overlapping.Position.TheVariants.{Over}
 use Rattle.ac_automaton.specs.declared.overlapping.Shown.{Shown}
 use Rattle.ac_automaton.specs.declared.cursor.End.{End}

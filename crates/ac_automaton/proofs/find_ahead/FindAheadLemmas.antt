@@ -32,7 +32,8 @@ use Rattle.ac_automaton.proofs.lemmas.CursorLemmas.{alive-from, list-none}
 use Rattle.ac_automaton.proofs.find.FindWalkLemmas.{HasAsked, Walks, asked-looks, asked-on, asked-says, asked-work, asks, rest, text_read, walks-first}
 use Rattle.ac_automaton.proofs.automaton.PassLemmas.{matching-some, some-matching}
 use Rattle.ac_automaton.proofs.cursor.ReadToMatchLemmas.{cursor-read_to, cursor-read_to_match}
-use Rattle.ac_automaton.proofs.stream.SearchLemmas.{nothing-in_empty, told-some}
+use Rattle.ac_automaton.proofs.stream.SearchLemmas.{told-some}
+use Rattle.ac_automaton.proofs.stream.SearchReadLemmas.{nothing-in_empty}
 use Rattle.ac_automaton.proofs.find.TakenLemmas.{taken-free}
 use Rattle.ac_automaton.proofs.lemmas.WalkEndLemmas.{IsDone, Ended, Won}
 use Rattle.ac_input.proofs.lemmas.UnusedLemmas.{occurs-some}

@@ -1,20 +1,17 @@
 -- The next pick of a walk, what it costs, and what it leaves of the walk.
-use Rattle.std.proofs.Common.{◌≡◌, ℕ, ◌+◌, ◌-◌, ◌*◌, ◌<◌, ◌≤◌, Bool, true, false, List, [], ◌∷◌, length, Option, None, Some, IfSome, add-zero, if◌then◌else◌, slice_get, zero, suc, refl, sym, ap, subst, ◌∙◌, arith}
+use Rattle.std.proofs.Common.{◌≡◌, ℕ, ◌+◌, ◌-◌, ◌*◌, ◌<◌, ◌≤◌, Bool, true, false, ◌∷◌, length, Option, None, Some, IfSome, add-zero, if◌then◌else◌, refl, sym, ap, subst, ◌∙◌, arith}
 use Rattle.std.proofs.Math.Nat.{mul-le-mul_left}
-use Rattle.std.proofs.lemmas.Option.{same_Some, none-some}
+use Rattle.std.proofs.lemmas.Option.{none-some}
 use Rattle.std.specs.Iterator.{YieldsFirst, MakesProgress, item_count}
 use Rattle.ac_input.specs.declared.search.MatchKind.{MatchKind}
 use Rattle.ac_input.specs.declared.search.MatchKind.TheVariants.{Standard}
 use Rattle.ac_input.specs.declared.steps.Steps.{Steps}
-use Rattle.ac_input.specs.Best.{IsBest, asked_kind}
-use Rattle.ac_input.specs.Candidate.{Filter}
-use Rattle.ac_input.specs.Input.{Asked, is_anchored, search_of}
-use Rattle.ac_input.specs.declared.search.Anchored.{Anchored}
-use Rattle.ac_input.specs.Occurrence.{Search, Occurrence, Occurs, starting_at}
+use Rattle.ac_input.specs.Best.{IsBest}
+use Rattle.ac_input.specs.Input.{Asked, is_anchored}
+use Rattle.ac_input.specs.Occurrence.{Search, Occurrence, starting_at}
 use Rattle.ac_input.specs.Steps.{Added, AreNone}
 use Rattle.ac_input.specs.Walk.{Repeats, IsPick, Here, Further}
-use Rattle.ac_input.specs.Work.{HasCounted, IsFindWork, lookups_per_byte, over_at, shortest}
-use Rattle.ac_input.proofs.lemmas.OrderLemmas.{occurs-end}
+use Rattle.ac_input.specs.Work.{HasCounted, IsFindWork, lookups_per_byte, over_at}
 use Rattle.ac_input.proofs.lemmas.WalkLemmas.{walk_after-none, walk_after-some, walk_after-nothing}
 use Rattle.ac_automaton.specs.Automaton.{Built, prefilter_for, searched}
 use Rattle.ac_automaton.specs.Iter.{CostsPick, CountsPick, CountsWalk, IsWithinBudget, PickCounts, Walk, walk_after_pick, walk_at, walk_kind, left_of, IsPickWork, IsPickOf, passed}

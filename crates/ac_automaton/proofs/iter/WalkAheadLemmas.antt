@@ -1,8 +1,7 @@
 -- What a walk that reads ahead has cost: for the bytes that it has passed, and with what was read ahead of it.
-use Rattle.std.proofs.Common.{◌≡◌, ℕ, ◌+◌, ◌-◌, ◌*◌, ◌≤◌, min, Bool, true, false, length, take, Option, None, Some, sym, ap, subst, refl, ◌∙◌, arith}
+use Rattle.std.proofs.Common.{◌≡◌, ℕ, ◌+◌, ◌-◌, ◌*◌, ◌≤◌, min, Bool, true, false, length, Option, None, Some, sym, ap, subst, refl, ◌∙◌, arith}
 use Rattle.std.proofs.lemmas.List.{length-take-le}
 use Rattle.ac_input.specs.Number.{StateID}
-use Rattle.ac_input.specs.declared.search.Anchored.TheVariants.{No}
 use Rattle.ac_input.specs.declared.steps.Steps.{Steps}
 use Rattle.ac_input.specs.Candidate.{Filter}
 use Rattle.ac_input.specs.Input.{Asked}
@@ -12,7 +11,7 @@ use Rattle.ac_input.specs.Walk.{Further, Here, IsPick}
 use Rattle.ac_input.specs.Work.{bytes_counted, lookups_per_byte, over_at}
 use Rattle.ac_input.specs.declared.search.MatchKind.{MatchKind}
 use Rattle.ac_automaton.specs.Ahead.{Settles, bytes_ahead, less_ahead, most_ahead}
-use Rattle.ac_automaton.specs.Automaton.{Built, searched}
+use Rattle.ac_automaton.specs.Automaton.{searched}
 use Rattle.ac_automaton.specs.FindAhead.{IsAheadIn, ReadsAheadFrom, ended_at}
 use Rattle.ac_automaton.specs.Iter.{CountsWalk, IsPickCost, IsPickOf, IsPickWork, IsRestOf, IsWithinBudget, IsWithinBudgetAhead, PickCounts, Walk, passed, walk_at, walk_kind}
 use Rattle.ac_automaton.specs.declared.ahead.Ahead.{Ahead}

@@ -4,7 +4,6 @@ use Rattle.ac_input.specs.Number.{StateID}
 use Rattle.ac_input.specs.Steps.{Done}
 use Rattle.ac_input.specs.declared.steps.Steps.{Steps}
 use Rattle.ac_automaton.specs.Ahead.{HaveRead}
-use Rattle.ac_automaton.specs.declared.lanes.Lane.{Lane}
 use Rattle.ac_automaton.specs.declared.lanes.Lanes.{Lanes}
 
 -- nothing was done

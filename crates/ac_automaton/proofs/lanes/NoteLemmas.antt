@@ -7,7 +7,7 @@ use Rattle.ac_input.specs.Number.{StateID}
 use Rattle.ac_input.specs.Steps.{Done}
 use Rattle.ac_input.specs.declared.steps.Steps.{Steps}
 use Rattle.ac_input.specs.declared.search.MatchKind.TheVariants.{Standard}
-use Rattle.ac_automaton.specs.Ahead.{CutBytes, EachLane, EachPair, Frees, HasNoted, HaveRead, IsNote, MayBegin, NoByte, ReadsAheadBy, TakesBy, TakesEachBy, lane_notes, lanes_notes, noted_len}
+use Rattle.ac_automaton.specs.Ahead.{CutBytes, EachLane, EachPair, Frees, HasNoted, HaveRead, IsNote, MayBegin, ReadsAheadBy, TakesBy, TakesEachBy, lane_notes, lanes_notes, noted_len}
 use Rattle.ac_automaton.specs.Automaton.{Built}
 use Rattle.ac_automaton.specs.declared.ahead.Note.{Note}
 use Rattle.ac_automaton.specs.declared.lanes.Lane.{Lane}

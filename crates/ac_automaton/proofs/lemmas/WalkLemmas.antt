@@ -1,5 +1,5 @@
 -- What a walk knows as it reads on: the best match of the bytes read, and how much it has looked at.
-use Rattle.std.proofs.Common.{◌≡◌, ◌≢◌, ⊎_elim, ℕ, zero, suc, ◌+◌, ◌-◌, ◌<◌, ◌≤◌, Bool, true, false, List, [], ◌∷◌, ◌++◌, length, drop, Option, Some, None, get_or, slice_get, slice_range, sym, ap, subst, refl, ◌∙◌, arith, length-drop}
+use Rattle.std.proofs.Common.{◌≡◌, ◌≢◌, ⊎_elim, ℕ, ◌+◌, ◌-◌, ◌<◌, ◌≤◌, Bool, true, false, List, [], ◌∷◌, ◌++◌, length, drop, Option, Some, None, get_or, slice_get, slice_range, sym, ap, subst, refl, ◌∙◌, arith, length-drop}
 use Rattle.std.specs.Option.{option_map, option_or}
 use Rattle.std.proofs.lemmas.Bool.{cases_lt}
 use Rattle.std.proofs.lemmas.List.{append-nil}
@@ -10,9 +10,9 @@ use Rattle.ac_input.specs.declared.search.MatchKind.{MatchKind}
 use Rattle.ac_input.specs.declared.search.MatchKind.TheVariants.{Standard}
 use Rattle.ac_input.specs.declared.search.Span.{Span}
 use Rattle.ac_input.specs.declared.steps.Steps.{Steps}
-use Rattle.ac_input.specs.Best.{preference, IsBest, asked_kind}
+use Rattle.ac_input.specs.Best.{IsBest, asked_kind}
 use Rattle.ac_input.specs.Input.{is_anchored}
-use Rattle.ac_input.specs.Laws.LiveLaws.{shifted, shifted_best}
+use Rattle.ac_input.specs.Laws.LiveLaws.{shifted_best}
 use Rattle.ac_input.specs.Dictionary.{Dictionary, BeginsEntered, whole, IsLive, live_len}
 use Rattle.ac_input.specs.Occurrence.{Occurrence, Occurs}
 use Rattle.ac_input.specs.Tells.{ending, Tells, ending_at}

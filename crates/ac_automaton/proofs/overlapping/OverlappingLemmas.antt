@@ -1,13 +1,12 @@
 -- What an overlapping search has to show: the matches of a state that count, and the occurrences that end at a place or
 -- later.
-use Rattle.std.proofs.Common.{◌≡◌, ◌↔◌, inl, ⊎_elim, ℕ, zero, suc, ◌+◌, ◌-◌, ◌<◌, ◌≤◌, Bool, true, false, cond, List, [], ◌∷◌, ◌++◌, length, map, take, drop, get_or, Some, None, slice_get, slice_range, leb, sym, ap, subst, refl, ◌∙◌, arith, add-one, drop-cons, length-drop}
+use Rattle.std.proofs.Common.{◌≡◌, ◌↔◌, inl, ⊎_elim, ℕ, zero, suc, ◌+◌, ◌-◌, ◌<◌, ◌≤◌, Bool, true, false, cond, List, [], ◌∷◌, ◌++◌, length, map, take, drop, get_or, Some, None, slice_get, slice_range, leb, sym, ap, subst, refl, ◌∙◌, arith, length-drop}
 use Rattle.std.specs.List.{Contains, filter}
 use Rattle.std.proofs.lemmas.Bool.{false≢true, cases_lt, leb-true, le-leb}
 use Rattle.std.proofs.lemmas.List.{take_more, get_or-drop}
-use Rattle.std.proofs.lemmas.Option.{slice_get_within, get_or_from_slice_get}
+use Rattle.std.proofs.lemmas.Option.{get_or_from_slice_get}
 use Rattle.std.proofs.Math.ListN.{drop_of_length-le}
 use Rattle.std.proofs.lemmas.List.Elements.{Contains-append_left, Contains-append_right, Contains-append_cases}
-use Rattle.ac_input.specs.declared.search.MatchKind.{MatchKind}
 use Rattle.ac_input.specs.declared.search.MatchKind.TheVariants.{Standard}
 use Rattle.ac_input.specs.declared.search.Anchored.{Anchored}
 use Rattle.ac_input.specs.declared.search.Anchored.TheVariants.{No, Yes}
@@ -19,7 +18,7 @@ use Rattle.ac_input.specs.Listing.{IsRising, ListsAll}
 use Rattle.ac_input.specs.Laws.LiveLaws.{shifted}
 use Rattle.ac_input.specs.Dictionary.{Dictionary, IsEntered, whole, IsLive}
 use Rattle.ac_input.specs.Tells.{ending, Tells, TellsUnanchored, ending_at}
-use Rattle.ac_input.proofs.lemmas.ContainsLemmas.{Contains-nil, Contains-head, Contains-tail, Contains-cases, Contains-filter, Contains-from_filter}
+use Rattle.ac_input.proofs.lemmas.ContainsLemmas.{Contains-nil, Contains-head, Contains-tail, Contains-filter, Contains-from_filter}
 use Rattle.ac_input.proofs.lemmas.OrderLemmas.{occurrence_from_parts, slice_range-length, occurs-end}
 use Rattle.ac_input.proofs.lemmas.RisingLemmas.{less_by_end, IsRising-filter, IsRising-append}
 use Rattle.ac_input.proofs.lemmas.ListingLemmas.{ListsAll-unique, listing_of-lists}

@@ -10,7 +10,6 @@ use Rattle.ac_input.specs.Dictionary.{Dictionary, IsLive, live_len}
 use Rattle.ac_input.specs.Laws.LiveLaws.{shifted}
 use Rattle.ac_input.specs.Tells.{Tells, ending}
 use Rattle.ac_input.specs.Work.{IsLookups, come_at_least}
-use Rattle.ac_automaton.specs.declared.overlapping.Position.{Position}
 use Rattle.ac_automaton.specs.declared.overlapping.Position.TheVariants.{At, Over}
 use Rattle.ac_automaton.specs.declared.cursor.Cursor.{Cursor}
 use Rattle.ac_automaton.specs.declared.cursor.End.TheVariants.{Found, Idle}

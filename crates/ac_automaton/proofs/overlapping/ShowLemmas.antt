@@ -8,7 +8,7 @@ use Rattle.ac_input.specs.declared.steps.Steps.{Steps}
 use Rattle.ac_input.specs.Computed.{listing_of}
 use Rattle.ac_input.specs.Dictionary.{Dictionary, IsLive}
 use Rattle.ac_input.specs.Input.{Asked, is_anchored}
-use Rattle.ac_input.specs.Occurrence.{Occurrence, starting_at}
+use Rattle.ac_input.specs.Occurrence.{starting_at}
 use Rattle.ac_input.specs.Tells.{Tells}
 use Rattle.ac_automaton.specs.Automaton.{Built, searched}
 use Rattle.ac_automaton.specs.Cursor.{IsCursor, ReadsFurther, StandsIn, read_to, walked}

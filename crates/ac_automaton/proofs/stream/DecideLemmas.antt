@@ -21,7 +21,7 @@ use Rattle.ac_input.proofs.lemmas.LiveLemmas.{best-entered, dead-final, entered-
 use Rattle.ac_input.proofs.lemmas.OrderLemmas.{slice_range-length}
 use Rattle.ac_automaton.specs.Stream.{AreAllGiven, CanBeCounted, FindsHeld, ReadsNothing, StreamProgress, read_again, read_by, Picks}
 use Rattle.ac_automaton.specs.Stream.StreamSearch.{SearchesOn, StandsInState, after_search, since_last, some_of, waits}
-use Rattle.ac_automaton.specs.Automaton.{Advances, IsSpecial, Built}
+use Rattle.ac_automaton.specs.Automaton.{Advances, IsSpecial}
 use Rattle.ac_automaton.specs.declared.automaton.Advance.{Advance}
 use Rattle.ac_automaton.specs.declared.automaton.Automaton.{Ghosts}
 use Rattle.ac_input.proofs.lemmas.StateLemmas.{live-one}
@@ -29,7 +29,8 @@ use Rattle.ac_automaton.specs.declared.stream.search.Searched.{Searched}
 use Rattle.ac_automaton.proofs.stream.BestOnLemmas.{best-met, best-told}
 use Rattle.ac_automaton.proofs.lemmas.CursorLemmas.{list-none, slice_range-split}
 use Rattle.ac_automaton.proofs.automaton.PassLemmas.{ReadsOver}
-use Rattle.ac_automaton.proofs.stream.SearchLemmas.{again-leftmost, cost-on, found-held, looks-done, paid-on, reads-on, search-decided, stands-from, text-on}
+use Rattle.ac_automaton.proofs.stream.SearchLemmas.{again-leftmost, found-held, search-decided}
+use Rattle.ac_automaton.proofs.stream.SearchReadLemmas.{cost-on, looks-done, paid-on, reads-on, stands-from, text-on}
 use Rattle.ac_automaton.proofs.stream.StreamLemmas.{given-anew, given-open, not-all, pick-rest, pick-since}
 use Rattle.ac_automaton.proofs.lemmas.WalkEndLemmas.{unshifted}
 use Rattle.ac_automaton.proofs.lemmas.WalkLemmas.{begins-bound, live-bound}

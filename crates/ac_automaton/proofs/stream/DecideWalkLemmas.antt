@@ -1,5 +1,5 @@
 -- How the loop that waits for a match to be decided goes on and ends, in terms of the fields that a search keeps.
-use Rattle.std.proofs.Common.{◌≡◌, ◌≢◌, ◌↔◌, ℕ, ◌+◌, ◌-◌, ◌<◌, ◌≤◌, Bool, true, false, IsTrue, List, [], length, drop, take, Option, None, Some, slice_get, slice_range, sym, ap, subst, refl, ◌∙◌, arith, add_assoc, add-zero, length-drop}
+use Rattle.std.proofs.Common.{◌≡◌, ◌≢◌, ◌↔◌, ℕ, ◌+◌, ◌-◌, ◌<◌, ◌≤◌, true, false, IsTrue, List, [], length, drop, take, Option, None, Some, slice_get, slice_range, sym, ap, subst, refl, ◌∙◌, arith, add_assoc, add-zero, length-drop}
 use Rattle.std.specs.Option.{option_map}
 use Rattle.std.proofs.lemmas.List.{take_rest}
 use Rattle.ac_input.specs.Number.{StateID}
@@ -22,7 +22,8 @@ use Rattle.ac_automaton.specs.declared.stream.search.Progress.{Progress}
 use Rattle.ac_automaton.specs.declared.stream.search.Searched.{Searched}
 use Rattle.ac_automaton.proofs.stream.DecideLemmas.{HasWaited, IsQuietOn, advance-quiet, dead-silent, decides-closed, decides-dead, done, not-dead, reads, searches-then, waits-better, waits-none, waits-same}
 use Rattle.ac_automaton.proofs.automaton.PassLemmas.{ReadsOver, StopsAtMatch}
-use Rattle.ac_automaton.proofs.stream.SearchLemmas.{found-here, met-done, progress-same, rest-held, search-met, searched-reads, stands-here, stops-here, tells-here}
+use Rattle.ac_automaton.proofs.stream.SearchLemmas.{found-here, met-done, progress-same, search-met, searched-reads, stands-here, stops-here, tells-here}
+use Rattle.ac_automaton.proofs.stream.SearchReadLemmas.{rest-held}
 use Rattle.ac_automaton.proofs.lemmas.WalkEndLemmas.{unshifted}
 use Rattle.ac_input.proofs.lemmas.SomeLemmas.{live-some}
 

@@ -1,16 +1,12 @@
 -- What a search over the held bytes pays, and what was read ahead of it, where it stops.
-use Rattle.std.proofs.Common.{◌≡◌, ◌≢◌, ℕ, ◌+◌, ◌-◌, ◌≤◌, Bool, List, [], length, drop, Option, None, Some, ap, subst, arith, slice_get, length-drop}
+use Rattle.std.proofs.Common.{◌≡◌, ◌≢◌, ℕ, ◌+◌, ◌-◌, ◌≤◌, List, [], length, drop, Option, Some, ap, subst, arith, length-drop}
 use Rattle.std.specs.Prelude.{if◌then◌else◌, unwrap_or}
-use Rattle.std.specs.Option.{option_map}
-use Rattle.std.proofs.lemmas.Option.{same_Some}
 use Rattle.ac_input.specs.Number.{StateID}
 use Rattle.ac_input.specs.declared.search.Anchored.TheVariants.{No}
 use Rattle.ac_input.specs.declared.search.MatchKind.TheVariants.{Standard}
 use Rattle.ac_input.specs.declared.steps.Steps.{Steps}
-use Rattle.ac_input.specs.Dictionary.{Dictionary}
 use Rattle.ac_input.specs.Occurrence.{Occurrence}
 use Rattle.ac_input.specs.Steps.{Done}
-use Rattle.ac_input.specs.Tells.{ending_at}
 use Rattle.ac_automaton.specs.Ahead.{Settles, onward}
 use Rattle.ac_automaton.specs.Automaton.{Built, has_some}
 use Rattle.ac_automaton.specs.Cursor.{IsFirstAt}

@@ -11,7 +11,7 @@ use Rattle.ac_input.specs.Steps.{Added, AreNone}
 use Rattle.ac_automaton.specs.Ahead.{HasForgotten, IsPaid, IsReadOnce, StaysReadOnce, bytes_ahead, left_notes, less_ahead}
 use Rattle.ac_automaton.specs.FindAhead.{IsAheadOf}
 use Rattle.ac_automaton.specs.Devices.Buffer.{Filled, Held, nothing_held, rolled, taken_into}
-use Rattle.ac_automaton.specs.Stream.{FindsHeld, IsOnCourse, IsSearched, Picks, Sequence, StreamCounts, StreamProgress, fresh_progress, may_wait, read_by}
+use Rattle.ac_automaton.specs.Stream.{FindsHeld, IsOnCourse, IsSearched, Sequence, StreamCounts, StreamProgress, fresh_progress, may_wait, read_by}
 use Rattle.ac_automaton.specs.Stream.StreamSearch.{IsStreamSearch, SearchesOn, after_search, progress_at, since_last, some_of}
 use Rattle.ac_automaton.specs.Stream.StreamWalk.{IsAheadBy, StandsAfter, WalksOn}
 use Rattle.ac_automaton.specs.declared.ahead.Ahead.{Ahead}

@@ -9,16 +9,23 @@ use Rattle.ac_input.specs.declared.search.Anchored.{Anchored}
 use Rattle.ac_input.specs.declared.steps.Steps.{Steps}
 use Rattle.ac_input.specs.declared.search.MatchKind.{MatchKind}
 use Rattle.ac_input.specs.declared.search.MatchKind.TheVariants.{Standard, LeftmostFirst, LeftmostLongest}
-use Rattle.ac_input.specs.Work.{longest, lookups_per_byte}
+use Rattle.ac_input.specs.Occurrence.{Occurrence}
+use Rattle.ac_input.specs.Work.{longest, lookups_per_byte, shortest}
 use Rattle.ac_automaton.specs.Replace.{matches_in}
 use Rattle.ac_automaton.specs.Automaton.{Built}
-use Rattle.ac_automaton.specs.Stream.{CanStream, IsStreamRefusal, StreamProgress, again_for, fresh_progress, read_again, read_by, read_in_all, Picks}
-use Rattle.ac_automaton.specs.Stream.StreamReplace.{AcceptsStream, CostsStream, HasSearched, IsStreamCost, IsBegun, ReplacesStream}
+use Rattle.ac_automaton.specs.Devices.Moved.{NoneTouched}
+use Rattle.ac_automaton.specs.Stream.{CanStream, IsFront, IsStreamRefusal, Picks, StreamProgress, again_for, fresh_progress, items_of, read_again, read_by, read_in_all}
+use Rattle.ac_automaton.specs.Stream.SinkLaws.{IsPiecewise}
+use Rattle.ac_automaton.specs.Stream.StreamPump.{HasComeToCut, Pumps, PumpsMatches}
+use Rattle.ac_automaton.specs.Stream.StreamReplace.{CostsStream, HasSearched, IsStreamCost, IsBegun, ReplacesStream, replaced_in}
+use Rattle.ac_automaton.specs.Stream.StreamTexts.{Texts, replacing, sending, text_between}
 use Rattle.ac_automaton.specs.declared.error.StreamError.{StreamError}
 use Rattle.ac_automaton.specs.declared.error.StreamError.TheVariants.{Config, Read, Write, WriteZero, Memory, Position}
 use Rattle.ac_automaton.specs.declared.stream.StreamKinds.{StreamKinds}
+use Rattle.ac_automaton.specs.declared.stream.StreamKinds.TheVariants.{AnyKind, OnlyStandard}
 use Rattle.ac_automaton.specs.declared.watched.Watched.{Watched}
-use Rattle.ac_automaton.proofs.stream.StreamReplaceLemmas.{given-none, taken-none}
+use Rattle.ac_automaton.proofs.devices.MovedLemmas.{given-none, taken-none}
+use Rattle.ac_automaton.proofs.stream.TextSinkLemmas.{pumped-begun, pumped-writes, replaced-front, replaced-whole}
 
 -- nothing was moved
 pub nothing-moved : {R W : Type 0} (remaining : R → Option (List ℕ)) (contents : W → Option (List ℕ))
@@ -27,49 +34,33 @@ pub nothing-moved : {R W : Type 0} (remaining : R → Option (List ℕ)) (conten
     → IsStreamRefusal kinds b supports error
     → ReplacesStream remaining contents b replacements reader reader writer writer (Err error)
 nothing-moved remaining contents kinds b supports replacements reader writer (Config error) refused = (
-  record { pieces = []; failed_reads = 0; taken = []; failed_writes = 0; stalled_writes = 0 },
-  record { reader = given-none; writer = taken-none },
-  λ k d lt. absurd (omega arith),
-  record { pieces = refl; taken = refl; failed = (refl, refl, refl) },
+  (
+    record { pieces = []; failed_reads = 0; taken = []; failed_writes = 0; stalled_writes = 0 },
+    record { reader = given-none; writer = taken-none },
+    λ k d lt. absurd (omega arith),
+    record { pieces = refl; taken = refl; failed = (refl, refl, refl) },
+  ),
   inr (refl, refl),
 )
 nothing-moved remaining contents kinds b supports replacements reader writer (Read error) refused = absurd refused
 nothing-moved remaining contents kinds b supports replacements reader writer (Write error) refused = absurd refused
 nothing-moved remaining contents kinds b supports replacements reader writer WriteZero refused = absurd refused
 nothing-moved remaining contents kinds b supports replacements reader writer Memory refused = (
-  record { pieces = []; failed_reads = 0; taken = []; failed_writes = 0; stalled_writes = 0 },
-  record { reader = given-none; writer = taken-none },
-  λ k d lt. absurd (omega arith),
-  record { pieces = refl; taken = refl; failed = (refl, refl, refl) },
+  (
+    record { pieces = []; failed_reads = 0; taken = []; failed_writes = 0; stalled_writes = 0 },
+    record { reader = given-none; writer = taken-none },
+    λ k d lt. absurd (omega arith),
+    record { pieces = refl; taken = refl; failed = (refl, refl, refl) },
+  ),
   inr (refl, refl),
 )
 nothing-moved remaining contents kinds b supports replacements reader writer Position refused = absurd refused
-
--- why it did not begin
-pub not-begun : (kinds : StreamKinds) (b : Built) (supports : Anchored → Type 0) (error : StreamError)
-    → IsStreamRefusal kinds b supports error → AcceptsStream kinds b supports (Err error)
-not-begun kinds b supports (Config error) refused = refused
-not-begun kinds b supports (Read error) refused = absurd refused
-not-begun kinds b supports (Write error) refused = absurd refused
-not-begun kinds b supports WriteZero refused = absurd refused
-not-begun kinds b supports Memory refused = refused
-not-begun kinds b supports Position refused = absurd refused
-
--- an error that came later
-begun-later : (kinds : StreamKinds) (b : Built) (supports : Anchored → Type 0) (error : StreamError)
-    → CanStream kinds b supports → IsBegun error → AcceptsStream kinds b supports (Err error)
-begun-later kinds b supports (Config error) can begun = absurd begun
-begun-later kinds b supports (Read error) can begun = can
-begun-later kinds b supports (Write error) can begun = can
-begun-later kinds b supports WriteZero can begun = can
-begun-later kinds b supports Memory can begun = absurd begun
-begun-later kinds b supports Position can begun = can
 
 -- a replacement that did not begin cost nothing
 pub cost-none : {R : Type 0} (b : Built) (reader : Watched R) (steps : Steps) (error : StreamError)
     → CostsStream b reader reader steps steps (Err error)
 cost-none b reader steps error =
-    ([], sym (append-nil _), record { looked = omega arith; scanned = refl; moved = omega arith }, tt, inr refl)
+    (([], sym (append-nil _), record { looked = omega arith; scanned = refl; moved = omega arith }, tt), inr refl)
 
 -- looks within the bound for the bytes read are within the bound for more bytes
 looks-within : (deterministic : Bool) (looked at n : ℕ) → looked ≤ lookups_per_byte deterministic * at → at ≤ n
@@ -126,22 +117,66 @@ cost-pieces b s t r0 r1 before after result fresh h =
           omega arith in z) h.searched,
     )
 
--- an error that comes after the first read, or one that cost nothing
-came-later : (result : Result (Unit {0}) StreamError) (before after : Steps) → IfErr result IsBegun
-    → IfErr result (λ error. IsBegun error ⊎ (after ≡ before))
-came-later (Ok done) before after begun = tt
-came-later (Err error) before after begun = inl begun
+-- an error that comes after the first read, or one of which something else holds
+came-later : (P : Type 0) (result : Result (Unit {0}) StreamError) → IfErr result IsBegun
+    → IfErr result (λ error. IsBegun error ⊎ P)
+came-later P (Ok done) begun = tt
+came-later P (Err error) begun = inl begun
 
-pub cost-read : {R : Type 0} (b : Built) (s t : StreamProgress Picks) (r0 r1 : Watched R) (before after : Steps)
-    (result : Result (Unit {0}) StreamError) → s ≡ fresh_progress b → IfErr result IsBegun
-    → HasSearched s t r0 r1 before after result → CostsStream b r0 r1 before after result
-cost-read b s t r0 r1 before after result fresh begun h =
-    let cost = cost-pieces b s t r0 r1 before after result fresh h in
-    (cost.0, cost.1, cost.2, cost.3, came-later result before after begun)
+-- a search that can be made has no empty pattern
+can-some : (kinds : StreamKinds) (b : Built) (supports : Anchored → Type 0) → CanStream kinds b supports
+    → 1 ≤ shortest b.dictionary.patterns
+can-some OnlyStandard b supports can = can.2
+can-some AnyKind b supports can = can.1
 
--- a result that came later
-pub accepted-later : (kinds : StreamKinds) (b : Built) (supports : Anchored → Type 0)
-    (result : Result (Unit {0}) StreamError) → CanStream kinds b supports → IfErr result IsBegun
-    → AcceptsStream kinds b supports result
-accepted-later kinds b supports (Ok done) can begun = can
-accepted-later kinds b supports (Err error) can begun = begun-later kinds b supports error can begun
+-- ---- matches that were pumped into a sink which replaces them
+
+module _ {K W : Type 0} (contents : W → Option (List ℕ)) (output : K → List ℕ) (texts : K → Texts)
+    (accepts : ℕ → K → Type 0) (laws : ((k : K) → IsPiecewise (texts k))) (z : K × Watched W)
+    (empty : output z.0 ≡ []) (replacements : List (List ℕ)) (replaces : texts z.0 ≡ replacing replacements) where
+  module _ {R : Type 0} (remaining : R → Option (List ℕ)) (kinds : StreamKinds) (b : Built)
+      (supports : Anchored → Type 0) (r0 r1 : Watched R) (last : K × Watched W)
+      (result : Result (Unit {0}) StreamError) where
+    -- a stream that was pumped into it
+    replaced-stream : CanStream kinds b supports
+        → Pumps (sending contents output texts accepts) Picks remaining b r0 r1 z last result
+        → ReplacesStream remaining contents b replacements r0 r1 z.1 last.1 result × IfErr result IsBegun
+    replaced-stream can pumps =
+        let some = can-some kinds b supports can in
+        let whole = λ (x : List ℕ). subst (λ (made : Texts).
+        text_between made Picks x 0 (items_of Picks b.dictionary x) (length x) ≡ replaced_in b replacements x)
+        (sym replaces) (replaced-whole b replacements x) in
+        let front = λ (x : List ℕ) (cut : ℕ) (done : List Occurrence) (to : K × Watched W)
+        (came : HasComeToCut (sending contents output texts accepts) Picks b x cut done z to).
+        subst (λ (made : Texts). IsFront b.dictionary (replaced_in b replacements) x
+        (text_between made Picks x 0 done cut)) (sym replaces) (replaced-front b replacements x cut done some came) in
+        let wrote = pumped-writes contents output texts accepts laws Picks b z empty (replaced_in b replacements)
+        (IsFront b.dictionary (replaced_in b replacements)) whole front last result pumps in
+        let begun = pumped-begun contents output texts accepts laws Picks b z empty (replaced_in b replacements)
+        (IsFront b.dictionary (replaced_in b replacements)) whole front last result pumps in
+        ((wrote, came-later (NoneTouched r0 r1 z.1 last.1) result begun), begun)
+
+  module _ {R : Type 0} (remaining : R → Option (List ℕ)) (kinds : StreamKinds) (b : Built)
+      (supports : Anchored → Type 0) (r0 r1 : Watched R) (last : K × Watched W) (before after : Steps) where
+    -- what was read and written
+    pub matches-replaced : (result : Result (Unit {0}) StreamError)
+        → PumpsMatches (sending contents output texts accepts) remaining kinds b supports r0 r1 z last before after
+        result → ReplacesStream remaining contents b replacements r0 r1 z.1 last.1 result
+    matches-replaced (Ok done) p = (replaced-stream remaining kinds b supports r0 r1 last (Ok done) p.0 p.1.0).0
+    matches-replaced (Err error) (inl p) =
+        subst (λ r. ReplacesStream remaining contents b replacements r0 r z.1 last.1 (Err error)) (sym p.1.0)
+        (subst (λ (to : K × Watched W). ReplacesStream remaining contents b replacements r0 r0 z.1 to.1 (Err error))
+        (sym p.1.1) (nothing-moved remaining contents kinds b supports replacements r0 z.1 error p.0))
+    matches-replaced (Err error) (inr p) =
+        (replaced-stream remaining kinds b supports r0 r1 last (Err error) p.0 p.1.0).0
+
+    -- what it cost
+    pub matches-cost : (result : Result (Unit {0}) StreamError)
+        → PumpsMatches (sending contents output texts accepts) remaining kinds b supports r0 r1 z last before after
+        result → CostsStream b r0 r1 before after result
+    matches-cost (Ok done) p = (p.1.1, tt)
+    matches-cost (Err error) (inl p) =
+        subst (λ r. CostsStream b r0 r before after (Err error)) (sym p.1.0)
+        (subst (λ s. CostsStream b r0 r0 before s (Err error)) (sym p.1.2) (cost-none b r0 before error))
+    matches-cost (Err error) (inr p) =
+        (p.1.1, inl (replaced-stream remaining kinds b supports r0 r1 last (Err error) p.0 p.1.0).1)

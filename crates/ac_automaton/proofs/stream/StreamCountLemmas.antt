@@ -1,5 +1,5 @@
 -- How the counts of a stream's search add up.
-use Rattle.std.proofs.Common.{ℕ, ◌+◌, sym, ap, ◌∙◌, add_assoc, add-zero}
+use Rattle.std.proofs.Common.{◌+◌, sym, ap, ◌∙◌, add_assoc, add-zero}
 use Rattle.ac_input.specs.declared.steps.Steps.{Steps}
 use Rattle.ac_automaton.specs.Stream.{CountsNothing, Sequence, StreamCounts, StreamProgress}
 

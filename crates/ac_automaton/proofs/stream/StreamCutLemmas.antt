@@ -5,10 +5,10 @@ use Rattle.std.proofs.lemmas.List.{length-take-le}
 use Rattle.std.proofs.lemmas.List.Elements.{All-contains, Contains-append_cases, recursion_from_All}
 use Rattle.ac_input.specs.declared.search.MatchKind.{MatchKind}
 use Rattle.ac_input.specs.declared.search.MatchKind.TheVariants.{Standard}
-use Rattle.ac_input.specs.Best.{IsBest, preference}
-use Rattle.ac_input.specs.Occurrence.{Search, Occurrence, starting_at}
+use Rattle.ac_input.specs.Best.{preference}
+use Rattle.ac_input.specs.Occurrence.{Search, Occurrence}
 use Rattle.ac_input.specs.Dictionary.{whole}
-use Rattle.ac_input.specs.Walk.{IsPick, Here, Further, IsWalk}
+use Rattle.ac_input.specs.Walk.{IsWalk}
 use Rattle.ac_input.specs.Cut.{IsCut}
 use Rattle.ac_input.specs.Work.{shortest}
 use Rattle.ac_input.specs.Laws.BeginningLaws.{longer}

@@ -13,7 +13,6 @@ use Rattle.ac_input.specs.declared.search.MatchKind.TheVariants.{Standard, Leftm
 use Rattle.ac_input.specs.Dictionary.{IsLive}
 use Rattle.ac_input.specs.Occurrence.{Occurrence}
 use Rattle.ac_input.proofs.lemmas.LiveLemmas.{kind_cases}
-use Rattle.ac_automaton.specs.Automaton.{Built}
 use Rattle.ac_automaton.specs.Stream.{AreAllGiven, CanBeCounted, EachIsDecided, FindsHeld, IsHeldItem, NothingIsLive, Occurrences, Picks, ReadsMore, ReadsNothing, Sequence, StreamCounts, StreamProgress, closed_by, end_of, items_of, may_wait, read_by, room_of}
 use Rattle.ac_automaton.specs.Devices.Moved.{AreFilled, AreWhole, but_last}
 use Rattle.ac_automaton.specs.Stream.StreamIter.{HadGiven, HasGained, IsReadForItem, IsStopped, NextGives, StaysStopped, TurnGives, TurnReads, read_before}

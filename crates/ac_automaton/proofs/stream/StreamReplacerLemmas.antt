@@ -7,7 +7,6 @@ use Rattle.std.proofs.lemmas.Bool.{false≢true}
 use Rattle.std.proofs.lemmas.List.{take_all}
 use Rattle.ac_input.specs.Occurrence.{Occurrence}
 use Rattle.ac_input.specs.Text.{replaced_from}
-use Rattle.ac_automaton.specs.Automaton.{Built}
 use Rattle.ac_automaton.specs.Replace.{LieInOrder, matches_in}
 use Rattle.ac_automaton.specs.Stream.{AreAllGiven, CanBeCounted, FindsHeld, IsOnCourse, ReadsNothing, StreamProgress, cut_of, may_wait, read_by, IsFront, Picks}
 use Rattle.ac_automaton.specs.Stream.StreamReplace.{IsPlaced, replaced_in}
@@ -15,8 +14,7 @@ use Rattle.ac_automaton.specs.Stream.StreamReplacer.{FindsPart, HandsOut, IsAllO
 use Rattle.ac_automaton.specs.declared.stream.replacer.Part.{Part}
 use Rattle.ac_automaton.specs.declared.stream.replacer.Part.TheVariants.{Text, Replacement}
 use Rattle.ac_automaton.specs.declared.stream.replacer.StreamReplacer.TheInside.{Inside}
-use Rattle.ac_automaton.proofs.stream.StreamReplaceLemmas.{each-closed, front-at_cut}
-use Rattle.ac_automaton.proofs.stream.StreamSendLemmas.{cut-within, cut-placed, match-behind, match-placed, none-placed}
+use Rattle.ac_automaton.proofs.stream.PlacedLemmas.{cut-placed, cut-within, each-closed, front-at_cut, item-placed, match-behind, none-placed}
 use Rattle.ac_automaton.proofs.stream.StreamTextLemmas.{replaced-grows, replaced-push}
 use Rattle.ac_automaton.proofs.iter.ItemsLemmas.{lies-longer}
 
@@ -52,12 +50,12 @@ look-placed s t at (Some o) placed course finds =
     let same = finds.0 in
     let is = finds.4 in
     let from : t.from ≡ s.from = same.from in
-    let before = match-behind [] s t at o placed course finds in
+    let before = match-behind s t o course finds at placed refl in
     let long : length (read_by t) ≡ length (read_by s) = ap (λ pieces. length (concat pieces)) same.pieces in
     let within : o.end ≤ length (read_by s) = is.within in
     record {
       given = finds.1 ∙ ap (λ os. os ++ o ∷ []) (sym (found-replaced s t (Some o) finds));
-      placed = match-placed [] s t at o placed course finds;
+      placed = item-placed s t o course finds at placed;
       pattern = subst (λ b. o.pattern < length b.dictionary.patterns) (sym same.built) is.pattern;
       some = is.some;
       held = let h = placed.held in omega arith;
@@ -65,7 +63,7 @@ look-placed s t at (Some o) placed course finds =
       within = omega arith;
       lies = subst (λ b. LieInOrder (length b.dictionary.patterns) at 0 (replaced_by t (Some o))) (sym same.built)
           (subst (LieInOrder (length s.built.dictionary.patterns) at 0) (sym (found-replaced s t (Some o) finds))
-          placed.lies);
+          (placed.lies refl));
     }
 
 -- where no match was found, all were returned
@@ -130,7 +128,7 @@ pass-lent s at to (Some o) finished placed lt is = let within = placed.within in
 -- the matches replaced lie before the slice
 pass-lies : (s : StreamProgress Picks) (at : ℕ) (met : Option Occurrence) → IsPlacedAt s at met
     → LieInOrder (length s.built.dictionary.patterns) at 0 (replaced_by s met)
-pass-lies s at None placed = placed.lies
+pass-lies s at None placed = placed.lies refl
 pass-lies s at (Some o) placed = placed.lies
 
 -- the text may be handed out from the slice's end on, unless that ends the text

@@ -31,7 +31,8 @@ use Rattle.ac_input.specs.declared.search.Anchored.TheVariants.{No}
 use Rattle.ac_automaton.specs.declared.stream.search.StreamSearch.TheInside.{Inside}
 use Rattle.ac_automaton.specs.declared.automaton.Automaton.{Ghosts}
 use Rattle.ac_automaton.specs.declared.stream.search.Searched.{Searched}
-use Rattle.ac_automaton.proofs.stream.SearchLemmas.{live-empty, wait-standard, stands-from, nothing-in_empty, alive-none}
+use Rattle.ac_automaton.proofs.stream.SearchLemmas.{wait-standard}
+use Rattle.ac_automaton.proofs.stream.SearchReadLemmas.{live-empty, stands-from, nothing-in_empty, alive-none}
 use Rattle.ac_automaton.proofs.stream.StreamLemmas.{walk-any}
 use Rattle.ac_automaton.proofs.stream.SequenceLemmas.{picks≢occurrences}
 use Rattle.ac_input.proofs.lemmas.SomeLemmas.{live-some}

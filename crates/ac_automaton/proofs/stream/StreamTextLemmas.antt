@@ -12,7 +12,7 @@ take-split : (x : List ℕ) (p q : ℕ) → p ≤ q → q ≤ length x → take 
 take-split x p q le within = let n : p + (q - p) ≡ q = omega arith in sym (take-add p (q - p) x) ∙ ap (λ k. take k x) n
 
 -- a part within the front of a text is the same part of the text
-slice_range-take : (x : List ℕ) (p a b : ℕ) → a ≤ b → b ≤ p → p ≤ length x
+pub slice_range-take : (x : List ℕ) (p a b : ℕ) → a ≤ b → b ≤ p → p ≤ length x
     → slice_range (take p x) a b ≡ slice_range x a b
 slice_range-take x p a b le before within =
     let enough : b ≤ length (take p x) = omega (arith, length-take-le p x within) in
@@ -26,7 +26,7 @@ drop-split x a p q before le within =
     sym (drop-append-le a (take p x) (slice_range x p q) enough) ∙ ap (drop a) (take-split x p q le within)
 
 -- what is left of a front from a place on is the part of the text between the two
-drop-take_is : (x : List ℕ) (a q : ℕ) → a ≤ q → q ≤ length x → drop a (take q x) ≡ slice_range x a q
+pub drop-take_is : (x : List ℕ) (a q : ℕ) → a ≤ q → q ≤ length x → drop a (take q x) ≡ slice_range x a q
 drop-take_is x a q le within =
     let len : length (drop a (take q x)) ≡ q - a = omega (arith, length-drop a (take q x), length-take-le q x within) in
     sym (take_all (q - a) (drop a (take q x)) (omega arith)) ∙ slice_range-take x q a q le (omega arith) within

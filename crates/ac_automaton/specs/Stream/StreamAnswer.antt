@@ -1,11 +1,12 @@
 -- The results of a call that writes a text while it reads: how much of the text was written, given what was read.
-use Rattle.std.specs.Prelude.{◌≡◌, ℕ, List, [], Result, Ok, Err}
+use Rattle.std.specs.Prelude.{◌≡◌, ℕ, List, [], Option, Result, Ok, Err}
 use Rattle.std.specs.List.{concat}
 use Rattle.ac_input.specs.Laws.BeginningLaws.{IsBeginning}
-use Rattle.ac_automaton.specs.Devices.Moved.{AreWhole, Failed, Moved, but_last}
+use Rattle.ac_automaton.specs.Devices.Moved.{AllFit, AreWhole, Failed, HasMoved, Moved, but_last}
 use Rattle.ac_automaton.specs.Stream.{CanBeCounted}
 use Rattle.ac_automaton.specs.declared.error.StreamError.{StreamError}
 use Rattle.ac_automaton.specs.declared.error.StreamError.TheVariants.{Config, Read, Write, WriteZero, Memory, Position}
+use Rattle.ac_automaton.specs.declared.watched.Watched.{Watched}
 
 -- nothing was read, and nothing written
 pub record MovedNothing (m : Moved) : Type 0 where
@@ -47,3 +48,12 @@ module _ (output : List ℕ → List ℕ) (front : List ℕ → List ℕ → Typ
   AnswersWriting m (Err WriteZero) = WroteToFailedWrite m 1
   AnswersWriting m (Err Memory) = MovedNothing m
   AnswersWriting m (Err Position) = WroteOutOfPlaces m
+
+-- What a call that writes a text while it reads read and wrote, and its result; no piece was longer than the room.
+-- `output` is the text that is made of an input, and `front` what can be written of it once this much was read.
+abbrev pub WritesStream : {R W : Type 0} → (R → Option (List ℕ)) → (W → Option (List ℕ)) → ℕ → (List ℕ → List ℕ)
+    → (List ℕ → List ℕ → Type 0) → Watched R → Watched R → Watched W → Watched W → Result (Unit {0}) StreamError
+    → Type 0
+WritesStream remaining contents room output front reader_before reader_after writer_before writer_after result =
+    (m : Moved) × HasMoved remaining contents reader_before reader_after writer_before writer_after m
+    × AllFit room m.pieces × AnswersWriting output front m result

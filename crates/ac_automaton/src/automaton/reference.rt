@@ -54,6 +54,16 @@ impl<'a, A: Automaton> Automaton for &'a A {
         (**self).advance_to_match(anchored, sid, bytes, steps)
     }
 
+    fn advance_alone(
+        &self,
+        anchored: Anchored,
+        sid: StateID,
+        bytes: &[u8],
+        steps: &mut Steps,
+    ) -> Advance {
+        (**self).advance_alone(anchored, sid, bytes, steps)
+    }
+
     fn note_ahead(
         &self,
         sid: StateID,

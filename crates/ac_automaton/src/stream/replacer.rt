@@ -11,9 +11,9 @@ ghost use Rattle.ac_automaton.specs.Stream.{AreAllGiven, CanBeCounted, StreamCou
 ghost use Rattle.ac_automaton.specs.Stream.StreamReplacer.{FindsPart, AnswersReplacer, CanBeLent, IsReady, LooksForMatch, TakesPart, PushesText, ends_there, part_bytes, decided_to};
 
 use super::StreamSearch;
-use super::replace::part;
 use crate::error::StreamError;
 use crate::search::Search;
+use crate::stream::ItemSearch;
 use ac_input::primitives::PatternID;
 use ac_input::search::Match;
 use ac_input::steps::Steps;
@@ -237,7 +237,7 @@ impl<A: Search> StreamReplacer<A> {
             (bytes_of replacements.now) slice }
     {
         match slice {
-            Part::Text(start, end) => part(self.search.held(), self.search.from(), start, end),
+            Part::Text(start, end) => self.search.between(start, end),
             Part::Replacement(pattern) => replacements[pattern.as_usize()],
         }
     }

@@ -124,7 +124,10 @@ impl<A: Search> Model for StreamSearch<A> {
 }
 
 /// The start state of a search of a stream that accepts these kinds, where the automaton can make one.
-fn configured<A: Automaton>(automaton: &A, kinds: StreamKinds) -> Result<StateID, MatchError>
+pub(super) fn configured<A: Automaton>(
+    automaton: &A,
+    kinds: StreamKinds,
+) -> Result<StateID, MatchError>
     ensures start { IfOk result (λ sid. A.Reaches automaton.now Anchored.No [] sid) }
     ensures can { OnOk result (CanStream kinds (A.built automaton.now) (A.supports automaton.now)) }
     ensures error { IfErr result (IsConfigRefusal kinds (A.built automaton.now)
@@ -557,6 +560,19 @@ impl<A: Search> ItemSearch for StreamSearch<A> {
 
     fn next_held(&mut self, steps: &mut Steps) -> Option<Match> {
         self.next_counted(steps)
+    }
+
+    fn between(&self, start: usize, end: usize) -> &[u8] {
+        let from = self.progress.from;
+        &self.buffer.held()[start - from..end - from]
+    }
+
+    fn cut(&self) -> usize {
+        StreamSearch::cut(self)
+    }
+
+    fn end(&self) -> usize {
+        self.progress.from + self.buffer.held().len()
     }
 
     fn is_past_places(&self) -> bool {

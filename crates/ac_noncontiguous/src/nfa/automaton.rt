@@ -92,6 +92,17 @@ impl Automaton for NFA {
             .read_to(self, anchored, sid, bytes, matching, steps)
     }
 
+    fn advance_alone(
+        &self,
+        anchored: Anchored,
+        sid: StateID,
+        bytes: &[u8],
+        steps: &mut Steps,
+    ) -> Advance {
+        let matching = Between::new(FAIL as u32 + 1, self.tables.max_match);
+        self.read_until(anchored, sid, bytes, matching, steps)
+    }
+
     #[inline]
     fn is_special(&self, sid: StateID) -> bool {
         sid.as_u32() <= self.max_special.as_u32()

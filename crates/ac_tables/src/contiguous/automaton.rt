@@ -202,6 +202,17 @@ impl Automaton for NFA {
             .read_to(self, anchored, sid, bytes, matching, steps)
     }
 
+    fn advance_alone(
+        &self,
+        anchored: Anchored,
+        sid: StateID,
+        bytes: &[u8],
+        steps: &mut Steps,
+    ) -> Advance {
+        let matching = Between::new(1, self.table.max_match);
+        self.read_until(anchored, sid, bytes, matching, steps)
+    }
+
     fn note_ahead(
         &self,
         sid: StateID,

@@ -13,6 +13,7 @@ use Rattle.ac_automaton.specs.Iter.{AnswersFindIter, IsWithinBudget, Walk, WalkC
 use Rattle.ac_automaton.specs.Overlapping.OverlappingIter.{AnswersListing, IsRunAfter, IsWithinOneWalk, Run, RunCounts, fresh_run}
 use Rattle.ac_automaton.specs.Replace.{matches_in}
 use Rattle.ac_automaton.specs.Stream.{read_again}
+use Rattle.ac_automaton.specs.Stream.StreamReplace.{CostsSearch}
 use Rattle.ac_automaton.specs.declared.error.MatchErrorKind.{MatchErrorKind}
 use Rattle.ac_automaton.specs.declared.watched.Watched.{Watched}
 use Rattle.aho_corasick.specs.AhoCorasick.{as_built, supported_by}
@@ -23,7 +24,6 @@ use Rattle.acsub.specs.Matches.{IsCounted, IsHeldCost, IsListingCounted, IsWalkC
 use Rattle.acsub.specs.Plan.{Plan}
 use Rattle.acsub.specs.Run.{CostsRun, read_for_run}
 use Rattle.acsub.specs.Served.{AreLooksFor, IsServedByDfa}
-use Rattle.acsub.specs.Stream.{CostsSearch}
 use Rattle.acsub.specs.Run.Transformed.{IsStreamed}
 use Rattle.acsub.specs.declared.error.RunError.{RunError}
 use Rattle.acsub.specs.declared.error.RunError.TheVariants as errors

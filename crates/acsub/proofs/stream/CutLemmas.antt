@@ -13,8 +13,8 @@ use Rattle.ac_automaton.specs.Automaton.{Built}
 use Rattle.ac_automaton.specs.Replace.{LieInOrder, matches_in}
 use Rattle.ac_automaton.specs.Stream.StreamReplace.{replaced_in}
 use Rattle.ac_automaton.proofs.lemmas.ReplaceLemmas.{matches-lie}
+use Rattle.ac_automaton.proofs.stream.PlacedLemmas.{lies-behind}
 use Rattle.ac_automaton.proofs.stream.StreamCutLemmas.{matches-front}
-use Rattle.ac_automaton.proofs.stream.StreamSendLemmas.{lies-behind}
 use Rattle.ac_automaton.proofs.stream.StreamTextLemmas.{replaced-split}
 
 -- each match that lies in order after a place begins there or later

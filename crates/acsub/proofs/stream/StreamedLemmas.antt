@@ -16,8 +16,8 @@ use Rattle.ac_automaton.specs.Devices.Buffer.{room_for}
 use Rattle.std.specs.Prelude.{IfErr, OnOk, max}
 use Rattle.ac_automaton.specs.Devices.Moved.{AllFit, AreFilled, Moved, NoneTouched, but_last}
 use Rattle.ac_automaton.specs.Stream.{CanStream, IsConfigRefusal, IsStreamRefusal, IsFront, IsNear, room_of, Picks}
-use Rattle.ac_automaton.specs.Stream.StreamAnswer.{AnswersWriting, WroteToFailedWrite}
-use Rattle.ac_automaton.specs.Stream.StreamReplace.{AcceptsStream, IsBegun, ReplacesStream, replaced_in}
+use Rattle.ac_automaton.specs.Stream.StreamAnswer.{AnswersWriting, WritesStream, WroteToFailedWrite}
+use Rattle.ac_automaton.specs.Stream.StreamReplace.{AcceptsStream, CostsSearch, IsBegun, ReplacesStream, replaced_in}
 use Rattle.ac_automaton.proofs.stream.StreamAnswerLemmas.{cost-none}
 use Rattle.ac_input.specs.declared.steps.Steps.{Steps}
 use Rattle.ac_automaton.specs.declared.error.MatchErrorKind.{MatchErrorKind}
@@ -37,7 +37,7 @@ use Rattle.acsub.specs.Run.{AnswersRules, CostsRun, IsRefusal, RanPrepared, RanT
 use Rattle.acsub.specs.Plan.{Plan}
 use Rattle.acsub.specs.Args.Settings.{HasEmptyPattern, IsAccepted}
 use Rattle.acsub.specs.Rules.Sides.{rule_patterns, replacements_of}
-use Rattle.acsub.specs.Stream.{CostsSearch, IfStreamMemory, IsNoRefusal, IsReturnedAs, WritesPlan, WritesStream}
+use Rattle.acsub.specs.Stream.{IfStreamMemory, IsNoRefusal, IsReturnedAs, WritesPlan}
 use Rattle.acsub.proofs.run.CountLemmas.{streamed-cost}
 use Rattle.acsub.proofs.stream.CutLemmas.{cut-begins}
 use Rattle.acsub.specs.Run.Transformed.{IsOutputFront, IsStreamed, output_of, room_in, stream_room, text_in}
@@ -90,7 +90,7 @@ pub replaces-memory : {R W : Type 0} (remaining : R → Option (List ℕ)) (cont
     → ReplacesStream remaining contents b replacements r r' w w' result → IfStreamMemory result (NoneTouched r r' w w')
 replaces-memory remaining contents b replacements r r' w w' (Ok done) replaces = tt
 replaces-memory remaining contents b replacements r r' w w' (Err error) replaces =
-    λ e. elim (subst (λ other. IsBegun other ⊎ NoneTouched r r' w w') e replaces.4) [
+    λ e. elim (subst (λ other. IsBegun other ⊎ NoneTouched r r' w w') e replaces.1) [
       | inl begun ↦ absurd begun
       | inr same ↦ same
     ]
@@ -222,14 +222,14 @@ replace-plan remaining contents b plan r0 r1 w0 w1 result is mode replaces =
     writes-plan plan (room_of Picks b) (replaced_in b (replacements_of plan.rules))
     (IsFront b.dictionary (replaced_in b (replacements_of plan.rules))) (room-in plan b modes.Replace is mode refl)
     (λ x. replaced-output b plan x is mode) (λ x text. replaced-front b plan x text is mode) remaining contents r0 r1 w0
-    w1 result (replaces.0, replaces.1, replaces.2, replaces.3)
+    w1 result replaces.0
 
 -- ---- what it costs
 
 -- if nothing was read, nothing was counted
 pub cost-nothing : {R E : Type 0} (b : Built) (r : Watched R) (steps : Steps) (error : E)
     → CostsSearch b r r steps steps (Err error)
-cost-nothing b r steps error = let cost = cost-none b r steps stream.Memory in (cost.0, cost.1, cost.2, tt)
+cost-nothing b r steps error = let cost = cost-none b r steps stream.Memory in (cost.0.0, cost.0.1, cost.0.2, tt)
 
 -- ---- the run's result
 

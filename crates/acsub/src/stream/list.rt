@@ -1,5 +1,8 @@
 //! A list over a stream: of its matches, or of all that overlap.
 //!
+//! It has no loop of its own. It is a [`Sink`], into which the engine pumps the stream: the sink writes a line for each
+//! item that it is passed, and nothing of the text.
+//!
 //! A line for each match is written as soon as the match is decided. Under the standard kind no later byte can change it, so all
 //! matches of what was read are listed before the next read. Under a leftmost kind a match waits until no byte that follows can
 //! change it, or until the input ends. No later byte can change an occurrence that was met. A reader that waits keeps no decided
@@ -7,21 +10,20 @@
 //! one write a read.
 //!
 //! Both buffers are taken before the first read, and no memory after that. Nothing is tried again, and nothing is flushed.
-ghost use Rattle.std.specs.Prelude.{◌≡◌, [], false, IfErr};
+ghost use Rattle.std.specs.Prelude.{◌≡◌, false, IfErr};
 ghost use Rattle.ac_automaton.specs.Devices.Moved.{NoneTouched};
-ghost use Rattle.ac_automaton.specs.Stream.{CanBeCounted, CanStream, IsOnCourse, Occurrences, Picks, fresh_progress, read_by};
-ghost use Rattle.ac_automaton.specs.Stream.StreamIter.{reader_name, reader_of, search_of};
-ghost use Rattle.ac_automaton.specs.Stream.StreamReplace.{IsBegun};
+ghost use Rattle.ac_automaton.specs.Stream.{CanStream, Occurrences, Picks};
+ghost use Rattle.ac_automaton.specs.Stream.StreamReplace.{CostsSearch};
 ghost use Rattle.ac_automaton.specs.declared.stream.StreamKinds.TheVariants.{AnyKind, OnlyStandard};
 ghost use Rattle.aho_corasick.specs.AhoCorasick.{as_built, supported_by};
-ghost use Rattle.acsub.specs.Stream.{CostsSearch, IfStreamMemory, IsNoRefusal};
-ghost use Rattle.acsub.specs.Stream.StreamList.{CostsOn, GoesOnUnread, ListsOn, ListsStream, WritesHeld};
+ghost use Rattle.acsub.specs.Stream.{IfStreamMemory, IsNoRefusal};
+ghost use Rattle.acsub.specs.Stream.StreamList.{ListsStream};
 
 use crate::line::Line;
 use ac_automaton::error::StreamError;
 use ac_automaton::output::Output;
-use ac_automaton::stream::overlapping::stream_find_overlapping_iter;
-use ac_automaton::stream::{ItemSearch, StreamIter, StreamKinds, stream_find_iter};
+use ac_automaton::stream::StreamKinds;
+use ac_automaton::stream::sink::Sink;
 use ac_automaton::watched::Watched;
 use ac_input::search::Match;
 use ac_input::steps::Steps;
@@ -29,50 +31,39 @@ use aho_corasick::AhoCorasick;
 use std::alloc::Global;
 use std::io::{Read, Write};
 
-/// Writes a line for an item, and one for each further item of what was read. It holds nothing back.
-fn write_lines<S: ItemSearch, R: Read, W: Write>(
-    found: &Match,
-    iter: &mut StreamIter<'_, S, R>,
-    output: &mut Output,
-    writer: &mut Watched<W>,
-    steps: &mut Steps,
-) -> Result<(), StreamError>
-    requires countable { CanBeCounted (read_by (S.progress (search_of iter.old))) }
-    requires course { IsOnCourse (S.progress (search_of iter.old)) }
-    requires empty { output.old ≡ [] }
-    ensures writes { WritesHeld S.progress W.contents found.now iter.old iter.new
-        writer.old writer.new result }
-    ensures unread { GoesOnUnread S.progress iter.old iter.new steps.old steps.new }
-    ensures none { output.new ≡ [] }
-{
-    output.send(writer, Line::new(found).as_bytes())?;
-    while let Some(next) = iter.next_held_counted(steps) {
-        output.send(writer, Line::new(&next).as_bytes())?;
-    }
-    output.send_held(writer)
+/// Writes a line for each item.
+#[derive(Drop)]
+struct Lines {
+    output: Output,
 }
 
-/// Reads on to the end of the input. Before each read all that can be listed is written.
-fn list_read<S: ItemSearch, R: Read, W: Write>(
-    iter: &mut StreamIter<'_, S, R>,
-    output: &mut Output,
-    writer: &mut Watched<W>,
-    steps: &mut Steps,
-) -> Result<(), StreamError>
-    requires fresh { S.progress (search_of iter.old) ≡ fresh_progress (S.progress (search_of iter.old)).built }
-    requires course { IsOnCourse (S.progress (search_of iter.old)) }
-    requires empty { output.old ≡ [] }
-    requires unended { (reader_of iter.old).ended ≡ false }
-    ensures lists { ListsOn S.progress R.remaining W.contents iter.old iter.new writer.old writer.new result }
-    ensures costs { CostsOn S.progress iter.old iter.new steps.old steps.new result }
-    ensures begun { IfErr result IsBegun }
-    ensures same_reference { reader_name iter.new ≡ reader_name iter.old }
-{
-    while let Some(next) = iter.next_counted(steps) {
-        let found = next?;
-        write_lines(&found, iter, output, writer, steps)?;
+impl<W: Write> Sink<W> for Lines {
+    ghost use Rattle.std.specs.Prelude.{ℕ};
+    ghost use Rattle.ac_automaton.specs.Stream.SinkLaws.{sending-begins, sending-joins, sending-precedes};
+    ghost use Rattle.ac_automaton.specs.Stream.StreamTexts.{sending};
+    ghost use Rattle.acsub.specs.Stream.StreamList.{lines-piecewise, listing_lines};
+
+    ghost handling = { sending W.contents (λ k. k.output) (λ k. listing_lines) (λ patterns k. Unit {0}) };
+
+    fn pass(
+        &mut self,
+        writer: &mut Watched<W>,
+        _before: &[u8],
+        item: &Match,
+        _matched: &[u8],
+    ) -> Result<(), StreamError> {
+        self.output.send(writer, Line::new(item).as_bytes())
     }
-    Ok(())
+
+    fn take(&mut self, writer: &mut Watched<W>, _bytes: &[u8]) -> Result<(), StreamError> {
+        self.output.send_held(writer)
+    }
+
+    ghost begins = { sending-begins (λ k. lines-piecewise) };
+
+    ghost joins = { sending-joins (λ k. lines-piecewise) };
+
+    ghost precedes = { sending-precedes (λ k. lines-piecewise) };
 }
 
 /// Takes both buffers, and writes a line for each match of what is read.
@@ -95,11 +86,16 @@ pub(crate) fn list_stream<R: Read, W: Write>(
         (NoneTouched reader.old reader.new writer.old writer.new) }
     ensures accepted { IfErr result IsNoRefusal }
 {
-    let mut output = Output::new(alloc)?;
-    let mut matches = stream_find_iter(reader, engine, StreamKinds::AnyKind, alloc)?;
-    let outcome = list_read(&mut matches, &mut output, writer, steps);
-    let _reader = matches.into_reader();
-    outcome
+    let output = Output::new(alloc)?;
+    let mut lines = Lines { output };
+    engine.try_stream_pump_matches(
+        StreamKinds::AnyKind,
+        alloc,
+        reader,
+        writer,
+        &mut lines,
+        steps,
+    )
 }
 
 /// Takes both buffers, and writes a line for each occurrence in what is read.
@@ -122,9 +118,7 @@ pub(crate) fn list_every<R: Read, W: Write>(
         (NoneTouched reader.old reader.new writer.old writer.new) }
     ensures accepted { IfErr result IsNoRefusal }
 {
-    let mut output = Output::new(alloc)?;
-    let mut occurrences = stream_find_overlapping_iter(reader, engine, alloc)?;
-    let outcome = list_read(&mut occurrences, &mut output, writer, steps);
-    let _reader = occurrences.into_reader();
-    outcome
+    let output = Output::new(alloc)?;
+    let mut lines = Lines { output };
+    engine.try_stream_pump_occurrences(alloc, reader, writer, &mut lines, steps)
 }

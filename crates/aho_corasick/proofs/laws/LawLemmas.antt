@@ -1,6 +1,5 @@
 -- A packed search has the same matches as an automaton.
-use Rattle.std.proofs.Common.{ℕ, List, None, [], ap, sym, ◌∙◌}
-use Rattle.ac_input.specs.declared.search.MatchKind.{MatchKind}
+use Rattle.std.proofs.Common.{None, [], ap, sym, ◌∙◌}
 use Rattle.ac_input.specs.Computed.{walk_of}
 use Rattle.ac_input.proofs.lemmas.SameLemmas.{unpaired-none}
 use Rattle.ac_input.proofs.lemmas.UnpairedLemmas.{walk_after-unpaired}

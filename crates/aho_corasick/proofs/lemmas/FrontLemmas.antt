@@ -4,7 +4,7 @@ use Rattle.std.specs.Prelude.{IfOk, OnOk}
 use Rattle.std.specs.Global.{Vec}
 use Rattle.std.specs.declared.alloc.AllocError.{AllocError}
 use Rattle.ac_input.specs.declared.search.MatchKind.{MatchKind}
-use Rattle.ac_input.specs.Dictionary.{Dictionary, dictionary_of}
+use Rattle.ac_input.specs.Dictionary.{dictionary_of}
 use Rattle.ac_input.specs.Same.{IsUnpaired}
 use Rattle.ac_automaton.specs.Replace.{MemoryReplacer, IsReplacedWith, matches_in}
 use Rattle.ac_noncontiguous.specs.declared.error.BuildErrorKind.{BuildErrorKind}

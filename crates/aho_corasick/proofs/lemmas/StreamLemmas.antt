@@ -18,10 +18,12 @@ use Rattle.ac_input.specs.Occurrence.{Occurrence}
 use Rattle.ac_automaton.specs.Automaton.{Built}
 use Rattle.ac_automaton.specs.Devices.Moved.{AreFilled}
 use Rattle.ac_automaton.specs.Replace.{LieInOrder, matches_in, Replacer}
-use Rattle.ac_automaton.specs.Stream.{Sequence, StreamProgress, fresh_progress, items_of, read_by}
+use Rattle.ac_automaton.specs.Stream.{Picks, Sequence, StreamProgress, fresh_progress, items_of, read_by}
 use Rattle.ac_automaton.specs.Stream.StreamIter.{HasGained, NextGives}
+use Rattle.ac_automaton.specs.Stream.StreamPump.{IsSinkChain, Pumps}
 use Rattle.ac_automaton.specs.Stream.StreamReplace.{CostsStream, IsStreamCost, ReplacesStream, replaced_in}
-use Rattle.ac_automaton.specs.Stream.StreamReplaceWith.{IsWriterChain, ReadsAndReplaces, ReplacesStreamWith}
+use Rattle.ac_automaton.specs.Stream.StreamReplaceWith.{ReplacesStreamWith, calling}
+use Rattle.ac_automaton.specs.declared.stream.replace_with.Calling.{Calling}
 use Rattle.ac_automaton.specs.declared.error.StreamError.{StreamError}
 use Rattle.ac_automaton.specs.declared.stream.StreamKinds.{StreamKinds}
 use Rattle.ac_automaton.specs.declared.watched.Watched.{Watched}
@@ -162,39 +164,38 @@ WritesMatched {F} {W} items g =
 
 -- if a closure writes what matched, the chain of its calls writes the text unchanged
 chain-writes : {F W : Type 0} (items : W → List ℕ) (g : Replacer F (Watched W) (Result (Unit {0}) StreamError))
-    (x : List ℕ) (patterns at : ℕ) (os : List Occurrence) (to : ℕ) (f : F) (old : Watched W) (last : F)
-    (new : Watched W) → WritesMatched items g
-    → LieInOrder patterns to at os → IsWriterChain (λ w. Some (items w)) g x at os to f old last new
-    → items new.inner ≡ items old.inner ++ slice_range x at to
-chain-writes items g x patterns at [] to f old last new writes lies chain = chain.1.device
-chain-writes items g x patterns at (o ∷ os) to f old last new writes lies chain =
-    let replies = chain.4 in
-    let said = writes f chain.2 replies.found replies.text replies.dst replies.left replies.called in
-    let matched : items chain.1.inner ≡ items chain.0.inner ++ slice_range x o.start o.end =
+    (x : List ℕ) (patterns at : ℕ) (os : List Occurrence) (to : ℕ) (z last : Calling F × Watched W)
+    → WritesMatched items g
+    → LieInOrder patterns to at os → IsSinkChain (calling (λ w. Some (items w)) g) Picks x at os to z last
+    → items last.1.inner ≡ items z.1.inner ++ slice_range x at to
+chain-writes items g x patterns at [] to z last writes lies chain = chain.1.device
+chain-writes items g x patterns at (o ∷ os) to z last writes lies (mid, (before, taken, replies), chain) =
+    let said = writes z.0.f mid.0.f replies.found replies.text replies.dst replies.left replies.called in
+    let matched : items mid.1.inner ≡ items before.inner ++ slice_range x o.start o.end =
     ap (λ w. items w.inner) (sym replies.leaves) ∙ said
     ∙ ap (λ w. items w.inner ++ replies.text.now) replies.shows.2
-    ∙ ap (λ t. items chain.0.inner ++ t) replies.shows.1 in
-    let rest = chain-writes items g x patterns o.end os to chain.2 chain.1 last new writes lies.4 chain.5 in
+    ∙ ap (λ t. items before.inner ++ t) replies.shows.1 in
+    let rest = chain-writes items g x patterns o.end os to mid last writes lies.4 chain in
     rest
-    ∙ ap (λ t. t ++ slice_range x o.end to) (matched ∙ ap (λ t. t ++ slice_range x o.start o.end) chain.3.device)
-    ∙ joined-slices x (items old.inner) at o.start o.end to lies.1 lies.2 lies.3
+    ∙ ap (λ t. t ++ slice_range x o.end to) (matched ∙ ap (λ t. t ++ slice_range x o.start o.end) taken.device)
+    ∙ joined-slices x (items z.1.inner) at o.start o.end to lies.1 lies.2 lies.3
 
 -- if a closure writes what matched, a replacement that reads a stream to its end writes the text unchanged
 whole-writes : {F W R : Type 0} (remaining : R → Option (List ℕ)) (items : W → List ℕ)
-    (g : Replacer F (Watched W) (Result (Unit {0}) StreamError)) (b : Built) (f : F) (text : List ℕ)
-    (reader_before reader_after : Watched R) (old new : Watched W) → remaining reader_before.inner ≡ Some text
+    (g : Replacer F (Watched W) (Result (Unit {0}) StreamError)) (b : Built) (text : List ℕ)
+    (reader_before reader_after : Watched R) (z last : Calling F × Watched W) → remaining reader_before.inner ≡ Some text
     → WritesMatched items g
-    → ReadsAndReplaces (λ w. Some (items w)) g remaining b f reader_before reader_after old new (Ok tt)
-    → items new.inner ≡ items old.inner ++ text
-whole-writes remaining items g b f text reader_before reader_after old new is writes
+    → Pumps (calling (λ w. Some (items w)) g) Picks remaining b reader_before reader_after z last (Ok tt)
+    → items last.1.inner ≡ items z.1.inner ++ text
+whole-writes remaining items g b text reader_before reader_after z last is writes
     (pieces, failed, given, fit, (none, whole)) =
     let x = concat pieces in
     let read = consumed-whole _ _ text x is given.device (given.at_end none whole.whole) in
-    let written = chain-writes items g x (length b.dictionary.patterns) 0 (matches_in b x) (length x) f old whole.last
-    new writes (matches-lie b x) whole.chain in
+    let written = chain-writes items g x (length b.dictionary.patterns) 0 (matches_in b x) (length x) z last writes
+    (matches-lie b x) whole.chain in
     let all : slice_range x 0 (length x) ≡ x = let front : slice_range x 0 (length x) ≡ take (length x) x =
     grind (arith, common_steps) in front ∙ take-length x in
-    written ∙ ap (λ t. items old.inner ++ t) (all ∙ sym read)
+    written ∙ ap (λ t. items z.1.inner ++ t) (all ∙ sym read)
 
 pub stream-writes : {F W R : Type 0} (remaining : R → Option (List ℕ)) (items : W → List ℕ)
     (g : Replacer F (Watched W) (Result (Unit {0}) StreamError)) (kinds : StreamKinds) (b : Built)
@@ -204,7 +205,9 @@ pub stream-writes : {F W R : Type 0} (remaining : R → Option (List ℕ)) (item
     → ReplacesStreamWith (λ w. Some (items w)) g remaining kinds b supports f reader_before reader_after old new result
     → OnOk result (items new.inner ≡ items old.inner ++ text)
 stream-writes remaining items g kinds b supports f text reader_before reader_after old new (Ok done) is writes
-    replaces = whole-writes remaining items g b f text reader_before reader_after old new is writes replaces.1
+    (last, before, after, (can, pumps)) =
+    whole-writes remaining items g b text reader_before reader_after (record { f = f }, old) (record { f = last }, new)
+    is writes pumps.0
 stream-writes remaining items g kinds b supports f text reader_before reader_after old new (Err error) is writes
     replaces = tt
 
@@ -217,7 +220,7 @@ pub stream-replaces : {W R : Type 0} (remaining : R → Option (List ℕ)) (item
     → ReplacesStream remaining (λ w. Some (items w)) b replacements reader_before reader_after old new result
     → OnOk result (items new.inner ≡ items old.inner ++ replaced_in b replacements text)
 stream-replaces remaining items b replacements text reader_before reader_after old new (Ok done) is
-    (m, moved, fit, whole, begun) =
+    ((m, moved, fit, whole), begun) =
     let read = consumed-whole _ _ text (concat m.pieces) is moved.reader.device
     (moved.reader.at_end whole.failed.0 whole.whole) in
     moved.writer.device ∙ ap (λ t. items old.inner ++ t) (whole.written ∙ ap (replaced_in b replacements) (sym read))
@@ -231,7 +234,7 @@ pub stream-costs : {W R : Type 0} (remaining : R → Option (List ℕ)) (content
     → CostsStream b reader_before reader_after before after result
     → OnOk result (IsStreamCost b (length text) (length (matches_in b text)) before after)
 stream-costs remaining contents b replacements text reader_before reader_after old new before after (Ok done) is
-    (m, moved, fit, whole, begun) (pieces, read, cost, all, unread) =
+    ((m, moved, fit, whole), begun) ((pieces, read, cost, all), unread) =
     let same : pieces ≡ m.pieces =
     append_cancel_left reader_before.pieces.items pieces m.pieces (sym read ∙ moved.reader.pieces) in
     let text_read : text ≡ concat pieces = consumed-whole _ _ text (concat m.pieces) is moved.reader.device
@@ -249,7 +252,7 @@ pub stream-replaced : {R W : Type 0} (remaining : R → Option (List ℕ)) (cont
     result → OnOk result
     (IsStreamReplaced remaining contents ac replacements reader_before reader_after writer_before writer_after)
 stream-replaced remaining contents ac replacements reader_before reader_after writer_before writer_after (Ok done)
-    (m, moved, fit, whole, begun) =
+    ((m, moved, fit, whole), begun) =
     record {
       pieces = m.pieces;
       read = moved.reader.pieces;

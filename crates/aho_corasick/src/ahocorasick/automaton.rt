@@ -17,19 +17,11 @@ use ac_input::search::{Anchored, Input, Match, MatchKind, StartKind};
 use ac_input::steps::Steps;
 use ac_literal::prefilter::Prefilter;
 
-/// Calls a function of the automaton that serves.
-macro_rules! dispatch {
-    ($ac:ident.$call:ident($($value:expr),*)) => {
-        match $ac.serving() {
-            Engine::Noncontiguous(nfa) => nfa.$call($($value),*),
-            Engine::Contiguous(nfa) => nfa.$call($($value),*),
-            Engine::Dfa(dfa) => dfa.$call($($value),*),
-        }
-    };
-}
-
 /// Refuses a search for which an automaton of the start kind has no start.
-fn enforce_anchored_consistency(have: StartKind, want: Anchored) -> Result<(), MatchError>
+pub(super) fn enforce_anchored_consistency(
+    have: StartKind,
+    want: Anchored,
+) -> Result<(), MatchError>
     ensures served { OnOk result (Serves have want) }
     ensures refused { IfErr result (λ error. ¬ (Serves have) want × (error ≡ refusal_of want)) }
 {
@@ -93,6 +85,17 @@ impl Automaton for AhoCorasick {
         steps: &mut Steps,
     ) -> Advance {
         dispatch!(self.advance_to_match(anchored, sid, bytes, steps))
+    }
+
+    #[inline]
+    fn advance_alone(
+        &self,
+        anchored: Anchored,
+        sid: StateID,
+        bytes: &[u8],
+        steps: &mut Steps,
+    ) -> Advance {
+        dispatch!(self.advance_alone(anchored, sid, bytes, steps))
     }
 
     fn note_ahead(

@@ -18,6 +18,7 @@ ghost use Rattle.ac_automaton.specs.declared.error.StreamError.TheVariants.{Memo
 ghost use Rattle.ac_automaton.specs.Replace.{IsForMatches};
 ghost use Rattle.ac_automaton.specs.Stream.{AnswersNew, CanStream};
 ghost use Rattle.ac_automaton.specs.Stream.StreamIter.{AnswersStreamListing, FindsStream, IsStreamOver};
+ghost use Rattle.ac_automaton.specs.Stream.StreamPump.{PumpsMatches, PumpsOccurrences};
 ghost use Rattle.ac_automaton.specs.Stream.StreamReplace.{AcceptsStream, CostsStream, ReplacesStream};
 ghost use Rattle.ac_automaton.specs.Stream.StreamReplaceWith.{ReplacesStreamWith};
 ghost use Rattle.ac_automaton.specs.Stream.StreamReplacer.{AnswersReplacer};
@@ -25,12 +26,15 @@ ghost use Rattle.ac_automaton.specs.declared.stream.StreamKinds.TheVariants.{Any
 ghost use Rattle.aho_corasick.specs.AhoCorasick.{as_built, supported_by, pattern_count};
 ghost use Rattle.aho_corasick.specs.Streamed.{IsStreamReplaced};
 
+use super::automaton::enforce_anchored_consistency;
 use super::{AhoCorasick, StreamFindIter, StreamFindOverlappingIter};
+use crate::engine::Engine;
 use ac_automaton::automaton::Automaton;
 use ac_automaton::error::StreamError;
-use ac_automaton::stream::{StreamReplacer, StreamSearch};
+use ac_automaton::stream::sink::Sink;
+use ac_automaton::stream::{StreamKinds, StreamReplacer, StreamSearch};
 use ac_automaton::watched::Watched;
-use ac_input::search::Match;
+use ac_input::search::{Anchored, Match};
 use ac_input::steps::Steps;
 use std::alloc::{AllocError, Global};
 use std::io::{Read, Write};
@@ -144,7 +148,8 @@ impl AhoCorasick {
             (bytes_of replacements.now) reader.old reader.new writer.old writer.new result }
         ensures accepted { AcceptsStream OnlyStandard (as_built self.now) (supported_by self.now) result }
     {
-        Automaton::try_stream_replace_all(self, alloc, reader, writer, replacements)
+        let mut steps = Steps::new();
+        self.try_stream_replace_all_counted(alloc, reader, writer, replacements, &mut steps)
     }
 
     /// The same, and counts what it does. The clause `replaced` of that call follows from `moved`.
@@ -164,7 +169,8 @@ impl AhoCorasick {
         ensures cost { CostsStream (as_built self.now) reader.old reader.new
             steps.old steps.new result }
     {
-        Automaton::try_stream_replace_all_counted(self, alloc, reader, writer, replacements, steps)
+        enforce_anchored_consistency(self.start_kind, Anchored::No)?;
+        dispatch!(self.try_stream_replace_all_counted(alloc, reader, writer, replacements, steps))
     }
 
     /// Writes the input, and in place of each match what the closure writes. The closure takes the match, its bytes and the
@@ -299,7 +305,14 @@ impl AhoCorasick {
             (bytes_of replacements.now) reader.old reader.new writer.old writer.new result }
         ensures accepted { AcceptsStream AnyKind (as_built self.now) (supported_by self.now) result }
     {
-        Automaton::try_stream_replace_all_any_kind(self, alloc, reader, writer, replacements)
+        let mut steps = Steps::new();
+        self.try_stream_replace_all_any_kind_counted(
+            alloc,
+            reader,
+            writer,
+            replacements,
+            &mut steps,
+        )
     }
 
     /// The same, and counts what it does. Under a leftmost kind it looks at more than
@@ -321,14 +334,14 @@ impl AhoCorasick {
         ensures cost { CostsStream (as_built self.now) reader.old reader.new
             steps.old steps.new result }
     {
-        Automaton::try_stream_replace_all_any_kind_counted(
-            self,
+        enforce_anchored_consistency(self.start_kind, Anchored::No)?;
+        dispatch!(self.try_stream_replace_all_any_kind_counted(
             alloc,
             reader,
             writer,
             replacements,
-            steps,
-        )
+            steps
+        ))
     }
 
     /// Writes the input under any kind, and in place of each match what the closure writes. It requires of the closure what
@@ -351,5 +364,55 @@ impl AhoCorasick {
             (supported_by self.now) replace_with reader.old reader.new writer.old writer.new result }
     {
         Automaton::try_stream_replace_all_any_kind_with(self, alloc, reader, writer, replace_with)
+    }
+
+    /// Reads a stream to its end, and passes its matches to a sink with the text between them: see [`Sink`]. It accepts these kinds.
+    /// Before each read all that no later byte can change is passed, and the sink holds nothing back then. Counts what it does.
+    ///
+    /// It requires that the reader has not ended, and that the sink is ready for every pattern and holds nothing back. It takes the
+    /// buffer of [`AhoCorasick::try_stream_find_iter`].
+    ///
+    /// Returns an error where a search of these kinds does, and nothing has happened then; and if a read fails, the sink stops, or
+    /// there are more bytes than places. The Rust crate has no such call.
+    pub fn try_stream_pump_matches<R: Read, W, K: Sink<W>>(
+        &self,
+        kinds: StreamKinds,
+        alloc: Global,
+        reader: &mut Watched<R>,
+        writer: &mut Watched<W>,
+        sink: &mut K,
+        steps: &mut Steps,
+    ) -> Result<(), StreamError>
+        requires open { reader.old.ended ≡ false }
+        requires ready { K.handling.ready (pattern_count self.now) (sink.old, writer.old) }
+        requires settled { K.handling.settled (sink.old, writer.old) }
+        ensures { PumpsMatches K.handling R.remaining kinds (as_built self.now) (supported_by self.now)
+            reader.old reader.new (sink.old, writer.old) (sink.new, writer.new) steps.old steps.new result }
+    {
+        enforce_anchored_consistency(self.start_kind, Anchored::No)?;
+        dispatch!(self.try_stream_pump_matches(kinds, alloc, reader, writer, sink, steps))
+    }
+
+    /// The same for every occurrence, by end, start and number. They may overlap, so the sink is passed no text between them. It needs
+    /// the standard kind, and takes the buffer of [`AhoCorasick::try_stream_find_overlapping_iter`].
+    ///
+    /// Returns an error where that call does, and nothing has happened then; and if a read fails, the sink stops, or there are more
+    /// bytes than places. The Rust crate has no such call.
+    pub fn try_stream_pump_occurrences<R: Read, W, K: Sink<W>>(
+        &self,
+        alloc: Global,
+        reader: &mut Watched<R>,
+        writer: &mut Watched<W>,
+        sink: &mut K,
+        steps: &mut Steps,
+    ) -> Result<(), StreamError>
+        requires open { reader.old.ended ≡ false }
+        requires ready { K.handling.ready (pattern_count self.now) (sink.old, writer.old) }
+        requires settled { K.handling.settled (sink.old, writer.old) }
+        ensures { PumpsOccurrences K.handling R.remaining (as_built self.now) (supported_by self.now)
+            reader.old reader.new (sink.old, writer.old) (sink.new, writer.new) steps.old steps.new result }
+    {
+        enforce_anchored_consistency(self.start_kind, Anchored::No)?;
+        dispatch!(self.try_stream_pump_occurrences(alloc, reader, writer, sink, steps))
     }
 }

@@ -6,7 +6,7 @@ use Rattle.ac_automaton.specs.Automaton.{Built}
 use Rattle.ac_automaton.specs.Replace.{matches_in}
 use Rattle.ac_automaton.specs.Stream.{CanBeCounted, FindsHeld, StreamProgress, closed_by, may_wait, read_by, Picks}
 use Rattle.ac_automaton.specs.Stream.StreamPush.{TakesBytes}
-use Rattle.ac_automaton.proofs.stream.StreamReplaceLemmas.{each-closed}
+use Rattle.ac_automaton.proofs.stream.PlacedLemmas.{each-closed}
 use Rattle.example_callers.specs.Pushed.{HasGathered, IsGathered, IsSame, WentOn}
 
 -- a part of the piece was pushed and its matches collected, and `rest` is still to be pushed

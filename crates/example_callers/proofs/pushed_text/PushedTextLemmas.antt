@@ -7,7 +7,7 @@ use Rattle.ac_automaton.specs.Automaton.{Built}
 use Rattle.ac_automaton.specs.Stream.{CanBeCounted, ReadsNothing, StreamProgress, closed_by, cut_of, read_by, Picks}
 use Rattle.ac_automaton.specs.Stream.StreamReplace.{replaced_in}
 use Rattle.ac_automaton.specs.Stream.StreamReplacer.{HandsOut, PushesText, ReplacerProgress, fresh_replacer, handed_out, decided_to, replaced_by}
-use Rattle.ac_automaton.proofs.stream.StreamSendLemmas.{ReadsNothing-then}
+use Rattle.ac_automaton.proofs.stream.PlacedLemmas.{ReadsNothing-then}
 use Rattle.example_callers.specs.PushedText.{AppendsDecided, AppendsNext, IsTextSoFar, IsTextOfPieces, PushingText, TextWentOn}
 
 -- ---- the decided text

@@ -4,7 +4,7 @@ use Rattle.std.proofs.lemmas.Bool.{false≢true}
 use Rattle.ac_input.specs.declared.search.Anchored.TheVariants.{No}
 use Rattle.ac_automaton.specs.Ahead.{IsAhead}
 use Rattle.ac_automaton.specs.Automaton.{is_matching}
-use Rattle.ac_automaton.proofs.ahead.AheadLemmas.{ahead-end, matched-is}
+use Rattle.ac_automaton.proofs.ahead.AheadLemmas.{ahead-end, ahead-noticed, matched-is, paid-noticed}
 use Rattle.ac_automaton.proofs.ahead.PartLemmas.{parts-join}
 use Rattle.ac_automaton.proofs.lemmas.CursorLemmas.{advanced-none, reached-on, reached-state}
 use Rattle.ac_automaton.proofs.automaton.PassLemmas.{matching-some}
@@ -52,7 +52,7 @@ pub returns-then-is_match-clause-cost : goal.returns-then-is_match-clause-cost
 returns-then-is_match-clause-cost g c =
     let joins = parts-join c.args.bytes.now c.args.from c.requires.reached c.loop-read.invariant.within
     c.loop-read.invariant.has c.read_part-stop.ensures.reads in
-    (joins.0, joins.1, joins.2.cost)
+    (joins.0, paid-noticed _ joins.1, joins.2.cost)
 
 pub returns-then-is_match-clause-once : goal.returns-then-is_match-clause-once
 returns-then-is_match-clause-once g c =
@@ -77,14 +77,13 @@ loop-read-preserved g c =
       within = omega (arith, size, left);
       has = (
         joins.0,
-        joins.1,
+        paid-noticed _ joins.1,
         part-goes b R No stops c.args.sid (drop c.args.from c.args.bytes.now) _ _ _ joins.2
             (λ e. false≢true (sym quiet ∙ e)),
       );
-      ahead = subst
-          (λ n. IsAhead b (R No) M c.args.anew.now c.args.bytes.now n c.read_part-stop.result.sid
-          c.read_part-stop.new.ahead)
-          there (rw quiet at c.read_part-stop.ensures.ahead);
+      ahead = ahead-noticed _
+          (subst (λ n. IsAhead b (R No) M c.args.anew.now c.args.bytes.now n c.read_part-stop.result.sid
+          c.read_part-stop.new.ahead) there (rw quiet at c.read_part-stop.ensures.ahead));
       once = λ base once. c.read_part-stop.ensures.once base (c.loop-read.invariant.once base once);
     }
 

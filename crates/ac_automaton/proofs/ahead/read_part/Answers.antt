@@ -1,5 +1,5 @@
 -- A note that is taken leads where its bytes lead. Otherwise the automaton's own loop reads a part of the bytes.
-use Rattle.std.proofs.Common.{ap, ◌≡◌, ◌≢◌, ◌+◌, ◌-◌, ◌<◌, ◌≤◌, drop, Option, Some, refl, subst, sym, ◌∙◌, arith, length-drop}
+use Rattle.std.proofs.Common.{ap, ◌≡◌, ◌≢◌, ◌+◌, ◌-◌, ◌<◌, ◌≤◌, drop, Some, refl, subst, sym, ◌∙◌, arith, length-drop}
 use Rattle.std.specs.Prelude.{IfSome, slice_get}
 use Rattle.std.proofs.lemmas.Bool.{eq-eqb, eqb-true, false≢true}
 use Rattle.std.proofs.lemmas.List.{length-take-le}
@@ -8,7 +8,6 @@ use Rattle.ac_input.specs.declared.steps.Steps.{Steps}
 use Rattle.ac_automaton.specs.Ahead.{IsAhead, Settles, StaysReadOnce, left_notes, onward}
 use Rattle.ac_automaton.specs.Automaton.{is_matching}
 use Rattle.ac_automaton.specs.Skip.{ReadsPart}
-use Rattle.ac_automaton.specs.declared.ahead.Ahead.{Ahead}
 use Rattle.ac_automaton.specs.declared.ahead.Note.{Note}
 use Rattle.ac_automaton.proofs.ahead.PartLemmas.{alone-ahead, cost-rises, joined, left-more, note-part, part-then, settles-then, taken-ahead, taken-once, taken-settles}
 use Rattle.ac_automaton.proofs.skip.ReadOnLemmas.{part-of-front}
@@ -69,26 +68,27 @@ returns-then-eq-clause-once g c =
     c.next_note-upcoming.ensures.ahead (first g c) base (c.next_note-upcoming.ensures.once base once))
 
 -- the automaton's own loop has read a part of the bytes
-alone : (g : Over) (c : goal.After-advance_to_match g)
+alone : (g : Over) (c : goal.After-advance_by g)
     → ReadsPart (g.A.Automaton.built c.args.automaton.now) (g.A.Automaton.Reaches c.args.automaton.now) No
     (is_matching (g.A.Automaton.matches c.args.automaton.now)) c.args.sid (drop c.args.at c.args.bytes.now)
-    c.advance_to_match.result c.next_note-upcoming.new.steps c.advance_to_match.new.steps
+    c.advance_by.result c.next_note-upcoming.new.steps c.advance_by.new.steps
 alone g c =
     let a = c.args.automaton.now in
     let end = c.end_before-end.result in
     let after = c.end_before-end.ensures.after in
     let within = c.end_before-end.ensures.within in
+    let part_within = c.part_end.ensures.within in
     let left = length-drop c.args.at c.args.bytes.now in
     part-of-front (g.A.Automaton.built a) (g.A.Automaton.Reaches a) No (is_matching (g.A.Automaton.matches a))
-    c.args.sid (drop c.args.at c.args.bytes.now) _ (end - c.args.at) c.advance_to_match.result _ _
-    (omega (arith, after)) (omega (arith, within, left)) refl c.advance_to_match.ensures.goes
-    c.advance_to_match.ensures.cost
+    c.args.sid (drop c.args.at c.args.bytes.now) _ (end - c.args.at) c.advance_by.result _ _
+    (omega (arith, after)) (omega (arith, within, part_within, left)) refl c.advance_by.ensures.goes
+    c.advance_by.ensures.cost
 
 pub returns-clause-reads : goal.returns-clause-reads
 returns-clause-reads g c =
     let a = c.args.automaton.now in
     let s = c.next_note-upcoming.new.steps in
-    let q = c.advance_to_match.new.steps in
+    let q = c.advance_by.new.steps in
     let known = c.next_note-upcoming.ensures in
     let part = alone g c in
     let rose = cost-rises (g.A.Automaton.built a) (g.A.Automaton.Reaches a) c.requires.reached part.reads part.cost in (
@@ -98,7 +98,7 @@ returns-clause-reads g c =
     )
 
 -- the next note is not at this place in this state
-apart : (g : Over) (c : goal.After-advance_to_match g) (note : Note) → c.next_note-upcoming.result ≡ Some note
+apart : (g : Over) (c : goal.After-advance_by g) (note : Note) → c.next_note-upcoming.result ≡ Some note
     → note.from ≡ c.args.at → note.sid ≢ c.args.sid
 apart g c note is from same = elim c.match-upcoming.branch [
   | in-Some+else-note-at w ↦ let both : Some w.in-Some.note ≡ Some note = sym w.in-Some.is ∙ is in
@@ -118,12 +118,13 @@ returns-clause-ahead g c =
     let end = c.end_before-end.result in
     let after = c.end_before-end.ensures.after in
     let within = c.end_before-end.ensures.within in
+    let part_within = c.part_end.ensures.within in
     let left = length-drop c.args.at c.args.bytes.now in
     let some = part.within in
-    let long = length-take-le (end - c.args.at) (drop c.args.at c.args.bytes.now) (omega (arith, within, left)) in
-    let short : c.advance_to_match.result.taken ≤ end - c.args.at =
-    omega (arith, c.advance_to_match.ensures.goes.taken.0, long) in
-    alone-ahead c.advance_to_match.result.sid
+    let long = length-take-le (end - c.args.at) (drop c.args.at c.args.bytes.now) (omega (arith, within, part_within, left)) in
+    let short : c.advance_by.result.taken ≤ end - c.args.at =
+    omega (arith, c.advance_by.ensures.goes.taken.0, long) in
+    alone-ahead c.advance_by.result.sid
     c.requires.reached part.some (omega (arith, some, left, c.requires.left)) part.reads
     (λ note is.
     let there : c.next_note-upcoming.result ≡ Some note = c.next_note-upcoming.ensures.noted ∙ sym is in

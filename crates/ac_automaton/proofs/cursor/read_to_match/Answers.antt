@@ -1,6 +1,5 @@
 -- How one call of `advance_to_match` moves the cursor.
 use Rattle.std.proofs.Common.{◌+◌, ◌<◌, ◌≤◌, List, ℕ, length, slice_range, subst, sym, arith}
-use Rattle.ac_input.specs.declared.search.Anchored.{Anchored}
 use Rattle.ac_input.specs.declared.search.Anchored.TheVariants.{No}
 use Rattle.ac_input.specs.Number.{StateID}
 use Rattle.ac_input.proofs.lemmas.OrderLemmas.{slice_range-length}

@@ -1,11 +1,9 @@
 -- What the prefilter returns for the rest of the span.
-use Rattle.std.proofs.Common.{◌≡◌, ◌∙◌, Bool, Some, subst, sym, ap, arith, rules}
+use Rattle.std.proofs.Common.{◌≡◌, ◌∙◌, Some, subst, sym, ap, arith, rules}
 use Rattle.ac_input.specs.Best.{asked_kind, IsBest}
 use Rattle.ac_input.specs.Candidate.{IsCandidate}
-use Rattle.ac_input.specs.declared.search.MatchKind.{MatchKind}
 use Rattle.ac_input.specs.declared.search.candidate.Candidate.TheVariants as candidates
-use Rattle.ac_input.specs.Dictionary.{Dictionary}
-use Rattle.ac_input.specs.Occurrence.{Search, starting_at}
+use Rattle.ac_input.specs.Occurrence.{starting_at}
 use Rattle.ac_automaton.specs.Automaton.{kind_asked, searched}
 use Rattle.ac_automaton.proofs.find.FindLemmas.{match-goes_on, match-asked_best}
 use Rattle.ac_automaton.proofs.lemmas.CandidateLemmas.{ahead-same}

@@ -1,6 +1,5 @@
 -- Where a search isn't anchored every entry counts, so the first one is taken.
 use Rattle.std.proofs.Common.{◌≡◌, ◌-◌, ◌∙◌, sym, ap}
-use Rattle.ac_input.specs.declared.search.Anchored.{Anchored}
 use Rattle.ac_input.specs.declared.search.Anchored.TheVariants.{No}
 use Rattle.ac_automaton.specs.Cursor.{taken}
 use Rattle.ac_automaton.proofs.find.TakenLemmas.{taken-free}

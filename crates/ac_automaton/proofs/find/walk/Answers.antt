@@ -1,5 +1,5 @@
 -- How the walk ends, and how it goes on.
-use Rattle.std.proofs.Common.{◌≡◌, ◌∙◌, ◌&&◌, Bool, ◌-◌, sym, ap}
+use Rattle.std.proofs.Common.{◌≡◌, ◌∙◌, ◌&&◌, ◌-◌, sym, ap}
 use Rattle.std.proofs.lemmas.Bool.{false≢true}
 use Rattle.std.specs.Option.{is_some}
 use Rattle.ac_automaton.specs.declared.cursor.End.TheVariants.{Idle}

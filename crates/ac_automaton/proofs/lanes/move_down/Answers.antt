@@ -1,6 +1,5 @@
 -- Moving notes down keeps those before and after them.
-use Rattle.std.proofs.Common.{◌-◌, ◌+◌, List, take, drop, ap, refl, ◌∙◌}
-use Rattle.ac_automaton.specs.declared.ahead.Note.{Note}
+use Rattle.std.proofs.Common.{◌-◌, ◌+◌, take, drop, ap, refl, ◌∙◌}
 use Rattle.ac_automaton.proofs.lanes.GatherLemmas.{moved-front, moved-later}
 use Rattle.ac_automaton.proofs.lanes.move_down.Goals as goal
 

@@ -1,9 +1,8 @@
 -- What four lanes note, a search takes.
-use Rattle.std.proofs.Common.{◌<◌, ◌*◌, ◌-◌, ◌+◌, List, [], length, arith, refl, subst, sym}
+use Rattle.std.proofs.Common.{◌<◌, ◌*◌, ◌-◌, ◌+◌, [], length, arith, refl, subst, sym}
 use Rattle.ac_input.specs.declared.search.Anchored.TheVariants.{No}
 use Rattle.ac_automaton.specs.Ahead.{CutBytes, IsLaneCut, ReadsAheadBy, is_up_to}
 use Rattle.ac_automaton.specs.Automaton.{IsReached}
-use Rattle.ac_automaton.specs.declared.ahead.Note.{Note}
 use Rattle.ac_automaton.proofs.lanes.LaneLemmas.{walked-begun}
 use Rattle.ac_automaton.proofs.lanes.NoteLemmas.{lanes-read, reads-nothing}
 use Rattle.ac_automaton.proofs.lanes.note_ahead.Goals as goal

@@ -1,6 +1,6 @@
 -- An automaton that looks at one state for a byte makes one look.
 use Rattle.ac_input.proofs.lemmas.SomeLemmas.{live-some}
-use Rattle.std.proofs.Common.{◌++◌, ◌∷◌, [], List, ℕ, false, arith}
+use Rattle.std.proofs.Common.{List, ℕ, arith}
 use Rattle.std.proofs.Math.Logic.{∥∥₁_elim}
 use Rattle.std.specs.Coded.{Coded-set, coded_ℕ}
 use Rattle.ac_input.specs.declared.search.Anchored.TheVariants.{No}

@@ -1,5 +1,5 @@
 -- Each lane reads the same number of bytes, and each byte takes one look.
-use Rattle.std.proofs.Common.{◌≡◌, ℕ, ◌*◌, arith, subst}
+use Rattle.std.proofs.Common.{◌≡◌, ◌*◌, arith, subst}
 use Rattle.ac_input.specs.declared.search.Anchored.TheVariants.{No}
 use Rattle.ac_input.specs.Steps.{Done}
 use Rattle.ac_automaton.proofs.lanes.CountLemmas.{done-none, done-turn, read-by}

@@ -1,10 +1,8 @@
 -- The state keeps where the search stands, and its sums are within one walk.
-use Rattle.std.proofs.Common.{ℕ, ◌+◌, drop, Option, is_some, if◌then◌else◌, inr, sym, ap, subst, ◌∙◌}
+use Rattle.std.proofs.Common.{ℕ, ◌+◌, drop, is_some, if◌then◌else◌, inr, sym, ap, subst, ◌∙◌}
 use Rattle.ac_input.specs.Computed.{listing_of}
 use Rattle.ac_input.specs.Input.{search_of}
-use Rattle.ac_input.specs.Occurrence.{Occurrence}
 use Rattle.ac_input.specs.Work.{come_at_least}
-use Rattle.ac_automaton.specs.declared.overlapping.Position.{Position}
 use Rattle.ac_automaton.specs.Overlapping.{IsCountedTo, StandsAt, stands_at_least}
 use Rattle.ac_automaton.specs.Automaton.{searched}
 use Rattle.ac_automaton.proofs.overlapping.OverlappingStateLemmas.{came-counted, came-stands, came-work, counted-after, stands-after, stands-work, found-after, shown-counted}

@@ -1,7 +1,6 @@
 -- Each call of the closure extends the chain by one.
-use Rattle.std.proofs.Common.{ℕ, ◌≡◌, ◌∷◌, drop, ap, ◌∙◌, rules, true, false, Ok}
+use Rattle.std.proofs.Common.{◌≡◌, ◌∷◌, drop, ap, ◌∙◌, rules, true, false, Ok}
 use Rattle.std.specs.List.{filter}
-use Rattle.std.specs.String.{string_bytes}
 use Rattle.std.proofs.lemmas.Str.{IsCharBoundary-start}
 use Rattle.std.proofs.lemmas.Result.{err_from_is_err_and}
 use Rattle.ac_input.specs.declared.search.Anchored.TheVariants.{No}

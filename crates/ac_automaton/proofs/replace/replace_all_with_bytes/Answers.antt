@@ -1,5 +1,5 @@
 -- Each call of the closure extends the chain by one.
-use Rattle.std.proofs.Common.{ℕ, ◌≡◌, ◌∷◌, drop, refl, ap, ◌∙◌, arith, rules, true, false, Ok}
+use Rattle.std.proofs.Common.{◌≡◌, ◌∷◌, drop, refl, ap, ◌∙◌, arith, rules, true, false, Ok}
 use Rattle.std.proofs.lemmas.List.{take_rest}
 use Rattle.std.proofs.lemmas.Result.{err_from_is_err_and}
 use Rattle.ac_input.specs.declared.search.Anchored.TheVariants.{No}

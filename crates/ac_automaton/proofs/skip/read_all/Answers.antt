@@ -1,5 +1,5 @@
 -- One byte more is read.
-use Rattle.std.proofs.Common.{◌≤◌, ℕ, List, length, false, subst, arith}
+use Rattle.std.proofs.Common.{◌≤◌, length, false, subst, arith}
 use Rattle.std.proofs.lemmas.Bool.{false≢true}
 use Rattle.std.proofs.lemmas.List.{take_all}
 use Rattle.std.proofs.lemmas.Option.{slice_get-get_or}

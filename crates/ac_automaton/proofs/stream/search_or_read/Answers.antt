@@ -1,6 +1,6 @@
 -- A turn finds an item of what was read, or reads once.
 use Rattle.std.proofs.Common.{rules, subst, sym, ◌∙◌}
-use Rattle.ac_automaton.specs.Stream.{StreamCounts, StreamProgress}
+use Rattle.ac_automaton.specs.Stream.{StreamCounts}
 use Rattle.ac_automaton.proofs.stream.StreamIterLemmas.{turn-failed}
 use Rattle.ac_automaton.proofs.stream.search_or_read.Goals as goal
 use Rattle.ac_automaton.proofs.stream.StreamCountLemmas.{StreamCounts-then}

@@ -320,6 +320,18 @@ impl<'a, A: Search> ItemSearch for ListingSearch<'a, A> {
         listed.found
     }
 
+    fn between(&self, start: usize, end: usize) -> &[u8] {
+        &self.bytes.as_slice()[..0]
+    }
+
+    fn cut(&self) -> usize {
+        self.place.at
+    }
+
+    fn end(&self) -> usize {
+        self.place.from + self.filled
+    }
+
     fn is_past_places(&self) -> bool {
         self.over
     }

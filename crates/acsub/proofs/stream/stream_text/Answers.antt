@@ -61,10 +61,9 @@ returns-in_ok-replacements-in-Replace-clause-memory g c =
 pub returns-in_ok-replacements-in-Replace-clause-cost : goal.returns-in_ok-replacements-in-Replace-clause-cost
 returns-in_ok-replacements-in-Replace-clause-cost g c =
     let replaced = c.try_stream_replace_all_any_kind_counted-replaced in
-    let cost = replaced.ensures.cost in
     streamed_cost c.args.prepared.now c.args.engine.now c.args.reader.now replaced.new.reader c.args.steps.now
     replaced.new.steps replaced.result c.told.result c.requires.serves c.requires.streamed c.told.ensures
-    (cost.0, cost.1, cost.2, cost.3)
+    replaced.ensures.cost.0
 
 -- ---- the matches are listed
 

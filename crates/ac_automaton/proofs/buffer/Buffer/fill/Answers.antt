@@ -1,7 +1,6 @@
 -- The bytes of a read lie after those held.
-use Rattle.std.proofs.Common.{◌≡◌, ◌+◌, ◌-◌, ◌≤◌, length, take, List, ℕ, length-take, length-drop, sym, ap, ◌∙◌, arith}
+use Rattle.std.proofs.Common.{◌≡◌, ◌+◌, ◌-◌, ◌≤◌, length, take, length-take, length-drop, sym, ap, ◌∙◌, arith}
 use Rattle.std.proofs.lemmas.List.{length-take-le}
-use Rattle.ac_automaton.specs.Devices.Buffer.{Held}
 use Rattle.ac_automaton.proofs.devices.BufferLemmas.{filled-by, front-more}
 use Rattle.ac_automaton.proofs.devices.MovedLemmas.{given-gave}
 use Rattle.ac_automaton.proofs.buffer.Buffer.fill.Goals as goal

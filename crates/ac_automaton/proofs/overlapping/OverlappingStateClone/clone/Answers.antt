@@ -1,7 +1,5 @@
 -- The clone has the counts of the original.
 use Rattle.std.proofs.Common.{ap₂, arith}
-use Rattle.ac_input.specs.declared.history.Count.{Count}
-use Rattle.ac_input.specs.declared.steps.Steps.{Steps}
 use Rattle.ac_automaton.specs.declared.overlapping.OverlappingState.{OverlappingState}
 use Rattle.ac_automaton.proofs.overlapping.OverlappingStateLemmas.{count-same, steps-same}
 use Rattle.ac_automaton.proofs.overlapping.OverlappingStateClone.clone.Goals as goal

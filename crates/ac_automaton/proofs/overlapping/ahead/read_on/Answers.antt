@@ -1,6 +1,5 @@
 -- How reading on by notes moves the cursor.
 use Rattle.std.proofs.Common.{◌+◌, None, take, subst}
-use Rattle.ac_input.specs.Number.{StateID}
 use Rattle.ac_input.specs.declared.search.Anchored.TheVariants.{No}
 use Rattle.ac_automaton.specs.FindAhead.{IsAheadOf}
 use Rattle.ac_automaton.proofs.overlapping.OverlappingAheadLemmas.{cursor-read_ahead, onward-stays}

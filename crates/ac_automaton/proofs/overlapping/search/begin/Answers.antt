@@ -1,5 +1,5 @@
 -- At the start all of the listing is left.
-use Rattle.std.proofs.Common.{rules, ◌≡◌, List, ℕ, ◌≤◌, refl, sym, subst, ◌∙◌, arith}
+use Rattle.std.proofs.Common.{rules, ◌≡◌, ◌≤◌, refl, sym, subst, ◌∙◌, arith}
 use Rattle.ac_input.specs.declared.search.MatchKind.TheVariants.{Standard}
 use Rattle.ac_input.specs.Input.{search_of}
 use Rattle.ac_automaton.specs.Cursor.{read_to, IsCursor}

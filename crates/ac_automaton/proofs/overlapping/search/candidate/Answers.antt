@@ -1,8 +1,8 @@
 -- The prefilter's candidate for the rest of the span, and its scans.
-use Rattle.std.proofs.Common.{◌≡◌, ℕ, Option, sym, subst, ◌∙◌, ap, unwrap_or, arith}
+use Rattle.std.proofs.Common.{◌≡◌, ℕ, sym, subst, ◌∙◌, ap, unwrap_or, arith}
 use Rattle.ac_input.specs.Candidate.{IsCandidate, start_of}
 use Rattle.ac_input.specs.Input.{search_of}
-use Rattle.ac_input.specs.Occurrence.{Search, starting_at}
+use Rattle.ac_input.specs.Occurrence.{starting_at}
 use Rattle.ac_input.specs.declared.search.Anchored.TheVariants.{No}
 use Rattle.ac_automaton.proofs.lemmas.CandidateLemmas.{ahead-same, candidate-before, candidate-begins, scanned-in_span, scanned-near}
 use Rattle.ac_automaton.proofs.find.CountedLemmas.{scan-covers}

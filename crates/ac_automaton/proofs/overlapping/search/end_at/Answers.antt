@@ -1,6 +1,5 @@
 -- Where the walk is back at the start, the occurrences left begin here or later.
 use Rattle.std.proofs.Common.{◌≡◌, [], length, Some, refl, ap, subst}
-use Rattle.ac_input.specs.declared.search.Anchored.{Anchored}
 use Rattle.ac_input.specs.declared.search.Anchored.TheVariants.{No}
 use Rattle.ac_input.specs.Dictionary.{IsLive}
 use Rattle.ac_input.specs.Input.{is_anchored}

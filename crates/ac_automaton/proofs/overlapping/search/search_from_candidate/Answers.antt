@@ -1,5 +1,5 @@
 -- Nothing begins before the candidate, so what is shown from there is the first of what is left.
-use Rattle.std.proofs.Common.{ℕ, ◌+◌, [], List, subst, sym, arith}
+use Rattle.std.proofs.Common.{◌+◌, [], subst, sym, arith}
 use Rattle.ac_input.specs.Computed.{listing_of}
 use Rattle.ac_input.specs.Input.{search_of}
 use Rattle.ac_input.specs.Occurrence.{starting_at}

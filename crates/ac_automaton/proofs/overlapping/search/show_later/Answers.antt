@@ -1,7 +1,7 @@
 -- The occurrences that end later are found by a walk, or by candidates.
-use Rattle.std.proofs.Common.{ℕ, ◌+◌, ◌-◌, [], List, ap, subst, sym, ◌∙◌, arith}
+use Rattle.std.proofs.Common.{ℕ, ◌+◌, ◌-◌, [], ap, subst, sym, ◌∙◌, arith}
 use Rattle.ac_input.specs.Input.{search_of}
-use Rattle.ac_input.specs.Occurrence.{Occurrence, starting_at}
+use Rattle.ac_input.specs.Occurrence.{starting_at}
 use Rattle.ac_automaton.specs.Automaton.{prefilter_for}
 use Rattle.ac_automaton.specs.Find.{MayGoOnFrom}
 use Rattle.ac_automaton.specs.Overlapping.{ending_from, ShowsFirst}

@@ -1,6 +1,5 @@
 -- What the automaton may skip by meets what each way of skipping requires.
 use Rattle.std.proofs.Common.{sym, subst}
-use Rattle.ac_input.specs.declared.search.Anchored.{Anchored}
 use Rattle.ac_automaton.specs.Automaton.{IsReached}
 use Rattle.ac_automaton.specs.Skip.{ReadsToBy}
 use Rattle.ac_automaton.proofs.skip.Skips.read_to.Goals as goal

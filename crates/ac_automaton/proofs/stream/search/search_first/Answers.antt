@@ -5,7 +5,6 @@ use Rattle.ac_input.specs.declared.search.Anchored.TheVariants.{No}
 use Rattle.ac_automaton.specs.Stream.{StreamProgress, Picks}
 use Rattle.ac_automaton.specs.Stream.StreamSearch.{SearchesOn}
 use Rattle.ac_automaton.specs.Stream.StreamWalk.{IsAheadBy, StandsAfter}
-use Rattle.ac_automaton.specs.declared.stream.search.Searched.{Searched}
 use Rattle.ac_automaton.proofs.lemmas.CursorLemmas.{reached-on, reached-state}
 use Rattle.ac_automaton.proofs.stream.DecideWalkLemmas.{met-held, met-then}
 use Rattle.ac_automaton.proofs.stream.SearchAheadLemmas.{ahead-anywhere, ahead-met, ahead-on, held-ordered, held-over, paid_on, searches-from, settles-on}

@@ -6,5 +6,5 @@ use Rattle.aho_corasick.proofs.ahocorasick.AhoCorasick.try_stream_replace_all.Go
 pub returns-clause-replaced : goal.returns-clause-replaced
 returns-clause-replaced g c =
     stream-replaced g.R.Read.remaining g.W.Write.contents c.args.self.now (bytes_of c.args.replacements.now)
-    c.args.reader.now c.try_stream_replace_all.new.reader c.args.writer.now c.try_stream_replace_all.new.writer
-    c.try_stream_replace_all.result c.try_stream_replace_all.ensures.replaced
+    c.args.reader.now c.try_stream_replace_all_counted.new.reader c.args.writer.now c.try_stream_replace_all_counted.new.writer
+    c.try_stream_replace_all_counted.result c.try_stream_replace_all_counted.ensures.moved

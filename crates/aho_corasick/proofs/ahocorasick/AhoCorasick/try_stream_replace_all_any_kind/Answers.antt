@@ -6,6 +6,6 @@ use Rattle.aho_corasick.proofs.ahocorasick.AhoCorasick.try_stream_replace_all_an
 pub returns-clause-replaced : goal.returns-clause-replaced
 returns-clause-replaced g c =
     stream-replaced g.R.Read.remaining g.W.Write.contents c.args.self.now (bytes_of c.args.replacements.now)
-    c.args.reader.now c.try_stream_replace_all_any_kind.new.reader c.args.writer.now
-    c.try_stream_replace_all_any_kind.new.writer c.try_stream_replace_all_any_kind.result
-    c.try_stream_replace_all_any_kind.ensures.replaced
+    c.args.reader.now c.try_stream_replace_all_any_kind_counted.new.reader c.args.writer.now
+    c.try_stream_replace_all_any_kind_counted.new.writer c.try_stream_replace_all_any_kind_counted.result
+    c.try_stream_replace_all_any_kind_counted.ensures.moved

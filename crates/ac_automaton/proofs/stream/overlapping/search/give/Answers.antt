@@ -1,9 +1,7 @@
 -- The next entry of a state's list is no longer than what was read.
-use Rattle.std.proofs.Common.{◌≡◌, ◌-◌, ℕ, Some, ap, subst, refl, ◌∙◌, arith}
+use Rattle.std.proofs.Common.{◌≡◌, ◌-◌, Some, ap, subst, refl, ◌∙◌, arith}
 use Rattle.ac_input.specs.declared.search.Anchored.TheVariants.{No}
 use Rattle.ac_input.specs.declared.search.MatchKind.TheVariants.{Standard}
-use Rattle.ac_input.specs.Occurrence.{Occurrence}
-use Rattle.ac_automaton.specs.Automaton.{Built}
 use Rattle.ac_automaton.specs.Stream.StreamListingSearch.{searched_by}
 use Rattle.ac_automaton.proofs.stream.StreamListingLemmas.{entry-occurs, searched-long}
 use Rattle.ac_automaton.proofs.stream.overlapping.search.give.Goals as goal

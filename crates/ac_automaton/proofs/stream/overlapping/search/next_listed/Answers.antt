@@ -2,7 +2,6 @@
 use Rattle.std.proofs.Common.{subst, sym, arith}
 use Rattle.ac_input.specs.declared.search.Anchored.TheVariants.{No}
 use Rattle.ac_automaton.specs.Stream.StreamListingWalk.{IsAheadFor}
-use Rattle.ac_automaton.specs.declared.stream.overlapping.search.ListPlace.{ListPlace}
 use Rattle.ac_automaton.proofs.overlapping.OverlappingAheadLemmas.{settles-none}
 use Rattle.ac_automaton.proofs.stream.StreamListingLemmas.{gives-next, listed-there, lists-none, lists-there}
 use Rattle.ac_automaton.proofs.stream.overlapping.search.next_listed.Goals as goal

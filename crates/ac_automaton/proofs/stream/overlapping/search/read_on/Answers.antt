@@ -1,6 +1,5 @@
 -- A search reads on to the next state that matches.
-use Rattle.std.proofs.Common.{◌≡◌, ◌≤◌, ◌+◌, ◌-◌, ℕ, None, subst, arith}
-use Rattle.ac_input.specs.Number.{StateID}
+use Rattle.std.proofs.Common.{◌≡◌, ◌≤◌, ◌+◌, ◌-◌, None, subst, arith}
 use Rattle.ac_input.specs.declared.search.Anchored.TheVariants.{No}
 use Rattle.ac_automaton.specs.FindAhead.{IsAheadOf}
 use Rattle.ac_automaton.proofs.lemmas.CursorLemmas.{reached-on, reached-state}

@@ -1,7 +1,7 @@
 -- The next match is found first, and then the next slice. Where the text has ended, there is none.
 use Rattle.std.proofs.Common.{subst, sym}
-use Rattle.ac_automaton.specs.Stream.{CanBeCounted, StreamCounts, StreamProgress, read_by, Picks}
-use Rattle.ac_automaton.specs.Stream.StreamReplacer.{IsAllOut, ReplacerProgress}
+use Rattle.ac_automaton.specs.Stream.{CanBeCounted, StreamCounts, read_by}
+use Rattle.ac_automaton.specs.Stream.StreamReplacer.{IsAllOut}
 use Rattle.ac_automaton.proofs.stream.StreamReplacerLemmas.{advance-none, replacer_progress_of, look-pass, over-out, passes-search}
 use Rattle.ac_automaton.proofs.stream.replacer.StreamReplacer.advance.Goals.{then-self-via-then-self, then-self-via-else-self+then-is_over}
 use Rattle.ac_automaton.proofs.stream.replacer.StreamReplacer.advance.Goals as goal

@@ -1,6 +1,5 @@
 -- There is still a replacement for each pattern, as the search keeps its automaton.
 use Rattle.std.proofs.Common.{[], length, ap, sym, ◌∙◌}
-use Rattle.ac_automaton.specs.Automaton.{Built}
 use Rattle.ac_automaton.proofs.stream.replacer.StreamReplacer.next_counted.Goals as goal
 
 pub bytes-requires-clause-one_each : goal.bytes-requires-clause-one_each

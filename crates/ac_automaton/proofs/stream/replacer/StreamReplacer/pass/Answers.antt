@@ -1,7 +1,7 @@
 -- The next slice is the text read up to the place, or the replacement of the match that begins there.
-use Rattle.std.proofs.Common.{◌≡◌, ◌≤◌, ℕ, None, Some, sym, ap, subst, ◌∙◌}
+use Rattle.std.proofs.Common.{◌≡◌, ◌≤◌, None, Some, sym, ap, subst, ◌∙◌}
 use Rattle.ac_automaton.specs.Stream.{AreAllGiven, CanBeCounted, read_by}
-use Rattle.ac_automaton.specs.Stream.StreamReplacer.{TakesPart, ReplacerProgress, ends_there, decided_to}
+use Rattle.ac_automaton.specs.Stream.StreamReplacer.{TakesPart, ends_there, decided_to}
 use Rattle.ac_automaton.specs.declared.stream.replacer.Part.TheVariants.{Text, Replacement}
 use Rattle.ac_automaton.proofs.stream.StreamReplacerLemmas.{replacer_progress_of, pass-none, pass-replacement, pass-text, text-right}
 use Rattle.ac_automaton.proofs.stream.replacer.StreamReplacer.pass.Goals as goal

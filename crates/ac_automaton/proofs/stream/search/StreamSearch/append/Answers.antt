@@ -2,7 +2,7 @@
 use Rattle.std.proofs.Common.{◌-◌, length, nat_lt, take, ap, subst, sym, ◌∙◌, arith}
 use Rattle.std.specs.Prelude.{◌+◌, ◌<◌}
 use Rattle.ac_input.specs.Number.{usize_max}
-use Rattle.ac_automaton.specs.Stream.{IsSearched, StreamProgress, read_by, room_of, Picks}
+use Rattle.ac_automaton.specs.Stream.{IsSearched, read_by, room_of, Picks}
 use Rattle.ac_automaton.specs.Stream.StreamPush.{TakesBytes, TakesFront}
 use Rattle.ac_automaton.proofs.stream.StreamAheadLemmas.{forgotten-kept, taken-longer}
 use Rattle.ac_automaton.proofs.stream.StreamPushLemmas.{HasPushed, not-empty, push-gave}

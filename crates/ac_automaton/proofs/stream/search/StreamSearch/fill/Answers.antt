@@ -2,8 +2,7 @@
 use Rattle.std.proofs.Common.{[], ◌-◌, ◌∙◌, ap, length, nat_lt, subst, sym, arith}
 use Rattle.std.proofs.lemmas.List.{take_rest}
 use Rattle.ac_input.specs.Number.{usize_max}
-use Rattle.ac_automaton.specs.Devices.Buffer.{Held}
-use Rattle.ac_automaton.specs.Stream.{HasRead, IsSearched, StreamProgress, Picks}
+use Rattle.ac_automaton.specs.Stream.{HasRead, IsSearched}
 use Rattle.ac_automaton.proofs.stream.StreamAheadLemmas.{filled-longer, forgotten-kept}
 use Rattle.ac_automaton.proofs.stream.StreamSearchLemmas.{HasFilled, come_by, fill-failed, fill-gave, grown_to}
 use Rattle.ac_automaton.proofs.stream.search.StreamSearch.fill.Given.{Over}

@@ -1,6 +1,6 @@
 -- The next match of the bytes read is the next of the search over the held bytes.
 use Rattle.std.proofs.Common.{subst}
-use Rattle.ac_automaton.specs.Stream.{FindsHeld, StreamCounts, StreamProgress, Picks}
+use Rattle.ac_automaton.specs.Stream.{FindsHeld, StreamCounts}
 use Rattle.ac_automaton.proofs.stream.StreamAheadLemmas.{next-counts, next-finds, next-kept, searched_to, walks-from}
 use Rattle.ac_automaton.proofs.stream.StreamSearchLemmas.{come_by, settled_by}
 use Rattle.ac_automaton.proofs.stream.search.StreamSearch.next_counted.Goals as goal

@@ -2,7 +2,7 @@
 use Rattle.std.proofs.Common.{rules, subst}
 use Rattle.std.proofs.lemmas.Bool.{false≢true}
 use Rattle.std.proofs.lemmas.List.{nil_from_length}
-use Rattle.ac_automaton.specs.Stream.{CanBeCounted, IsOnCourse, IsSearched, StreamProgress, read_by, Picks}
+use Rattle.ac_automaton.specs.Stream.{CanBeCounted, IsOnCourse, IsSearched, read_by}
 use Rattle.ac_automaton.proofs.stream.StreamPushLemmas.{pushes-none, took-none}
 use Rattle.ac_automaton.proofs.stream.search.StreamSearch.push_counted.Goals.{then-is_empty-via-then-is_empty, then-is_empty-via-else-is_empty+then-not-is_searched}
 use Rattle.ac_automaton.proofs.stream.search.StreamSearch.push_counted.Goals as goal

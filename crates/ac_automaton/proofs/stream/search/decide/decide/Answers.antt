@@ -3,7 +3,6 @@ use Rattle.std.proofs.Common.{sym, subst, ◌∙◌, arith}
 use Rattle.std.proofs.lemmas.Bool.{false≢true}
 use Rattle.ac_input.specs.declared.search.Anchored.TheVariants.{No}
 use Rattle.ac_automaton.specs.Stream.StreamSearch.{SearchesOn}
-use Rattle.ac_automaton.specs.declared.stream.search.Searched.{Searched}
 use Rattle.ac_automaton.proofs.lemmas.CursorLemmas.{list-none}
 use Rattle.ac_automaton.proofs.stream.DecideWalkLemmas.{reads-there, waited-better, waited-closed, waited-dead, waited-none, waited-open, waited-reached, waited-same, waited-state, waited-text}
 use Rattle.ac_automaton.proofs.stream.search.decide.decide.Goals as goal

@@ -1,8 +1,7 @@
 -- The start kind has the search's start, and then so does the automaton that serves.
 use Rattle.std.proofs.Common.{subst, sym}
-use Rattle.ac_input.specs.declared.search.Anchored.{Anchored}
 use Rattle.ac_input.specs.Dfa.{Serves}
-use Rattle.ac_automaton.specs.Automaton.{Built, Finds}
+use Rattle.ac_automaton.specs.Automaton.{Finds}
 use Rattle.aho_corasick.specs.AhoCorasick.{as_built, serving_engine}
 use Rattle.aho_corasick.specs.Engine.{engine_supported_by}
 use Rattle.aho_corasick.proofs.lemmas.EngineLemmas.{find-served}

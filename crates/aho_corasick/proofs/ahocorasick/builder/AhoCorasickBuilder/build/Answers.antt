@@ -4,11 +4,8 @@ use Rattle.std.proofs.Common.{ap, refl, subst, sym, ◌∙◌}
 use Rattle.ac_literal.specs.Packed.{bytes_of}
 use Rattle.ac_noncontiguous.specs.Builder.{HasRowsBy, IsBuiltOf}
 use Rattle.ac_noncontiguous.specs.Nfa.Reads.{built_as}
-use Rattle.ac_noncontiguous.specs.declared.settings.Settings.{Settings}
 use Rattle.aho_corasick.specs.Builder.{front_dictionary}
 use Rattle.aho_corasick.specs.Served.{IsEngineOf}
-use Rattle.aho_corasick.specs.declared.ahocorasick.builder.AhoCorasickBuilder.{AhoCorasickBuilder}
-use Rattle.aho_corasick.specs.declared.shared.Shared.{Shared}
 use Rattle.aho_corasick.proofs.lemmas.ServedLemmas.{front-built, made-as, starts-shared}
 use Rattle.aho_corasick.proofs.ahocorasick.builder.AhoCorasickBuilder.build.Goals as goal
 

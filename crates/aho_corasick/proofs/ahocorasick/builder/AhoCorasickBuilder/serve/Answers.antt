@@ -1,7 +1,6 @@
 -- The automaton that was named serves.
 use Rattle.std.proofs.Common.{◌≡◌, Some, rules, subst}
 use Rattle.std.proofs.lemmas.Result.{err_from_is_err_and}
-use Rattle.ac_noncontiguous.specs.declared.settings.Settings.{Settings}
 use Rattle.ac_tables.specs.Contiguous.Builder.{IsRefusedFrom}
 use Rattle.ac_tables.specs.Dfa.Builder.{IsTooLargeOr}
 use Rattle.ac_noncontiguous.specs.Nfa.Reads.{dictionary}

@@ -1,8 +1,8 @@
 -- A search that has read nothing stands in the start state.
-use Rattle.std.proofs.Common.{[], None, false, subst, sym, arith}
+use Rattle.std.proofs.Common.{[], false, subst, sym, arith}
 use Rattle.ac_input.specs.declared.search.Anchored.TheVariants.{No}
 use Rattle.ac_automaton.specs.Ahead.{less_ahead}
-use Rattle.ac_automaton.specs.Stream.{IsOnCourse, Occurrences, StreamProgress, fresh_progress}
+use Rattle.ac_automaton.specs.Stream.{IsOnCourse, fresh_progress}
 use Rattle.ac_automaton.specs.Stream.StreamListingSearch.{IsListingSearch}
 use Rattle.ac_automaton.proofs.ahead.AheadLemmas.{ahead-none}
 use Rattle.ac_automaton.proofs.stream.StreamListingSearchLemmas.{first_place, fresh-listing-right, fresh-listing-view, less-none}

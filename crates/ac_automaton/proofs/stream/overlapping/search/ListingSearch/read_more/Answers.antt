@@ -3,7 +3,7 @@ use Rattle.std.proofs.Common.{◌≡◌, ◌-◌, ◌∙◌, ◌∷◌, ◌++◌
 use Rattle.std.specs.List.{concat}
 use Rattle.ac_input.specs.Number.{usize_max}
 use Rattle.ac_input.specs.declared.search.Anchored.TheVariants.{No}
-use Rattle.ac_automaton.specs.Stream.{CanBeCounted, HasRead, IsSearched, Occurrences, StreamProgress}
+use Rattle.ac_automaton.specs.Stream.{CanBeCounted, HasRead, IsSearched}
 use Rattle.ac_automaton.specs.Stream.StreamListingSearch.{listing_at}
 use Rattle.ac_automaton.proofs.stream.StreamListingSearchLemmas.{HasReading, reading-on, reading-test}
 use Rattle.ac_automaton.proofs.stream.overlapping.search.ListingSearch.read_more.Given.{Over}

@@ -1,7 +1,7 @@
 -- The next occurrence in the bytes read is the next of the walk over the last piece.
-use Rattle.std.proofs.Common.{ℕ, List, take, subst, refl, sym, ◌∙◌, ap}
+use Rattle.std.proofs.Common.{take, subst, refl, sym, ◌∙◌, ap}
 use Rattle.ac_input.specs.declared.search.Anchored.TheVariants.{No}
-use Rattle.ac_automaton.specs.Stream.{FindsHeld, IsOnCourse, Occurrences, StreamCounts, StreamProgress}
+use Rattle.ac_automaton.specs.Stream.{FindsHeld, IsOnCourse, StreamCounts}
 use Rattle.ac_automaton.specs.Stream.StreamListingSearch.{listing_at}
 use Rattle.ac_automaton.specs.Stream.StreamListingWalk.{IsAheadFor}
 use Rattle.ac_automaton.proofs.stream.StreamListingSearchLemmas.{HasListed, listed-ahead}

@@ -1,0 +1,9 @@
+use Rattle.ac_automaton.proofs.skip.StopLemmas.{between-matching}
+use Rattle.ac_tables.proofs.contiguous.PassingLemmas.{are-matching, look_ups}
+use Rattle.ac_tables.proofs.contiguous.automaton.NFAAutomaton.advance_alone.Goals as goal
+
+pub returns-clause-goes : goal.returns-clause-goes
+returns-clause-goes c =
+    let a = c.args.self.now in between-matching look_ups a 1 a.table.max_match c.new-matching.result c.args.anchored
+    c.args.sid c.args.bytes.now c.read_until.result (are-matching a) c.new-matching.ensures.first
+    c.new-matching.ensures.last c.requires c.read_until.ensures.goes

@@ -1,23 +1,17 @@
 -- What a replacement over a stream returns if it did not begin, and what it costs.
-use Rattle.std.proofs.Common.{◌≡◌, ◌⊎◌, inl, inr, ℕ, ◌+◌, ◌*◌, ◌≤◌, Bool, true, false, List, [], ◌++◌, length, Option, Result, Ok, Err, refl, sym, ap, ◌∙◌, subst, arith, zero-add}
-use Rattle.std.specs.Prelude.{IfErr, OnOk}
-use Rattle.std.specs.List.{concat}
-use Rattle.std.proofs.Math.Nat.{mul-le-mul_left}
-use Rattle.std.proofs.lemmas.List.{append-nil, length-append}
-use Rattle.std.proofs.lemmas.Result.{on_ok_weaker}
+use Rattle.std.proofs.Common.{◌≡◌, ◌⊎◌, inl, inr, ℕ, ◌≤◌, List, [], length, Option, Result, Ok, Err, refl, sym, subst, arith}
+use Rattle.std.specs.Prelude.{IfErr}
+use Rattle.std.proofs.lemmas.List.{append-nil}
 use Rattle.ac_input.specs.declared.search.Anchored.{Anchored}
 use Rattle.ac_input.specs.declared.steps.Steps.{Steps}
-use Rattle.ac_input.specs.declared.search.MatchKind.{MatchKind}
-use Rattle.ac_input.specs.declared.search.MatchKind.TheVariants.{Standard, LeftmostFirst, LeftmostLongest}
 use Rattle.ac_input.specs.Occurrence.{Occurrence}
-use Rattle.ac_input.specs.Work.{longest, lookups_per_byte, shortest}
-use Rattle.ac_automaton.specs.Replace.{matches_in}
+use Rattle.ac_input.specs.Work.{shortest}
 use Rattle.ac_automaton.specs.Automaton.{Built}
 use Rattle.ac_automaton.specs.Devices.Moved.{NoneTouched}
-use Rattle.ac_automaton.specs.Stream.{CanStream, IsFront, IsStreamRefusal, Picks, StreamProgress, again_for, fresh_progress, items_of, read_again, read_by, read_in_all}
+use Rattle.ac_automaton.specs.Stream.{CanStream, IsFront, IsStreamRefusal, Picks, items_of}
 use Rattle.ac_automaton.specs.Stream.SinkLaws.{IsPiecewise}
 use Rattle.ac_automaton.specs.Stream.StreamPump.{HasComeToCut, Pumps, PumpsMatches}
-use Rattle.ac_automaton.specs.Stream.StreamReplace.{CostsStream, HasSearched, IsStreamCost, IsBegun, ReplacesStream, replaced_in}
+use Rattle.ac_automaton.specs.Stream.StreamReplace.{CostsStream, IsBegun, ReplacesStream, replaced_in}
 use Rattle.ac_automaton.specs.Stream.StreamTexts.{Texts, replacing, sending, text_between}
 use Rattle.ac_automaton.specs.declared.error.StreamError.{StreamError}
 use Rattle.ac_automaton.specs.declared.error.StreamError.TheVariants.{Config, Read, Write, WriteZero, Memory, Position}
@@ -61,61 +55,6 @@ pub cost-none : {R : Type 0} (b : Built) (reader : Watched R) (steps : Steps) (e
     → CostsStream b reader reader steps steps (Err error)
 cost-none b reader steps error =
     (([], sym (append-nil _), record { looked = omega arith; scanned = refl; moved = omega arith }, tt), inr refl)
-
--- looks within the bound for the bytes read are within the bound for more bytes
-looks-within : (deterministic : Bool) (looked at n : ℕ) → looked ≤ lookups_per_byte deterministic * at → at ≤ n
-    → looked ≤ lookups_per_byte deterministic * n
-looks-within true looked at n h le = omega arith
-looks-within false looked at n h le = omega arith
-
--- with more matches at least as many bytes may be looked at again
-pub again-within : (kind : MatchKind) (long n few more : ℕ) → few ≤ more
-    → again_for kind long n few ≤ again_for kind long n more
-again-within Standard long n few more le = omega arith
-again-within LeftmostFirst long n few more le = let again = mul-le-mul_left (long + 1) le in omega arith
-again-within LeftmostLongest long n few more le = let again = mul-le-mul_left (long + 1) le in omega arith
-
--- the cost of a search that began fresh, by the bytes that it read and their matches
-cost-pieces : {R : Type 0} (b : Built) (s t : StreamProgress Picks) (r0 r1 : Watched R) (before after : Steps)
-    (result : Result (Unit {0}) StreamError) → s ≡ fresh_progress b → HasSearched s t r0 r1 before after result
-    → (pieces : List (List ℕ)) × (r1.pieces.items ≡ r0.pieces.items ++ pieces)
-    × IsStreamCost b (length (concat pieces)) (length (matches_in b (concat pieces))) before after
-    × OnOk result (before.looked.value + length (concat pieces) ≤ after.looked.value)
-cost-pieces b s t r0 r1 before after result fresh h =
-    let built : t.built ≡ b = h.built ∙ ap (λ q. q.built) fresh in
-    let looked : s.looked ≡ 0 = ap (λ q. q.looked) fresh in
-    let scanned : s.scanned ≡ 0 = ap (λ q. q.scanned) fresh in
-    let moved : s.moved ≡ 0 = ap (λ q. q.moved) fresh in
-    let paid = h.course.paid in
-    let counts = h.counts in
-    let within : t.at ≤ length (read_by t) = h.course.ordered.1 in
-    let looks : t.looked ≡ counts.0 = counts.4 ∙ ap (λ n. n + counts.0) looked ∙ zero-add counts.0 in
-    let places : t.scanned ≡ counts.1 = counts.5 ∙ ap (λ n. n + counts.1) scanned ∙ zero-add counts.1 in
-    let bytes : t.moved ≡ counts.2 = counts.6 ∙ ap (λ n. n + counts.2) moved ∙ zero-add counts.2 in
-    let given : length t.given ≤ length (matches_in t.built (read_by t)) = let long = ap length h.course.begun.1 in
-    omega (arith, long, length-append t.given h.course.begun.0) in
-    let again = again-within t.built.dictionary.kind (longest t.built.dictionary.patterns) (length (read_by t))
-    (length t.given) (length (matches_in t.built (read_by t))) given in
-    let bound : t.looked ≤ lookups_per_byte b.deterministic
-    * (length (read_by t) + read_again b.dictionary (length (read_by t)) (length (matches_in b (read_by t)))) =
-    subst (λ c. t.looked ≤ lookups_per_byte c.deterministic
-    * (length (read_by t) + read_again c.dictionary (length (read_by t)) (length (matches_in c (read_by t))))) built
-    (looks-within t.built.deterministic t.looked (read_in_all t)
-    (length (read_by t) + read_again t.built.dictionary (length (read_by t)) (length (matches_in t.built (read_by t))))
-    paid.looked (omega arith)) in
-    let none : t.scanned ≡ 0 = paid.scanned in
-    let seventh : 7 * t.moved ≤ length (read_by t) = paid.moved in
-    let some : t.at ≤ t.looked = paid.some in
-    let one : after.looked.value ≡ before.looked.value + counts.0 = counts.3.looked in
-    let two : after.scanned.value ≡ before.scanned.value + counts.1 = counts.3.scanned in
-    let three : after.moved.value ≡ before.moved.value + counts.2 = counts.3.moved in (
-      t.pieces,
-      h.read,
-      record { looked = omega arith; scanned = omega arith; moved = omega arith },
-      on_ok_weaker result
-          (λ (all : t.at ≡ length (read_by t)). let z : before.looked.value + length (read_by t) ≤ after.looked.value =
-          omega arith in z) h.searched,
-    )
 
 -- an error that comes after the first read, or one of which something else holds
 came-later : (P : Type 0) (result : Result (Unit {0}) StreamError) → IfErr result IsBegun

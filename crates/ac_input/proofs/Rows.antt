@@ -3,7 +3,8 @@ use Rattle.std.specs.Prelude.{◌≡◌, ℕ, List, [], ◌∷◌, Some, false, 
 use Rattle.ac_input.specs.declared.search.MatchKind.TheVariants.{Standard, LeftmostFirst, LeftmostLongest}
 use Rattle.ac_input.specs.Occurrence.{Search}
 use Rattle.ac_input.specs.Text.{replaced_from}
-use Rattle.ac_input.specs.Computed.{best_of, walk_of, listing_of}
+use Rattle.ac_input.specs.Computed.{occurrences, best_of, walk_of, listing_of}
+use Rattle.ac_input.specs.Mask.{masked, in_masked}
 
 -- the patterns b, abc and abcd, searched in abcd
 abbrev pub nested : Search
@@ -150,3 +151,39 @@ paired =
 pub paired-listed : listing_of paired
     ≡ record { pattern = 0; start = 0; end = 2 } ∷ record { pattern = 1; start = 0; end = 2 } ∷ []
 paired-listed = refl
+
+-- the patterns abc and bcd, searched in xabcdy
+abbrev pub overlapping : Search
+overlapping =
+    record {
+      patterns = (97 ∷ 98 ∷ 99 ∷ []) ∷ (98 ∷ 99 ∷ 100 ∷ []) ∷ [];
+      pairing = [];
+      haystack = 120 ∷ 97 ∷ 98 ∷ 99 ∷ 100 ∷ 121 ∷ [];
+      start = 0;
+      end = 6;
+      anchored = false;
+    }
+
+-- masked by an asterisk, both patterns are covered, though they overlap
+pub overlapping-masked : masked 42 overlapping ≡ 120 ∷ 42 ∷ 42 ∷ 42 ∷ 42 ∷ 121 ∷ []
+overlapping-masked = refl
+
+-- the empty pattern covers no byte
+pub ab_and_empty-masked : masked 42 ab_and_empty ≡ 97 ∷ 42 ∷ 42 ∷ []
+ab_and_empty-masked = refl
+
+-- the pattern ab, searched in abb
+abbrev pub ab_in_abb : Search
+ab_in_abb =
+    record {
+      patterns = (97 ∷ 98 ∷ []) ∷ [];
+      pairing = [];
+      haystack = 97 ∷ 98 ∷ 98 ∷ [];
+      start = 0;
+      end = 3;
+      anchored = false;
+    }
+
+-- a mask that the pattern has may make the pattern occur again
+pub ab_in_abb-masked : occurrences (in_masked 97 ab_in_abb) ≡ record { pattern = 0; start = 1; end = 3 } ∷ []
+ab_in_abb-masked = refl

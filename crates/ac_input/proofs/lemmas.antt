@@ -15,6 +15,9 @@ pub mod LeftmostListLemmas
 pub mod LimitLemmas
 pub mod ListingLemmas
 pub mod LiveLemmas
+pub mod MaskGrowthLemmas
+pub mod MaskLemmas
+pub mod MaskTextLemmas
 pub mod OnceLemmas
 pub mod OpeningLemmas
 pub mod OrderLemmas

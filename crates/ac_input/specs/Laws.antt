@@ -2,6 +2,7 @@
 -- haystack.
 pub mod BeginningLaws
 pub mod LiveLaws
+pub mod MaskLaws
 pub mod Utf8Laws
 use Rattle.std.specs.Prelude.{◌≡◌, ◌≢◌, ◌↔◌, ℕ, ◌<◌, ◌≤◌, false, List, [], ◌∷◌, ◌++◌, length, Contains, Option, None}
 use Rattle.std.specs.declared.cmp.Ordering.TheVariants.{Greater}

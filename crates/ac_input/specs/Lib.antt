@@ -24,3 +24,4 @@ pub mod Alphabet
 pub mod Work
 pub mod Dfa
 pub mod Unused
+pub mod Mask

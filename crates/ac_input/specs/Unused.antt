@@ -7,12 +7,14 @@ use Rattle.ac_input.specs.Computed.{walk_after, listing_of}
 use Rattle.ac_input.specs.Laws.{IsInside}
 use Rattle.ac_input.specs.Work.{shortest}
 
+-- no pattern has the byte, or its partner
+abbrev pub IsUnused : Search → ℕ → Type 0
+IsUnused s byte =
+    (n : ℕ) (p : List ℕ) (c : ℕ) → slice_get s.patterns n ≡ Some p → Contains p c → ¬ IsTrue (same s.pairing c byte)
+
 -- the place comes just after an unused byte of the haystack
 abbrev pub IsAfterUnused : Search → ℕ → Type 0
-IsAfterUnused s place =
-    (before : ℕ) × (before + 1 ≡ place)
-    × ((n : ℕ) (p : List ℕ) (c : ℕ) → slice_get s.patterns n ≡ Some p → Contains p c
-    → ¬ IsTrue (same s.pairing c (slice_index s.haystack before)))
+IsAfterUnused s place = (before : ℕ) × (before + 1 ≡ place) × IsUnused s (slice_index s.haystack before)
 
 -- Whatever the kind, a walk is the walk of the part through an unused byte, followed by the walk of the part after it.
 abbrev pub WalkSplitsAfterUnused : Type 0

@@ -4,5 +4,6 @@ pub use Rattle.ac_input.specs.Occurrence
 pub use Rattle.ac_input.specs.Best
 pub use Rattle.ac_input.specs.Walk
 pub use Rattle.ac_input.specs.Listing
+pub use Rattle.ac_input.specs.Mask
 pub mod Naive
 pub use Rattle.ac_input.specs.Computed

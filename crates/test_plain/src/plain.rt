@@ -8,7 +8,8 @@
 //! So a search costs the bytes that it passes times the total length of the patterns at most, and so does a whole walk, each
 //! pick of which goes on where the one before it ended. The listing passes over the patterns again at each place where an
 //! occurrence ends, once for each start that one has, and so costs the length of the longest pattern times that at most. Only
-//! the calls that collect all picks or all occurrences take memory.
+//! the calls that collect all picks or all occurrences, or mask the text, take memory. Masking searches, for each byte, from each
+//! place up to it.
 ghost use Rattle.std.specs.Prelude.{◌≡◌, ◌≢◌, ◌↔◌, ◌+◌, ◌≤◌, None, map, length, option_map, slice_get, IsTrue, IfOk};
 ghost use Rattle.ac_input.specs.Same.{same_text};
 ghost use Rattle.ac_input.specs.Occurrence.{Occurs, starting_at, StartsAt};
@@ -17,6 +18,7 @@ ghost use Rattle.ac_input.specs.declared.search.MatchKind.TheVariants.{Standard}
 ghost use Rattle.ac_input.specs.Walk.{Repeats, IsPick, IsWalk};
 ghost use Rattle.ac_input.specs.Computed.{walk_of};
 ghost use Rattle.ac_input.specs.Listing.{IsListing};
+ghost use Rattle.ac_input.specs.Mask.{IsCovered, masked};
 ghost use Rattle.test_plain.specs.Naive.{search_for, IsOnly, EndsAfter, ReachesAfter, LiesAlike, preferred};
 
 pub mod picks;
@@ -434,6 +436,39 @@ impl<'a> Naive<'a> {
             last = Some(found.end);
         }
         Ok(picks)
+    }
+
+    /// Whether some occurrence covers the place: the longest that starts there or before ends after it.
+    fn is_covered(&self, at: usize) -> bool
+        ensures { IsTrue result ↔ IsCovered self.now at }
+    {
+        if self.span.end <= at {
+            return false;
+        }
+        for start in self.span.start..at + 1 {
+            if let Some(found) = self.best_starting_at(MatchKind::LeftmostLongest, start) {
+                if at < found.end {
+                    return true;
+                }
+            }
+        }
+        false
+    }
+
+    /// The haystack with the mask in place of each byte that an occurrence covers, also where several overlap.
+    pub fn masked(&self, alloc: Global, mask: u8) -> Result<Vec<u8>, AllocError>
+        ensures { IfOk result (λ v. v.items ≡ masked mask self.now) }
+    {
+        let mut text = Vec::new(alloc);
+        for at in 0..self.haystack.len() {
+            let byte = if self.is_covered(at) {
+                mask
+            } else {
+                self.haystack[at]
+            };
+            text.push(byte)?;
+        }
+        Ok(text)
     }
 
     /// All occurrences of the span by end, start and number, also those that overlap, in memory.

@@ -19,7 +19,7 @@ use Rattle.ac_input.specs.Best.{preference, IsBest}
 use Rattle.ac_input.specs.Walk.{Repeats, IsPick, Here, Further, IsWalk}
 use Rattle.ac_input.specs.Computed.{walk_after, listing_of}
 use Rattle.ac_input.specs.Work.{shortest}
-use Rattle.ac_input.specs.Unused.{IsAfterUnused}
+use Rattle.ac_input.specs.Unused.{IsUnused, IsAfterUnused}
 use Rattle.ac_input.proofs.lemmas.ClassLemmas.{unknown-ends}
 use Rattle.ac_input.proofs.lemmas.LeadsLemmas.{leads-one}
 use Rattle.ac_input.proofs.lemmas.LiveLemmas.{alive-end}
@@ -40,7 +40,7 @@ same_text-byte pairing (x ∷ xs) (y ∷ ys) (suc k) within h =
     same_text-byte pairing xs ys k (omega arith) (and_parts (same pairing x y) (same_text pairing xs ys) h).1
 
 -- a byte of a part of a text is a byte of the text
-index-part : (text : List ℕ) (from to : ℕ) {k at : ℕ} → from + k ≡ at → k < to - from
+pub index-part : (text : List ℕ) (from to : ℕ) {k at : ℕ} → from + k ≡ at → k < to - from
     → slice_index (slice_range text from to) k ≡ slice_index text at
 index-part text from to {k} is within =
     get_or-take (to - from) (drop from text) k 0 within ∙ get_or-drop from text k 0 ∙ ap (slice_index text) is
@@ -62,8 +62,7 @@ occurs-some {s} {o} inside some occurs =
 
 -- no occurrence covers a place whose byte is unused
 pub unused-uncovered : {s : Search} {o : Occurrence} {at : ℕ} → s.end ≤ length s.haystack
-    → ((n : ℕ) (p : List ℕ) (c : ℕ) → slice_get s.patterns n ≡ Some p → Contains p c
-    → ¬ IsTrue (same s.pairing c (slice_index s.haystack at))) → Occurs s o → o.start ≤ at → at < o.end → ⊥
+    → IsUnused s (slice_index s.haystack at) → Occurs s o → o.start ≤ at → at < o.end → ⊥
 unused-uncovered {s} {o} {at} inside unused occurs from to =
     let w = occurs.within in
     let p : List ℕ = occurs.same.0 in

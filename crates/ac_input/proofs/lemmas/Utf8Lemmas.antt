@@ -63,7 +63,8 @@ first-append : (xs ys : List ℕ) → 0 < length xs → get_or (xs ++ ys) 0 0 �
 first-append [] ys some = absurd (omega arith)
 first-append (x ∷ xs) ys some = refl
 
-shaped : {c : ℕ} (cs : List ℕ) → scalars (c ∷ cs) ≡ true → Shape c
+-- the first of some characters has the shape of one
+pub shaped : {c : ℕ} (cs : List ℕ) → scalars (c ∷ cs) ≡ true → Shape c
 shaped {c} cs p = shape c (scalar_cases c (and_parts (scalar c) (scalars cs) p).0)
 
 -- ---- what follows a text that is the same as another

@@ -1,0 +1,6 @@
+use Rattle.std.proofs.Common.{◌<◌, ◌≤◌}
+use Rattle.ac_input.specs.Occurrence.{Occurrence, Occurs}
+use Rattle.test_plain.proofs.plain.Naive.is_covered.Given as goal
+
+abbrev pub invariant-loop-start : goal.invariant-loop-start
+invariant-loop-start l = (o : Occurrence) → Occurs l.self o → o.start < l.start → o.end ≤ l.at

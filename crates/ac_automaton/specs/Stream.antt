@@ -1,20 +1,18 @@
 -- A search of a stream: how far it has come, what its calls do, and what it costs.
+pub mod Answer
+pub mod Devices
+pub mod Iter
+pub mod Laws
+pub mod Overlapping
+pub mod Pump
+pub mod Push
+pub mod Replace
+pub mod ReplaceWith
+pub mod Replacer
+pub mod ReplacerNext
+pub mod Search
 pub mod SinkLaws
-pub mod StreamAnswer
-pub mod StreamIter
-pub mod StreamLaws
-pub mod StreamListing
-pub mod StreamListingSearch
-pub mod StreamListingWalk
-pub mod StreamPump
-pub mod StreamPush
-pub mod StreamReplace
-pub mod StreamReplaceWith
-pub mod StreamReplacer
-pub mod StreamReplacerNext
-pub mod StreamSearch
-pub mod StreamTexts
-pub mod StreamWalk
+pub mod Texts
 use Rattle.std.specs.Prelude.{◌≡◌, ◌≢◌, ◌⊎◌, ℕ, ◌+◌, ◌-◌, ◌*◌, ◌<◌, ◌≤◌, max, Bool, List, [], ◌∷◌, ◌++◌, length, drop, take, false, true, Option, None, Some, Result, Ok, Err}
 use Rattle.std.specs.List.{All, concat}
 use Rattle.ac_input.specs.Number.{usize_max}
@@ -32,15 +30,15 @@ use Rattle.ac_input.specs.Steps.{Done}
 use Rattle.ac_input.specs.Work.{longest, shortest, lookups_per_byte}
 use Rattle.ac_automaton.specs.Ahead.{most_ahead}
 use Rattle.ac_automaton.specs.Automaton.{Built, refusal_of}
-use Rattle.ac_automaton.specs.Devices.Buffer.{least_room, room_for}
-use Rattle.ac_automaton.specs.Devices.Moved.{AllFit, HasGiven}
+use Rattle.ac_automaton.specs.Stream.Devices.Buffer.{least_room, room_for}
+use Rattle.ac_automaton.specs.Stream.Devices.Moved.{AllFit, HasGiven}
 use Rattle.ac_automaton.specs.declared.error.MatchErrorKind.{MatchErrorKind}
 use Rattle.ac_automaton.specs.declared.error.MatchErrorKind.TheVariants.{UnsupportedStream, UnsupportedEmpty}
 use Rattle.ac_automaton.specs.declared.error.StreamError.{StreamError}
 use Rattle.ac_automaton.specs.declared.error.StreamError.TheVariants.{Config, Read, Memory, Position}
 use Rattle.ac_automaton.specs.declared.stream.StreamKinds.{StreamKinds}
 use Rattle.ac_automaton.specs.declared.stream.StreamKinds.TheVariants.{AnyKind, OnlyStandard}
-use Rattle.ac_automaton.specs.declared.watched.Watched.{Watched}
+use Rattle.ac_automaton.specs.declared.stream.devices.watched.Watched.{Watched}
 
 -- ---- what a search of a stream returns
 

@@ -11,9 +11,9 @@
 //! begins where the one before it ended, or just after a byte that no pattern has, which leaves each search in its start. So no byte
 //! is looked at twice, and the looks so far are those for the bytes passed and for at most 8192 bytes more. Under a leftmost kind a
 //! search may begin anew where no note begins. Then notes are lost, and their bytes are read again; no byte is read ahead twice.
-ghost use Rattle.std.specs.Prelude.{◌≡◌, ◌+◌, ◌≤◌, ◌<◌, List, [], ◌∷◌, drop, length, take, IfSome, nat_le, slice_get};
+ghost use Rattle.std.specs.Prelude.{◌≡◌, ◌+◌, ◌≤◌, ◌<◌, List, [], ◌∷◌, drop, length, take, IfSome, IsTrue, nat_le, slice_get};
 ghost use Rattle.ac_automaton.specs.Ahead.{HasForgotten, HasSkipped, IsPaid, Settles, StaysReadOnce, bytes_ahead, left_notes, most_ahead, notes_from, onward};
-ghost use Rattle.ac_automaton.specs.FindAhead.{IsAheadOf};
+ghost use Rattle.ac_automaton.specs.InMemory.Find.Ahead.{IsAheadOf};
 ghost use Rattle.ac_automaton.specs.Automaton.{AdvancesToMatch, IsReached, IsReadCost, is_matching};
 ghost use Rattle.ac_automaton.specs.Skip.{ReadsPart};
 
@@ -196,6 +196,15 @@ impl Ahead {
         self.upcoming(at)
     }
 
+    /// Whether a search goes on alone from a place: matches are close, no note is left, and nothing more is read ahead there.
+    #[inline(always)]
+    fn is_alone(&self, at: usize) -> bool
+        requires { self.now.end ≤ length self.now.notes }
+        ensures { IsTrue result → left_notes self.now ≡ [] }
+    {
+        self.close && self.end <= self.next && at < self.until
+    }
+
     /// Takes the next note.
     #[inline(always)]
     fn take_note(&mut self)
@@ -359,10 +368,9 @@ fn read_part<A: Automaton>(
     advance_by(automaton, close, sid, &bytes[at..end], steps)
 }
 
-/// Reads on from a state over bytes from a place on, to the first state that matches, or to the last byte: as
-/// [`Automaton::advance_to_match`], but by what was read ahead, where there is a note. `anew` is the state in which the search begins
-/// anew after a match; none if it goes on from the state that matched.
-pub(crate) fn advance_to_match<A: Automaton>(
+/// Reads on from a state over bytes from a place on, to the first state that matches, or to the last byte, one part after another.
+#[inline(never)]
+fn advance_by_parts<A: Automaton>(
     automaton: &A,
     anew: &Option<StateID>,
     sid: StateID,
@@ -400,5 +408,66 @@ pub(crate) fn advance_to_match<A: Automaton>(
     Advance {
         sid: current,
         taken: read,
+    }
+}
+
+/// Reads on over few bytes by the automaton's own loop alone.
+#[inline(always)]
+fn read_alone<A: Automaton>(
+    automaton: &A,
+    sid: StateID,
+    bytes: &[u8],
+    at: usize,
+    steps: &mut Steps,
+) -> Advance
+    requires reached { IsReached (A.Reaches automaton.now Anchored.No) sid }
+    requires left { at < length bytes.now }
+    ensures { ReadsPart (A.built automaton.now) (A.Reaches automaton.now) Anchored.No
+        (is_matching (A.matches automaton.now)) sid (drop at bytes.now) result steps.old steps.new }
+{
+    let end = part_end(true, at, bytes.len());
+    automaton.advance_alone(Anchored::No, sid, &bytes[at..end], steps)
+}
+
+/// Reads on from a state over bytes from a place on, to the first state that matches, or to the last byte: as
+/// [`Automaton::advance_to_match`], but by what was read ahead, where there is a note. `anew` is the state in which the search begins
+/// anew after a match; none if it goes on from the state that matched.
+///
+/// Where matches are close, it asks for no note first: that would cost as much as to read their bytes.
+#[inline(always)]
+pub(crate) fn advance_to_match<A: Automaton>(
+    automaton: &A,
+    anew: &Option<StateID>,
+    sid: StateID,
+    bytes: &[u8],
+    from: usize,
+    ahead: &mut Ahead,
+    steps: &mut Steps,
+) -> Advance
+    requires reached { IsReached (A.Reaches automaton.now Anchored.No) sid }
+    requires begins { IfSome anew.now (A.Reaches automaton.now Anchored.No []) }
+    requires within { from ≤ length bytes.now }
+    requires ahead { IsAheadOf A.Automaton automaton.now anew.now bytes.now from sid ahead.old }
+    ensures goes { AdvancesToMatch (A.Reaches automaton.now Anchored.No) (A.matches automaton.now) sid
+        (drop from bytes.now) result }
+    ensures cost { IsPaid ahead.old ahead.new steps.new (λ paid. IsReadCost (A.built automaton.now)
+        (A.Reaches automaton.now) Anchored.No sid (take result.taken (drop from bytes.now)) steps.old paid) }
+    ensures ahead { IsAheadOf A.Automaton automaton.now anew.now bytes.now (from + result.taken)
+        (onward (A.matches automaton.now) anew.now result.sid) ahead.new }
+    ensures once { StaysReadOnce bytes.now ahead.old ahead.new }
+{
+    if bytes.len() <= from || !ahead.is_alone(from) {
+        return advance_by_parts(automaton, anew, sid, bytes, from, ahead, steps);
+    }
+    let stop = read_alone(automaton, sid, bytes, from, steps);
+    ahead.close = stop.taken < NEAR;
+    if automaton.is_match(stop.sid) {
+        return stop;
+    }
+    let at = from + stop.taken;
+    let rest = advance_by_parts(automaton, anew, stop.sid, bytes, at, ahead, steps);
+    Advance {
+        sid: rest.sid,
+        taken: stop.taken + rest.taken,
     }
 }

@@ -9,10 +9,11 @@
 use crate::ahead::Ahead;
 use crate::automaton::Automaton;
 use crate::error::MatchError;
-use crate::overlapping::{Position, Shown};
+use crate::in_memory::overlapping::{Position, Shown};
+use crate::in_memory::{find, overlapping};
+use crate::stream;
+use crate::stream::Progress;
 use crate::stream::overlapping::{ListPlace, Listed};
-use crate::stream::{Progress, Searched};
-use crate::{find, find_ahead, overlapping, stream};
 use ac_input::primitives::StateID;
 use ac_input::search::{Input, Match};
 use ac_input::steps::Steps;
@@ -24,11 +25,11 @@ pub trait Search: Automaton {
     ghost use Rattle.ac_input.specs.declared.search.MatchKind.TheVariants.{Standard};
     ghost use Rattle.ac_automaton.specs.Ahead.{IsPaid, StaysReadOnce};
     ghost use Rattle.ac_automaton.specs.Automaton.{Finds, CostsFind, IsFindCost, IsFound};
-    ghost use Rattle.ac_automaton.specs.FindAhead.{IsAheadIn, MayReadAhead, ended_at};
-    ghost use Rattle.ac_automaton.specs.Items.{FindsWithin};
-    ghost use Rattle.ac_automaton.specs.Overlapping.OverlappingSearch.{CountsOn, HasLeft, IsAheadAt, KeepsPaying, ShowsNextAt};
-    ghost use Rattle.ac_automaton.specs.Stream.StreamListingWalk.{IsAheadFor, ListsNext, MayList};
-    ghost use Rattle.ac_automaton.specs.Stream.StreamWalk.{IsAheadBy, MayWalk, WalksOn};
+    ghost use Rattle.ac_automaton.specs.InMemory.Find.Ahead.{IsAheadIn, MayReadAhead, ended_at};
+    ghost use Rattle.ac_automaton.specs.InMemory.Items.{FindsWithin};
+    ghost use Rattle.ac_automaton.specs.InMemory.Overlapping.OverlappingSearch.{CountsOn, HasLeft, IsAheadAt, KeepsPaying, ShowsNextAt};
+    ghost use Rattle.ac_automaton.specs.Stream.Overlapping.Walk.{IsAheadFor, ListsNext, MayList};
+    ghost use Rattle.ac_automaton.specs.Stream.Search.Walk.{IsAheadBy, MayWalk, WalksOn};
 
     /// The match of the input, if it has one, as [`Automaton::try_find_counted`] returns it; counts what it does.
     fn search(&self, input: &Input<'_>, steps: &mut Steps) -> Result<Option<Match>, MatchError>
@@ -56,7 +57,7 @@ pub trait Search: Automaton {
         ensures cost { IsPaid ahead.old ahead.new steps.new (λ paid. IsFindCost (Self.built self.now) input.now steps.old paid result) }
         ensures ahead { IsAheadIn Self.Automaton self.now input.now start (ended_at input.now result) ahead.new }
     {
-        find_ahead::find(self, input, start, ahead, steps)
+        find::ahead::find(self, input, start, ahead, steps)
     }
 
     /// The next occurrence of an overlapping search that began in a start state and stands at a place; counts what it does.
@@ -101,22 +102,22 @@ pub trait Search: Automaton {
         overlapping::advance_ahead(self, input, place, ahead, steps)
     }
 
-    /// The next match of a stream among the bytes that are held, of a search that began in a start state and has come this far;
-    /// counts what it does, and keeps notes of what it read ahead of these bytes. Its callers are the searches of streams, which
+    /// The next match of a stream among the bytes that are held, of a search that began in a start state; counts what it does, and
+    /// keeps how far it has come and notes of what it read ahead of these bytes. Its callers are the searches of streams, which
     /// alone make and keep a [`Progress`].
     fn search_stream(
         &self,
         start: StateID,
-        progress: &Progress,
+        progress: &mut Progress,
         held: &[u8],
         ahead: &mut Ahead,
         steps: &mut Steps,
-    ) -> Searched
-        requires walk { MayWalk Self.Automaton self.now start progress.now held.now }
-        requires ahead { IsAheadBy Self.Automaton self.now start held.now progress.now ahead.old }
-        ensures walk { IsPaid ahead.old ahead.new steps.new (λ paid. WalksOn Self.Automaton self.now start progress.now held.now result
-            steps.old paid) }
-        ensures ahead { IsAheadBy Self.Automaton self.now start held.now result.progress ahead.new }
+    ) -> Option<Match>
+        requires walk { MayWalk Self.Automaton self.now start progress.old held.now }
+        requires ahead { IsAheadBy Self.Automaton self.now start held.now progress.old ahead.old }
+        ensures walk { IsPaid ahead.old ahead.new steps.new (λ paid. WalksOn Self.Automaton self.now start progress.old held.now
+            (record { progress = progress.new; found = result }) steps.old paid) }
+        ensures ahead { IsAheadBy Self.Automaton self.now start held.now progress.new ahead.new }
         ensures once { StaysReadOnce held.now ahead.old ahead.new }
     {
         stream::search_held(self, start, progress, held, ahead, steps)
@@ -180,11 +181,11 @@ impl<'a, A: Search> Search for &'a A {
     fn search_stream(
         &self,
         start: StateID,
-        progress: &Progress,
+        progress: &mut Progress,
         held: &[u8],
         ahead: &mut Ahead,
         steps: &mut Steps,
-    ) -> Searched {
+    ) -> Option<Match> {
         (**self).search_stream(start, progress, held, ahead, steps)
     }
 

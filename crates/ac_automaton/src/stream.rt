@@ -15,11 +15,16 @@
 //!   [`try_stream_search`](crate::automaton::Automaton::try_stream_search).
 //! - [`StreamReplacer`] is passed its pieces too, and hands out the text with each match replaced. From
 //!   [`try_stream_replacer`](crate::automaton::Automaton::try_stream_replacer).
+//!
+//! Streams stand on the states of an automaton, as searches in memory do, and on [`devices`]: a watched reader and writer, and the
+//! bytes that are held between the two. [`laws`] says what is decided, and that it doesn't matter how a text is cut into pieces.
 ghost use Rattle.std.specs.Prelude.{◌≡◌, false};
 ghost use Rattle.std.specs.Borrow.{sem};
 ghost use Rattle.ac_automaton.specs.Stream.{FindsHeld, GoesOn};
-ghost use Rattle.ac_automaton.specs.Stream.StreamIter.{FindsStream, GivesItem, KeepsReader, RestsIfRefused, TurnGives, reader_name, reader_of, search_of};
+ghost use Rattle.ac_automaton.specs.Stream.Iter.{FindsStream, GivesItem, KeepsReader, RestsIfRefused, TurnGives, reader_name, reader_of, search_of};
 
+pub mod devices;
+pub mod laws;
 pub mod overlapping;
 pub(crate) mod pump;
 pub(crate) mod replace;
@@ -30,12 +35,12 @@ pub mod sink;
 
 use crate::error::StreamError;
 use crate::search::Search;
-use crate::watched::Watched;
+use crate::stream::devices::watched::Watched;
 use ac_input::search::Match;
 use ac_input::steps::Steps;
 pub use replacer::StreamReplacer;
 pub(crate) use search::search as search_held;
-pub use search::{Progress, Searched, StreamSearch};
+pub use search::{Progress, StreamSearch};
 use std::alloc::Global;
 use std::io::Read;
 
@@ -56,7 +61,7 @@ pub enum StreamKinds {
 pub trait ItemSearch {
     ghost use Rattle.std.specs.Prelude.{◌≡◌, false, true, length, Option};
     ghost use Rattle.ac_automaton.specs.Stream.{CanBeCounted, FindsHeld, GoesOn, IsOnCourse, IsSearched, Picks, ReadsMore, Sequence, StreamProgress, closed_by, cut_of, read_by};
-    ghost use Rattle.ac_automaton.specs.Stream.StreamPump.{LiesHeld, bytes_between};
+    ghost use Rattle.ac_automaton.specs.Stream.Pump.{LiesHeld, bytes_between};
 
     /// What it returns.
     ghost sequence: { Sequence };
@@ -234,7 +239,7 @@ impl<'a, S: ItemSearch, R: Read> StreamIter<'a, S, R> {
 impl<'a, S: ItemSearch + Drop, R: Read> Iterator for StreamIter<'a, S, R> {
     ghost use Rattle.std.specs.Iterator.{at_most};
     ghost use Rattle.ac_automaton.specs.Stream.{IsOnCourse};
-    ghost use Rattle.ac_automaton.specs.Stream.StreamIter.{GivesItem, most_left, search_of};
+    ghost use Rattle.ac_automaton.specs.Stream.Iter.{GivesItem, most_left, search_of};
 
     type Item = Result<Match, StreamError>;
 

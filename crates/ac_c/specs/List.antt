@@ -6,9 +6,9 @@ use Rattle.ac_input.specs.Occurrence.{Occurrence}
 use Rattle.ac_input.specs.Work.{longest}
 use Rattle.ac_input.specs.declared.steps.Steps.{Steps}
 use Rattle.ac_automaton.specs.Automaton.{searched}
-use Rattle.ac_automaton.specs.Overlapping.OverlappingIter.{CountsRun, IsWithinOneWalk, LooksNear, Run, RunCounts, fresh_run, rest_of}
+use Rattle.ac_automaton.specs.InMemory.Overlapping.OverlappingIter.{CountsRun, IsWithinOneWalk, LooksNear, Run, RunCounts, fresh_run, rest_of}
 use Rattle.ac_automaton.specs.declared.error.MatchErrorKind.{MatchErrorKind}
-use Rattle.ac_automaton.specs.Overlapping.{CanOverlap, IsOverlappingRefusal}
+use Rattle.ac_automaton.specs.InMemory.Overlapping.{CanOverlap, IsOverlappingRefusal}
 use Rattle.aho_corasick.specs.AhoCorasick.{as_built, patterns_of, supported_by}
 use Rattle.aho_corasick.specs.declared.ahocorasick.AhoCorasick.{AhoCorasick}
 use Rattle.ac_c.specs.declared.find.Bounds.{Bounds}

@@ -7,8 +7,8 @@ use Rattle.ac_input.specs.Input.{whole_of}
 use Rattle.ac_input.specs.declared.search.Anchored.TheVariants.{No}
 use Rattle.ac_input.specs.Occurrence.{Occurrence}
 use Rattle.ac_automaton.specs.Automaton.{refusal_of}
-use Rattle.ac_automaton.specs.Iter.{Walk, fresh_walk, left_of}
-use Rattle.ac_automaton.specs.Replace.{LieInOrder, matches_in}
+use Rattle.ac_automaton.specs.InMemory.Iter.{Walk, fresh_walk, left_of}
+use Rattle.ac_automaton.specs.InMemory.Replace.{LieInOrder, matches_in}
 use Rattle.ac_input.specs.Text.{replaced_from}
 use Rattle.aho_corasick.specs.AhoCorasick.{as_built, supported_by, pattern_count}
 use Rattle.aho_corasick.specs.declared.ahocorasick.AhoCorasick.{AhoCorasick}

@@ -2,7 +2,7 @@
 use Rattle.std.specs.Prelude.{◌≡◌, ◌≢◌, ◌⊎◌, ℕ, true, false, List, length, map, Option, None, Some, Result, Ok, Err}
 use denote.Ref.{Bor}
 use Rattle.ac_automaton.specs.Stream.{CanStream, closed_by}
-use Rattle.ac_automaton.specs.Stream.StreamReplacer.{GivesText, PushesText, ReplacerProgress, fresh_replacer}
+use Rattle.ac_automaton.specs.Stream.Replacer.{GivesText, PushesText, ReplacerProgress, fresh_replacer}
 use Rattle.ac_automaton.specs.declared.error.StreamError.{StreamError}
 use Rattle.ac_automaton.specs.declared.stream.StreamKinds.TheVariants.{AnyKind}
 use Rattle.aho_corasick.specs.AhoCorasick.{as_built, supported_by}

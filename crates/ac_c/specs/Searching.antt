@@ -3,7 +3,7 @@ use Rattle.std.specs.Prelude.{◌≡◌, ◌≢◌, ◌⊎◌, ℕ, ◌<◌, ◌
 use Rattle.std.specs.List.{All}
 use Rattle.ac_input.specs.Occurrence.{Occurrence}
 use Rattle.ac_automaton.specs.Stream.{AreAllGiven, CanBeCounted, CanStream, IsConfigRefusal, IsHeldItem, IsSearched, ReadsNothing, StreamProgress, closed_by, cut_of, fresh_progress, read_by, Picks}
-use Rattle.ac_automaton.specs.Stream.StreamPush.{Pushes}
+use Rattle.ac_automaton.specs.Stream.Push.{Pushes}
 use Rattle.ac_automaton.specs.declared.error.MatchErrorKind.{MatchErrorKind}
 use Rattle.ac_automaton.specs.declared.error.StreamError.{StreamError}
 use Rattle.ac_automaton.specs.declared.stream.StreamKinds.TheVariants.{AnyKind}

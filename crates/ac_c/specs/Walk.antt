@@ -2,8 +2,8 @@
 use Rattle.std.specs.Prelude.{◌≡◌, ◌⊎◌, ℕ, ◌==◌, ◌<◌, ◌≤◌, ◌^◌, ◌-◌, ◌&&◌, nat_le, nat_lt, Bool, if◌then◌else◌, min, List, [], ◌∷◌, length, map, take, drop, Option, Some, None, IfSome, MatchOption, Result, Ok, Err}
 use Rattle.ac_input.specs.declared.steps.Steps.{Steps}
 use Rattle.ac_input.specs.Occurrence.{Occurrence}
-use Rattle.ac_automaton.specs.Iter.{IsPickCost, IsPlaceIn, PickCounts, Walk, left_of, walk_from_place}
-use Rattle.ac_automaton.specs.declared.iter.WalkPlace.{WalkPlace}
+use Rattle.ac_automaton.specs.InMemory.Iter.{IsPickCost, IsPlaceIn, PickCounts, Walk, left_of, walk_from_place}
+use Rattle.ac_automaton.specs.declared.in_memory.iter.WalkPlace.{WalkPlace}
 use Rattle.aho_corasick.specs.AhoCorasick.{as_built, supported_by}
 use Rattle.aho_corasick.specs.declared.ahocorasick.AhoCorasick.{AhoCorasick}
 use Rattle.ac_c.specs.declared.find.Bounds.{Bounds}

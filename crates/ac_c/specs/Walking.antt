@@ -1,7 +1,7 @@
 -- What a walk costs from one place to another.
 use Rattle.std.specs.Prelude.{◌≡◌, ◌+◌, Bool, false, true}
 use Rattle.ac_input.specs.declared.steps.Steps.{Steps}
-use Rattle.ac_automaton.specs.Iter.{CountsWalk, IsOnItsWay, IsWithinBudget, IsWithinBudgetAhead, Walk, WalkCounts}
+use Rattle.ac_automaton.specs.InMemory.Iter.{CountsWalk, IsOnItsWay, IsWithinBudget, IsWithinBudgetAhead, Walk, WalkCounts}
 
 -- A walk is within its budget. That of a walk that reads ahead has the bytes that may have been read ahead.
 abbrev pub IsPaidWalk : Bool → Walk → Type 0

@@ -5,7 +5,7 @@
 ghost use Rattle.std.specs.Prelude.{◌≡◌, ◌<◌, ◌≤◌, ◌^◌, IfOk, MatchOption, length};
 ghost use Rattle.std.specs.Iterator.{YieldsFirst};
 ghost use Rattle.ac_input.specs.Computed.{is_after};
-ghost use Rattle.ac_automaton.specs.Overlapping.OverlappingIter.{CountsRun, IsWithinOneWalk, LooksNear};
+ghost use Rattle.ac_automaton.specs.InMemory.Overlapping.OverlappingIter.{CountsRun, IsWithinOneWalk, LooksNear};
 ghost use Rattle.ac_c.specs.Found.{found};
 ghost use Rattle.ac_c.specs.Walk.{AreGiven};
 ghost use Rattle.ac_c.specs.List.{AnswersListed, CostsListing, CountsFilled, IsListedBy, IsPlaceOver, RunsTo, asked_from, before_of, begins_at, later_of, listed_of, place, place_after};

@@ -1,6 +1,6 @@
 //! The walk over a haystack, from a cursor that C keeps.
 ghost use Rattle.std.specs.Prelude.{◌≡◌, MatchOption, drop, length};
-ghost use Rattle.ac_automaton.specs.Iter.{left_of};
+ghost use Rattle.ac_automaton.specs.InMemory.Iter.{left_of};
 ghost use Rattle.ac_c.specs.Walking.{IsAccounted, WalksTo};
 ghost use Rattle.ac_c.specs.Walk.{AnswersSome, AnswersStep, AreGiven, CostsSome, CostsStep, Goes, IsCursorIn, IsSomeBy, IsStepBy, TakesSome, batch_of, bounds_of, cursor, place_of_cursor, step_of};
 ghost use Rattle.ac_c.specs.Find.{asked_by};

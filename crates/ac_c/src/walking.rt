@@ -7,7 +7,7 @@ use aho_corasick::{FindIter, FindIterAhead, Match, Steps, WalkPlace};
 pub trait Walking {
     ghost use Rattle.std.specs.Prelude.{Bool};
     ghost use Rattle.std.specs.Iterator.{YieldsFirst};
-    ghost use Rattle.ac_automaton.specs.Iter.{GivesPick, IsPlaceIn, Walk, left_of};
+    ghost use Rattle.ac_automaton.specs.InMemory.Iter.{GivesPick, IsPlaceIn, Walk, left_of};
     ghost use Rattle.ac_c.specs.Walking.{WalksTo};
 
     /// The walk, where it stands.

@@ -19,11 +19,11 @@ pub use Rattle.ac_input.specs.States
 pub use Rattle.ac_input.specs.Limits
 pub use Rattle.ac_input.specs.Alphabet
 pub use Rattle.ac_automaton.specs.Automaton
-pub use Rattle.ac_automaton.specs.Iter
-pub use Rattle.ac_automaton.specs.Overlapping
-pub use Rattle.ac_automaton.specs.Overlapping.OverlappingIter
-pub use Rattle.ac_automaton.specs.Replace
-pub use Rattle.ac_automaton.specs.Devices.Watched
+pub use Rattle.ac_automaton.specs.InMemory.Iter
+pub use Rattle.ac_automaton.specs.InMemory.Overlapping
+pub use Rattle.ac_automaton.specs.InMemory.Overlapping.OverlappingIter
+pub use Rattle.ac_automaton.specs.InMemory.Replace
+pub use Rattle.ac_automaton.specs.Stream.Devices.Watched
 pub mod Errors
 pub mod Standing
 pub mod Links

@@ -1,9 +1,10 @@
 -- What finds the matches of an input: an automaton, or packed search.
-use Rattle.std.specs.Prelude.{◌≡◌, ℕ, List, length, false}
+use Rattle.std.specs.Prelude.{◌≡◌, ℕ, List, false}
 use Rattle.ac_input.specs.declared.search.Anchored.TheVariants.{No}
 use Rattle.ac_input.specs.declared.search.MatchKind as kinds
 use Rattle.ac_input.specs.Computed.{walk_of, listing_of}
-use Rattle.ac_input.specs.Occurrence.{Occurrence, Search}
+use Rattle.ac_input.specs.Dictionary.{whole}
+use Rattle.ac_input.specs.Occurrence.{Occurrence}
 use Rattle.ac_input.specs.Rules.{Rule}
 use Rattle.ac_input.specs.Same.{IsUnpaired}
 use Rattle.ac_literal.specs.Packed.{Packed, search_kind}
@@ -19,28 +20,16 @@ use Rattle.acsub.specs.declared.prepared.Finder.TheVariants as finders
 use Rattle.acsub.specs.declared.args.settings.Engine.TheVariants as engines
 use Rattle.acsub.specs.declared.args.settings.Settings.{Settings}
 use Rattle.acsub.specs.Plan.{Plan}
-use Rattle.acsub.specs.Served.{IsNotBuilt, builder_by}
+use Rattle.acsub.specs.Served.{IsNotBuilt, builder_by, dictionary_for}
 use Rattle.acsub.specs.Rules.Sides.{rule_patterns}
-
--- the search of a whole input
-abbrev pub whole_search : Settings → List (List ℕ) → List ℕ → Search
-whole_search settings patterns input =
-    record {
-      patterns = patterns;
-      pairing = settings.pairing;
-      haystack = input;
-      start = 0;
-      end = length input;
-      anchored = false;
-    }
 
 -- the matches of a plan's walk over the whole input
 abbrev pub whole_walk : Plan → List ℕ → List Occurrence
-whole_walk plan input = walk_of plan.settings.kind (whole_search plan.settings (rule_patterns plan.rules) input)
+whole_walk plan input = walk_of plan.settings.kind (whole (dictionary_for plan.settings plan.rules) input false)
 
 -- all overlapping matches of a plan in the whole input
 abbrev pub whole_listing : Plan → List ℕ → List Occurrence
-whole_listing plan input = listing_of (whole_search plan.settings (rule_patterns plan.rules) input)
+whole_listing plan input = listing_of (whole (dictionary_for plan.settings plan.rules) input false)
 
 -- the packed search is one for these patterns and this kind
 abbrev pub IsPackedFor : kinds.MatchKind → List (List ℕ) → Packed → Type 0

@@ -4,8 +4,8 @@ use Rattle.ac_input.specs.Occurrence.{Occurrence}
 use Rattle.ac_input.specs.Steps.{Done}
 use Rattle.ac_input.specs.declared.search.MatchKind.TheVariants.{Standard}
 use Rattle.ac_input.specs.declared.steps.Steps.{Steps}
-use Rattle.ac_automaton.specs.Iter.{IsWithinBudget, Walk, walk_kind, left_of}
-use Rattle.ac_automaton.specs.Overlapping.OverlappingIter.{IsWithinOneWalk, Run, rest_of}
+use Rattle.ac_automaton.specs.InMemory.Iter.{IsWithinBudget, Walk, walk_kind, left_of}
+use Rattle.ac_automaton.specs.InMemory.Overlapping.OverlappingIter.{IsWithinOneWalk, Run, rest_of}
 use Rattle.acsub.specs.Plan.{Plan}
 use Rattle.acsub.specs.Served.{AreLooksFor, IsServedByDfa}
 use Rattle.acsub.specs.declared.matches.Matches.{Matches}

@@ -1,17 +1,17 @@
 -- What the program did, by its outcome.
-use Rattle.std.specs.Prelude.{◌≡◌, ℕ, ◌+◌, List, ◌⊎◌, Option, IfSome, Result, Ok, Err, String, Vec, map, string_bytes}
+use Rattle.std.specs.Prelude.{◌≡◌, ◌↔◌, ℕ, ◌+◌, List, ◌⊎◌, Option, IfSome, Result, Ok, Err, String, Vec, map, string_bytes}
 use Rattle.std.specs.Io.KnownBytes.{Keeps}
 use Rattle.std.specs.IoError.{error_kind}
 use Rattle.std.specs.declared.io.Error.{Error}
 use Rattle.std.specs.Vec.Iter.{into_iter_items}
 use Rattle.std.specs.declared.vec.IntoIter.{IntoIter}
 use Rattle.clap.specs.Words.{Text}
-use Rattle.ac_automaton.specs.Devices.Moved.{NoneTouched}
-use Rattle.ac_automaton.specs.Devices.Watched.{NoneRead, WritesWhole}
+use Rattle.ac_automaton.specs.Stream.Devices.Watched.{NoneRead, WritesWhole}
 use Rattle.ac_automaton.specs.declared.error.StreamError.{StreamError}
-use Rattle.ac_automaton.specs.declared.watched.Watched.{Watched}
+use Rattle.ac_automaton.specs.declared.stream.devices.watched.Watched.{Watched}
 use Rattle.acsub.specs.declared.error.RunError.{RunError}
 use Rattle.acsub.specs.declared.error.RunError.TheVariants as errors
+use Rattle.acsub.specs.declared.rules.RuleError.TheVariants as rule_errors
 use Rattle.acsub.specs.declared.tool.Fault.{Fault}
 use Rattle.acsub.specs.declared.tool.Fault.TheVariants as faults
 use Rattle.acsub.specs.declared.args.Words.{Words}
@@ -19,7 +19,7 @@ use Rattle.acsub.specs.declared.args.WordsFault.{WordsFault}
 use Rattle.acsub.specs.declared.args.WordsFault.TheVariants.{Help, Bad, Memory, Pairing}
 use Rattle.acsub.specs.Plan.{plan_of}
 use Rattle.acsub.specs.Rules.File.{grammar_of}
-use Rattle.acsub.specs.Run.{RanIn, RefusesIn}
+use Rattle.acsub.specs.Run.{RanIn}
 use Rattle.acsub.specs.Stream.{IsReturnedAs}
 use Rattle.acsub.specs.Tool.{IsFaultOf, exit_of, status_of}
 use Rattle.acsub.specs.Args.Words.{Reads}
@@ -80,70 +80,61 @@ module _ {W : Type 0} (contents : W → Option (List ℕ)) where
 
 -- ---- the whole program
 
--- The rule file holds these bytes, in the form that was asked for, and a run by them returned this result.
+-- The rule file has these bytes, in the form that was asked for, and a run by them returned this result. The first bad
+-- line is reported whatever memory does.
 pub record RanFile {F R W : Type 0} (held : F → Option (List ℕ)) (remaining : R → Option (List ℕ))
-    (contents : W → Option (List ℕ)) (asked : Words) (reader_before reader_after : Watched R)
-    (writer_before writer_after : Watched W) (answer : Result (Unit {0}) RunError) : Type 0 where
+    (contents : W → Option (List ℕ)) (asked : Words) (old new : Watched R × Watched W)
+    (answer : Result (Unit {0}) RunError) : Type 0 where
   pub file : List ℕ
   pub is_file : IsFile held file
-  pub ran : RanIn (grammar_of asked.text) remaining contents reader_before reader_after writer_before writer_after
-      (plan_of asked.stream asked.settings) file answer
-  pub fault : RefusesIn (grammar_of asked.text) (plan_of asked.stream asked.settings) file reader_before reader_after
-      writer_before writer_after answer
+  pub ran : RanIn remaining contents old new ((grammar_of asked.text).holds file) (plan_of asked.stream asked.settings)
+      answer
+  pub fault : (n : ℕ) → (answer ≡ Err (errors.Rule (rule_errors.Line n))) ↔ (grammar_of asked.text).bad file n
 
 module _ {F R W : Type 0} (held : F → Option (List ℕ)) (remaining : R → Option (List ℕ))
-    (contents : W → Option (List ℕ)) where
-  module _ (asked : Words) (reader_before reader_after : Watched R) (writer_before writer_after : Watched W) where
+    (contents : W → Option (List ℕ)) (old new : Watched R × Watched W) where
+  module _ (asked : Words) where
     -- A run by the rule file returned this result; then the writer was flushed, and this many flushes failed.
     abbrev pub RanAndFlushed : Result (Unit {0}) RunError → ℕ → Type 0
     RanAndFlushed answer failed =
-        (between : Watched W) × RanFile held remaining contents asked reader_before reader_after writer_before between
-        answer × Flushes contents between writer_after failed
+        (between : Watched W) × RanFile held remaining contents asked old (new.0, between) answer
+        × Flushes contents between new.1 failed
 
     -- what each outcome means where a run was asked for
     abbrev pub AnswersFile : Result (Unit {0}) Fault → Type 0
     AnswersFile (Ok done) = RanAndFlushed (Ok tt) 0
     AnswersFile (Err faults.Words) = ⊥
     AnswersFile (Err (faults.Pairs e)) = ⊥
-    AnswersFile (Err faults.RuleFile) = NoneTouched reader_before reader_after writer_before writer_after
+    AnswersFile (Err faults.RuleFile) = new ≡ old
     AnswersFile (Err (faults.Run e)) =
-        RanAndFlushed (Err e) 0 ⊎ RanAndFlushed (Err e) 1
-        ⊎ ((e ≡ errors.Memory) × NoneTouched reader_before reader_after writer_before writer_after)
+        RanAndFlushed (Err e) 0 ⊎ RanAndFlushed (Err e) 1 ⊎ ((e ≡ errors.Memory) × (new ≡ old))
     AnswersFile (Err faults.Flush) = RanAndFlushed (Ok tt) 1
 
-  module _ (words : List Text) (reader_before reader_after : Watched R) (writer_before writer_after : Watched W)
-      (outcome : Result (Unit {0}) Fault) where
+  module _ (words : List Text) (outcome : Result (Unit {0}) Fault) where
     -- what the outcome means, given what the words were read as
     abbrev pub AnswersRead : Result Words WordsFault → Type 0
-    AnswersRead (Ok asked) = AnswersFile asked reader_before reader_after writer_before writer_after outcome
-    AnswersRead (Err (Help help)) =
-        (reader_after ≡ reader_before) × AnswersHelp contents writer_before writer_after outcome
-    AnswersRead (Err Bad) =
-        (outcome ≡ Err faults.Words) × NoneTouched reader_before reader_after writer_before writer_after
-    AnswersRead (Err Memory) =
-        (outcome ≡ Err (faults.Run errors.Memory)) × NoneTouched reader_before reader_after writer_before writer_after
-    AnswersRead (Err (Pairing e)) =
-        (outcome ≡ Err (faults.Pairs e)) × NoneTouched reader_before reader_after writer_before writer_after
+    AnswersRead (Ok asked) = AnswersFile asked outcome
+    AnswersRead (Err (Help help)) = (new.0 ≡ old.0) × AnswersHelp contents old.1 new.1 outcome
+    AnswersRead (Err Bad) = (outcome ≡ Err faults.Words) × (new ≡ old)
+    AnswersRead (Err Memory) = (outcome ≡ Err (faults.Run errors.Memory)) × (new ≡ old)
+    AnswersRead (Err (Pairing e)) = (outcome ≡ Err (faults.Pairs e)) × (new ≡ old)
 
     -- what the outcome means for the words, the rule file, what was read and written, and the flush
     abbrev pub AnswersTool : Type 0
     AnswersTool = (asked : Result Words WordsFault) × Reads words asked × AnswersRead asked
 
   -- the status is that of an outcome, which means what `AnswersTool` says
-  abbrev pub EndsTool : {Z : Type 0} → List (String Z) → Watched R → Watched R → Watched W → Watched W → ℕ → Type 0
-  EndsTool words reader_before reader_after writer_before writer_after status =
+  abbrev pub EndsTool : {Z : Type 0} → List (String Z) → ℕ → Type 0
+  EndsTool words status =
       (outcome : Result (Unit {0}) Fault) × (status ≡ exit_of outcome)
-      × AnswersTool (map string_bytes words) reader_before reader_after writer_before writer_after outcome
+      × AnswersTool (map string_bytes words) outcome
 
   -- The status for the words that the system gives. If it fails to give them, that is reported, and neither device is
   -- touched.
-  abbrev pub EndsProgram : {Z A : Type 0} → Result (IntoIter (String Z) A) Error → Watched R → Watched R → Watched W
-      → Watched W → ℕ → Type 0
-  EndsProgram (Ok words) reader_before reader_after writer_before writer_after status =
-      EndsTool (into_iter_items words) reader_before reader_after writer_before writer_after status
-  EndsProgram (Err error) reader_before reader_after writer_before writer_after status =
-      (fault : Fault) × (status ≡ status_of fault) × IsFaultOf (error_kind error) faults.Words fault
-      × NoneTouched reader_before reader_after writer_before writer_after
+  abbrev pub EndsProgram : {Z A : Type 0} → Result (IntoIter (String Z) A) Error → ℕ → Type 0
+  EndsProgram (Ok words) status = EndsTool (into_iter_items words) status
+  EndsProgram (Err error) status =
+      (fault : Fault) × (status ≡ status_of fault) × IsFaultOf (error_kind error) faults.Words fault × (new ≡ old)
 
 -- all words that the system gives, in their order; or why they were not collected
 abbrev pub Collects : {X Y A : Type 0} → Result (IntoIter X A) Error → Result (Vec X Y) Fault → Type 0

@@ -48,11 +48,6 @@ abbrev pub dictionary_for : Settings → List Rule → Dictionary
 dictionary_for settings rules =
     record { patterns = rule_patterns rules; pairing = settings.pairing; kind = settings.kind }
 
--- the automaton for settings and rules is of this kind
-abbrev pub IsAutomatonFor : Settings → List Rule → AhoCorasickKind → Type 0
-IsAutomatonFor settings rules kind =
-    IsServed (automaton_named settings.engine) (builder_by settings).settings (dictionary_for settings rules) kind
-
 -- ---- the limits
 
 -- The settings ask for an automaton, and the rules' patterns exceed this limit: one of every build, or one of the
@@ -67,7 +62,9 @@ IsNotBuilt settings rules error =
 abbrev pub IsBuildable : Settings → List Rule → Type 0
 IsBuildable settings rules =
     settings.engine ≢ engines.Packed
-    → IsWithinLimits (dictionary_for settings rules) × (kind : AhoCorasickKind) × IsAutomatonFor settings rules kind
+    → IsWithinLimits (dictionary_for settings rules)
+    × (kind : AhoCorasickKind)
+    × IsServed (builder_by settings).kind (builder_by settings).settings (dictionary_for settings rules) kind
 
 -- ---- the look-ups
 

@@ -1,13 +1,13 @@
 -- What a run that writes while it reads has read, written and returned.
 pub mod StreamList
 use Rattle.std.specs.Prelude.{◌≡◌, ◌≢◌, ℕ, List, Option, Result, Ok, Err, IfErr}
-use Rattle.ac_automaton.specs.Stream.StreamAnswer.{WritesStream}
+use Rattle.ac_automaton.specs.Stream.Answer.{WritesStream}
 use Rattle.ac_automaton.specs.declared.error.MatchErrorKind.{MatchErrorKind}
 use Rattle.ac_automaton.specs.declared.error.StreamError.{StreamError}
 use Rattle.ac_automaton.specs.declared.error.StreamError.TheVariants as stream
-use Rattle.ac_automaton.specs.declared.watched.Watched.{Watched}
+use Rattle.ac_automaton.specs.declared.stream.devices.watched.Watched.{Watched}
 use Rattle.acsub.specs.Plan.{Plan}
-use Rattle.acsub.specs.Run.Transformed.{IsOutputFront, output_of, stream_room}
+use Rattle.acsub.specs.Run.Transformed.{IsOutputFront, output_of, room_in}
 use Rattle.acsub.specs.declared.error.RunError.{RunError}
 use Rattle.acsub.specs.declared.error.RunError.TheVariants as errors
 
@@ -22,11 +22,11 @@ IsReturnedAs (Err stream.Memory) result = result ≡ Err errors.Memory
 IsReturnedAs (Err stream.Position) result = result ≡ Err errors.Position
 
 -- what a search of a stream that writes the text of a plan read and wrote, and its result
-abbrev pub WritesPlan : {R W : Type 0} → (R → Option (List ℕ)) → (W → Option (List ℕ)) → Watched R → Watched R
-    → Watched W → Watched W → Plan → Result (Unit {0}) StreamError → Type 0
-WritesPlan remaining contents reader_before reader_after writer_before writer_after plan result =
-    WritesStream remaining contents (stream_room plan) (output_of plan.settings plan.rules)
-    (IsOutputFront plan.settings plan.rules) reader_before reader_after writer_before writer_after result
+abbrev pub WritesPlan : {R W : Type 0} → (R → Option (List ℕ)) → (W → Option (List ℕ)) → Watched R × Watched W
+    → Watched R × Watched W → Plan → Result (Unit {0}) StreamError → Type 0
+WritesPlan remaining contents old new plan result =
+    WritesStream remaining contents (room_in plan.settings.mode plan.rules) (output_of plan.settings plan.rules)
+    (IsOutputFront plan.settings plan.rules) old.0 new.0 old.1 new.1 result
 
 -- the error is no refusal of the search
 abbrev pub IsNoRefusal : StreamError → Type 0

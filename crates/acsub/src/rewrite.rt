@@ -3,7 +3,7 @@
 //! Each function goes on from one match to the next, and sends what stands between and what is put in its place. At its end nothing
 //! is held back.
 ghost use Rattle.std.specs.Prelude.{◌≡◌, [], length};
-ghost use Rattle.ac_automaton.specs.Replace.{LieInOrder};
+ghost use Rattle.ac_automaton.specs.InMemory.Replace.{LieInOrder};
 ghost use Rattle.acsub.specs.Matches.{KeepsCount, left_in};
 ghost use Rattle.acsub.specs.Run.Sending.{SendsList, SendsReplaced};
 

@@ -16,14 +16,17 @@
 //!
 //! Either way a run that is out of memory stops before anything is written. The engine and its settings change nothing of the
 //! text, which [`runs_write_alike`] states.
-ghost use Rattle.std.specs.Prelude.{◌≡◌, List, [], false, length, OnOk};
+ghost use Rattle.std.specs.Prelude.{◌≡◌, ◌↔◌, List, ℕ, [], false, length, Err, OnOk};
+ghost use Rattle.ac_input.specs.Rules.{FirstBadLine, IsRuleFile};
 ghost use Rattle.acsub.specs.Matches.{IsHeldCost};
 ghost use Rattle.acsub.specs.Plan.{plan_of};
 ghost use Rattle.acsub.specs.Rules.File.{grammar_of};
-ghost use Rattle.acsub.specs.Run.{CostsFile, CostsIn, CostsRun, Ran, RanIn, RanRules, Refuses, RefusesIn, RefusesRules, WroteText, WroteTextBy, not_read};
+ghost use Rattle.acsub.specs.Run.{CostsIn, CostsRun, Ran, RanIn, RanRules, WroteText, not_read};
 ghost use Rattle.acsub.specs.Run.RunLaws.{RunsWriteAlike};
 ghost use Rattle.acsub.specs.Run.Sending.{SendsText};
 ghost use Rattle.acsub.specs.Args.Settings.{IsAccepted};
+ghost use Rattle.acsub.specs.declared.error.RunError.TheVariants.{Rule};
+ghost use Rattle.acsub.specs.declared.rules.RuleError.TheVariants.{Line};
 
 use crate::args::settings::{Mode, Settings};
 use crate::error::RunError;
@@ -39,6 +42,16 @@ use ac_input::steps::Steps;
 use std::alloc::Global;
 use std::io::{Read, Write};
 
+/// What a run by a rule file is to do.
+#[derive(Clone, Copy)]
+pub struct Request {
+    pub settings: Settings,
+    /// Whether the rule file is of plain text, and not of hex.
+    pub text: bool,
+    /// Whether the text is asked for while the input is read, under every kind.
+    pub stream: bool,
+}
+
 /// Reads the input to its end, and writes the text that settings and rules make of it.
 ///
 /// It takes memory for the rules and what is built of them, and for one buffer for the text. Where the text is written while the
@@ -53,15 +66,14 @@ pub fn run<R: Read, W: Write>(
 ) -> Result<(), RunError>
     requires { reader.old.ended ≡ false }
     // Ok has written the text of all that was read.
-    ensures written { OnOk result (WroteTextBy settings.now rules.now
-        reader.old reader.new writer.old writer.new) }
+    ensures written { OnOk result (WroteText settings.now (IsRuleFile rules.now)
+        (reader.old, writer.old) (reader.new, writer.new)) }
     // What was read and written, and with which result. While the text is written, no read gives more bytes than the buffer has room
-    // for.
-    ensures answered { Ran R.remaining W.contents reader.old reader.new writer.old writer.new
+    // for. A refusal has touched nothing.
+    ensures answered { Ran R.remaining W.contents (reader.old, writer.old) (reader.new, writer.new)
         settings.now rules.now result }
-    // The first bad line is reported whatever memory does, and a refusal has touched nothing.
-    ensures fault { Refuses settings.now rules.now
-        reader.old reader.new writer.old writer.new result }
+    // The first bad line is reported whatever memory does.
+    ensures fault { (n : ℕ) → (result ≡ Err (Rule (Line n))) ↔ FirstBadLine rules.now n }
 {
     let mut steps = Steps::new();
     run_counted(alloc, settings, rules, reader, writer, &mut steps)
@@ -77,37 +89,41 @@ pub fn run_counted<R: Read, W: Write>(
     steps: &mut Steps,
 ) -> Result<(), RunError>
     requires { reader.old.ended ≡ false }
-    ensures answered { Ran R.remaining W.contents reader.old reader.new writer.old writer.new
+    ensures answered { Ran R.remaining W.contents (reader.old, writer.old) (reader.new, writer.new)
         settings.now rules.now result }
-    ensures fault { Refuses settings.now rules.now
-        reader.old reader.new writer.old writer.new result }
-    ensures cost { CostsFile settings.now rules.now reader.old reader.new
+    ensures fault { (n : ℕ) → (result ≡ Err (Rule (Line n))) ↔ FirstBadLine rules.now n }
+    ensures cost { CostsIn (IsRuleFile rules.now) (plan_of false settings.now) reader.old reader.new
         steps.old steps.new result }
 {
-    run_in(alloc, settings, false, false, rules, reader, writer, steps)
+    let asked = Request {
+        settings: *settings,
+        text: false,
+        stream: false,
+    };
+    run_in(alloc, asked, rules, reader, writer, steps)
 }
 
 /// The same, by a rule file of plain text or of hex, and asked to write while it reads, or not.
 pub fn run_in<R: Read, W: Write>(
     alloc: Global,
-    settings: &Settings,
-    stream: bool,
-    text: bool,
+    asked: Request,
     file: &[u8],
     reader: &mut Watched<R>,
     writer: &mut Watched<W>,
     steps: &mut Steps,
 ) -> Result<(), RunError>
     requires { reader.old.ended ≡ false }
-    ensures answered { RanIn (grammar_of text) R.remaining W.contents reader.old reader.new
-        writer.old writer.new (plan_of stream settings.now) file.now result }
-    ensures fault { RefusesIn (grammar_of text) (plan_of stream settings.now) file.now
-        reader.old reader.new writer.old writer.new result }
-    ensures cost { CostsIn (grammar_of text) (plan_of stream settings.now) file.now reader.old reader.new
-        steps.old steps.new result }
+    ensures answered { RanIn R.remaining W.contents (reader.old, writer.old) (reader.new, writer.new)
+        ((grammar_of asked.text).holds file.now) (plan_of asked.stream asked.settings) result }
+    ensures fault { (n : ℕ) → (result ≡ Err (Rule (Line n))) ↔ (grammar_of asked.text).bad file.now n }
+    ensures cost { CostsIn ((grammar_of asked.text).holds file.now) (plan_of asked.stream asked.settings)
+        reader.old reader.new steps.old steps.new result }
 {
-    match read_rules(alloc, text, file) {
-        Ok(rules) => run_rules_counted(alloc, settings, stream, &rules, reader, writer, steps),
+    match read_rules(alloc, asked.text, file) {
+        Ok(rules) => {
+            let settings = &asked.settings;
+            run_rules_counted(alloc, settings, asked.stream, &rules, reader, writer, steps)
+        }
         Err(error) => Err(unread(error)),
     }
 }
@@ -129,12 +145,10 @@ pub fn run_rules<R: Read, W: Write>(
     writer: &mut Watched<W>,
 ) -> Result<(), RunError>
     requires { reader.old.ended ≡ false }
-    ensures written { OnOk result (WroteText settings.now rules.now
-        reader.old reader.new writer.old writer.new) }
-    ensures answered { RanRules R.remaining W.contents reader.old reader.new writer.old writer.new
+    ensures written { OnOk result (WroteText settings.now (λ all. all ≡ rules.now)
+        (reader.old, writer.old) (reader.new, writer.new)) }
+    ensures answered { RanRules R.remaining W.contents (reader.old, writer.old) (reader.new, writer.new)
         (plan_of stream settings.now rules.now) result }
-    ensures fault { RefusesRules (plan_of stream settings.now rules.now)
-        reader.old reader.new writer.old writer.new result }
 {
     let mut steps = Steps::new();
     run_rules_counted(alloc, settings, stream, rules, reader, writer, &mut steps)
@@ -151,10 +165,8 @@ pub fn run_rules_counted<R: Read, W: Write>(
     steps: &mut Steps,
 ) -> Result<(), RunError>
     requires { reader.old.ended ≡ false }
-    ensures answered { RanRules R.remaining W.contents reader.old reader.new writer.old writer.new
+    ensures answered { RanRules R.remaining W.contents (reader.old, writer.old) (reader.new, writer.new)
         (plan_of stream settings.now rules.now) result }
-    ensures fault { RefusesRules (plan_of stream settings.now rules.now)
-        reader.old reader.new writer.old writer.new result }
     ensures cost { CostsRun (plan_of stream settings.now rules.now) reader.old reader.new
         steps.old steps.new result }
 {

@@ -6,7 +6,7 @@
 //! can't be changed by what is read later, either.
 ghost use Rattle.std.specs.Prelude.{◌≡◌, IfErr, false};
 ghost use Rattle.acsub.specs.Finder.{IsServing};
-ghost use Rattle.acsub.specs.Run.{CostsRun, RanPrepared, RunsOutFirst};
+ghost use Rattle.acsub.specs.Run.{CostsRun, RanRules};
 ghost use Rattle.acsub.specs.Run.Transformed.{IsStreamed};
 ghost use Rattle.acsub.specs.Args.Settings.{IsAccepted};
 ghost use Rattle.acsub.specs.Stream.{IsNoRefusal, IsReturnedAs};
@@ -38,9 +38,8 @@ pub fn stream_text<R: Read, W: Write>(
     requires accepted { IsAccepted prepared.now.settings prepared.now.rules }
     requires serves { IsServing prepared.now.settings prepared.now.rules engine.now }
     requires streamed { IsStreamed prepared.now }
-    ensures ran { RanPrepared R.remaining W.contents reader.old reader.new writer.old writer.new
+    ensures ran { RanRules R.remaining W.contents (reader.old, writer.old) (reader.new, writer.new)
         prepared.now result }
-    ensures memory { RunsOutFirst prepared.now reader.old reader.new writer.old writer.new result }
     ensures cost { CostsRun prepared.now reader.old reader.new steps.old steps.new result }
 {
     match prepared.mode() {

@@ -13,7 +13,7 @@ ghost use Rattle.acsub.specs.Tool.{IsFaultOf, WritesLine, status_of};
 
 use crate::args::{WordsFault, read_words};
 use crate::error::RunError;
-use crate::run::run_in;
+use crate::run::{Request, run_in};
 use crate::stream::told;
 use ac_automaton::watched::{Watched, write_whole};
 use ac_input::pairing::PairingError;
@@ -90,8 +90,8 @@ pub fn program<F: Files, R: Read, W: Write, E: Write>(
     errors: &mut E,
 ) -> ExitCode
     requires { reader.old.ended ≡ false }
-    ensures ended { EndsProgram F.File.remaining R.remaining W.contents words
-        reader.old reader.new writer.old writer.new (exit_status result) }
+    ensures ended { EndsProgram F.File.remaining R.remaining W.contents
+        (reader.old, writer.old) (reader.new, writer.new) words (exit_status result) }
     ensures quiet { exit_status result ≡ 0 → errors.new ≡ errors.old }
 {
     let status = match collect(alloc, words) {
@@ -132,8 +132,8 @@ pub fn tool<F: Files, R: Read, W: Write, E: Write>(
 ) -> u8
     requires { reader.old.ended ≡ false }
     // The status is that of an outcome, which goes with the words, with what was read and written, and with the flush.
-    ensures ended { EndsTool F.File.remaining R.remaining W.contents words.now
-        reader.old reader.new writer.old writer.new result }
+    ensures ended { EndsTool F.File.remaining R.remaining W.contents
+        (reader.old, writer.old) (reader.new, writer.new) words.now result }
     ensures quiet { result ≡ 0 → errors.new ≡ errors.old }
 {
     match work(rt, alloc, words, reader, writer) {
@@ -168,23 +168,19 @@ fn work<F: Files, R: Read, W: Write>(
     writer: &mut Watched<W>,
 ) -> Result<(), Fault>
     requires { reader.old.ended ≡ false }
-    ensures { AnswersTool F.File.remaining R.remaining W.contents (map string_bytes words.now)
-        reader.old reader.new writer.old writer.new result }
+    ensures { AnswersTool F.File.remaining R.remaining W.contents
+        (reader.old, writer.old) (reader.new, writer.new) (map string_bytes words.now) result }
 {
     match read_words(alloc, words) {
         Ok(asked) => {
             let rules = read_file(rt, alloc, asked.rules)?;
             let mut steps = Steps::new();
-            let ran = run_in(
-                alloc,
-                &asked.settings,
-                asked.stream,
-                asked.text,
-                rules.as_slice(),
-                reader,
-                writer,
-                &mut steps,
-            );
+            let wanted = Request {
+                settings: asked.settings,
+                text: asked.text,
+                stream: asked.stream,
+            };
+            let ran = run_in(alloc, wanted, rules.as_slice(), reader, writer, &mut steps);
             finish(ran, writer)
         }
         Err(WordsFault::Help(help)) => show_help(alloc, &help, writer),

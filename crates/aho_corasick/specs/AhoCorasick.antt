@@ -7,10 +7,10 @@ use Rattle.ac_input.specs.Dfa.{Serves}
 use Rattle.ac_input.specs.Input.{Asked}
 use Rattle.ac_input.specs.Occurrence.{Search, Occurrence, Occurs}
 use Rattle.ac_automaton.specs.Automaton.{Built, walk_in, listing_in}
-use Rattle.ac_automaton.specs.Iter.{Walk, fresh_walk, left_of}
-use Rattle.ac_automaton.specs.Overlapping as overlapping
-use Rattle.ac_automaton.specs.declared.overlapping.OverlappingState.{OverlappingState}
-use Rattle.ac_automaton.specs.Overlapping.OverlappingIter.{Run, fresh_run, rest_of}
+use Rattle.ac_automaton.specs.InMemory.Iter.{Walk, fresh_walk, left_of}
+use Rattle.ac_automaton.specs.InMemory.Overlapping as overlapping
+use Rattle.ac_automaton.specs.declared.in_memory.overlapping.OverlappingState.{OverlappingState}
+use Rattle.ac_automaton.specs.InMemory.Overlapping.OverlappingIter.{Run, fresh_run, rest_of}
 use Rattle.aho_corasick.specs.declared.ahocorasick.AhoCorasick.{AhoCorasick}
 use Rattle.aho_corasick.specs.declared.ahocorasick.builder.AhoCorasickBuilder.{AhoCorasickBuilder}
 use Rattle.aho_corasick.specs.declared.engine.Engine.{Engine}

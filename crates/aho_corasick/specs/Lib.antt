@@ -13,18 +13,18 @@ pub use Rattle.ac_input.specs.Walk
 pub use Rattle.ac_input.specs.Work
 pub use Rattle.ac_literal.specs.Packed
 pub use Rattle.ac_automaton.specs.Automaton
-pub use Rattle.ac_automaton.specs.Items
-pub use Rattle.ac_automaton.specs.Iter
-pub use Rattle.ac_automaton.specs.Overlapping
-pub use Rattle.ac_automaton.specs.Overlapping.OverlappingIter
-pub use Rattle.ac_automaton.specs.Replace
+pub use Rattle.ac_automaton.specs.InMemory.Items
+pub use Rattle.ac_automaton.specs.InMemory.Iter
+pub use Rattle.ac_automaton.specs.InMemory.Overlapping
+pub use Rattle.ac_automaton.specs.InMemory.Overlapping.OverlappingIter
+pub use Rattle.ac_automaton.specs.InMemory.Replace
 pub use Rattle.ac_automaton.specs.Stream
-pub use Rattle.ac_automaton.specs.Stream.StreamIter
-pub use Rattle.ac_automaton.specs.Stream.StreamAnswer
-pub use Rattle.ac_automaton.specs.Stream.StreamPump
-pub use Rattle.ac_automaton.specs.Stream.StreamReplace
-pub use Rattle.ac_automaton.specs.Stream.StreamReplaceWith
-pub use Rattle.ac_automaton.specs.Devices.Watched
+pub use Rattle.ac_automaton.specs.Stream.Iter as StreamIter
+pub use Rattle.ac_automaton.specs.Stream.Answer as StreamAnswer
+pub use Rattle.ac_automaton.specs.Stream.Pump as StreamPump
+pub use Rattle.ac_automaton.specs.Stream.Replace as StreamReplace
+pub use Rattle.ac_automaton.specs.Stream.ReplaceWith as StreamReplaceWith
+pub use Rattle.ac_automaton.specs.Stream.Devices.Watched
 pub mod Engine
 pub mod EngineLaws
 pub mod AhoCorasick

@@ -4,7 +4,7 @@ use Rattle.std.specs.Global.{Global, Vec}
 use Rattle.std.specs.String.{string_bytes}
 use Rattle.std.specs.declared.alloc.AllocError.{AllocError}
 use Rattle.ac_input.specs.Occurrence.{Occurrence}
-use Rattle.ac_automaton.specs.Replace.{MemoryReplacer, IsReplacedWith, IsBrokenOff, matches_in, text_matches_in}
+use Rattle.ac_automaton.specs.InMemory.Replace.{MemoryReplacer, IsReplacedWith, IsBrokenOff, matches_in, text_matches_in}
 use Rattle.ac_input.specs.Text.{replaced_from}
 use Rattle.aho_corasick.specs.declared.ahocorasick.AhoCorasick.{AhoCorasick}
 use Rattle.aho_corasick.specs.AhoCorasick.{as_built}

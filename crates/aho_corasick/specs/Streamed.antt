@@ -2,9 +2,9 @@
 use Rattle.std.specs.Prelude.{◌≡◌, ℕ, List, ◌++◌, Option, IfSome}
 use Rattle.std.specs.Io.KnownBytes.{Appends}
 use Rattle.std.specs.List.{concat}
-use Rattle.ac_automaton.specs.declared.watched.Watched.{Watched}
+use Rattle.ac_automaton.specs.declared.stream.devices.watched.Watched.{Watched}
 use Rattle.aho_corasick.specs.declared.ahocorasick.AhoCorasick.{AhoCorasick}
-use Rattle.ac_automaton.specs.Replace.{matches_in}
+use Rattle.ac_automaton.specs.InMemory.Replace.{matches_in}
 use Rattle.ac_input.specs.Text.{replaced_from}
 use Rattle.aho_corasick.specs.AhoCorasick.{as_built}
 

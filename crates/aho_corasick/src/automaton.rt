@@ -4,6 +4,6 @@ pub use ac_automaton::iter::FindIter;
 pub use ac_automaton::overlapping::{FindOverlappingIter, OverlappingState, Position, Shown};
 pub use ac_automaton::search::Search;
 pub use ac_automaton::stream::overlapping::{ListPlace, Listed, StreamFindOverlappingIter};
-pub use ac_automaton::stream::{Progress, Searched, StreamFindIter};
+pub use ac_automaton::stream::{Progress, StreamFindIter};
 pub use ac_input::primitives::{StateID, StateIDError};
 pub use ac_literal::prefilter::{Candidate, Prefilter, PrefilterBuilder};

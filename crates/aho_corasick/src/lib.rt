@@ -23,7 +23,9 @@ mod shared;
 
 pub use ac_automaton::error::{MatchError, MatchErrorKind, ReplaceError, StreamError};
 pub use ac_automaton::iter::WalkPlace;
+pub use ac_automaton::output::Output;
 pub use ac_automaton::overlapping::OverlappingState;
+pub use ac_automaton::stream::sink::Sink;
 pub use ac_automaton::stream::{StreamKinds, StreamReplacer, StreamSearch};
 pub use ac_automaton::watched::{Watched, write_whole};
 pub use ac_input::alphabet::{

@@ -12,12 +12,12 @@ use Rattle.ac_input.specs.Laws.Utf8Laws.{AreFullTexts, KeepsChars}
 use Rattle.ac_input.specs.Occurrence.{Search, Occurrence, Occurs}
 use Rattle.ac_literal.specs.Packed.{in_whole}
 use Rattle.ac_automaton.specs.Automaton.{Built}
-use Rattle.ac_automaton.specs.Replace.{text_matches_in}
+use Rattle.ac_automaton.specs.InMemory.Replace.{text_matches_in}
 use Rattle.ac_automaton.specs.Stream.{Picks, StreamProgress, fresh_progress}
-use Rattle.ac_automaton.specs.Stream.StreamIter.{progress_of, reader_of}
-use Rattle.ac_automaton.specs.Stream.StreamReplace.{replaced_in}
+use Rattle.ac_automaton.specs.Stream.Iter.{progress_of, reader_of}
+use Rattle.ac_automaton.specs.Stream.Replace.{replaced_in}
 use Rattle.ac_automaton.specs.declared.stream.StreamIter.{StreamIter}
-use Rattle.ac_automaton.specs.declared.watched.Watched.{Watched}
+use Rattle.ac_automaton.specs.declared.stream.devices.watched.Watched.{Watched}
 use Rattle.aho_corasick.specs.AhoCorasick.{HasOccurrence}
 use Rattle.aho_corasick.specs.Callers.{first_in}
 

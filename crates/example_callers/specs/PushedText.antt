@@ -2,7 +2,7 @@
 use Rattle.std.specs.Prelude.{◌≡◌, Bool, false, true, ℕ, List, ◌++◌, None, Some}
 use Rattle.ac_automaton.specs.Automaton.{Built}
 use Rattle.ac_automaton.specs.Stream.{CanBeCounted, read_by}
-use Rattle.ac_automaton.specs.Stream.StreamReplacer.{GivesText, HandsOut, IsAllOut, IsReady, ReplacerProgress, handed_out}
+use Rattle.ac_automaton.specs.Stream.Replacer.{GivesText, HandsOut, IsAllOut, IsReady, ReplacerProgress, handed_out}
 
 -- the next slice of the text was appended; or there was none
 abbrev pub AppendsNext : ReplacerProgress → ReplacerProgress → List (List ℕ) → List ℕ → List ℕ → Bool → Type 0

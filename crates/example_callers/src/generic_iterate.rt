@@ -1,7 +1,7 @@
 //! Going over all matches, by any automaton.
 ghost use Rattle.std.specs.Prelude.{◌≡◌, ◌≤◌, length, IfOk};
 ghost use Rattle.ac_input.specs.declared.search.MatchKind.TheVariants.{Standard};
-ghost use Rattle.ac_automaton.specs.Replace.{matches_in};
+ghost use Rattle.ac_automaton.specs.InMemory.Replace.{matches_in};
 ghost use Rattle.example_callers.specs.Callers.{TwoLooks, bytes_in};
 
 use ac_automaton::error::{MatchError, ReplaceError};

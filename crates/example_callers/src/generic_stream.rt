@@ -2,9 +2,9 @@
 ghost use Rattle.std.specs.Prelude.{◌≡◌, ◌↔◌, ◌<◌, ◌++◌, false, length, map, take, IfOk, IfSome, IsTrue, OnOk};
 ghost use Rattle.std.specs.List.{concat};
 ghost use Rattle.ac_input.specs.declared.search.MatchKind.TheVariants.{Standard};
-ghost use Rattle.ac_automaton.specs.Replace.{matches_in};
+ghost use Rattle.ac_automaton.specs.InMemory.Replace.{matches_in};
 ghost use Rattle.ac_automaton.specs.Stream.{AreAllGiven, CanBeCounted, read_by};
-ghost use Rattle.ac_automaton.specs.Stream.StreamIter.{progress_of, reader_name, reader_of};
+ghost use Rattle.ac_automaton.specs.Stream.Iter.{progress_of, reader_name, reader_of};
 ghost use Rattle.example_callers.specs.Callers.{HasToRead, Rewrites, TwoLooks};
 
 use ac_automaton::error::StreamError;

@@ -1,7 +1,7 @@
 //! Every occurrence in a stream, by any automaton. Readers here are slices, whose bytes a contract can name.
 ghost use Rattle.std.specs.Prelude.{◌≡◌, false, IfOk, IfSome};
 ghost use Rattle.ac_automaton.specs.Stream.{AreAllGiven, CanBeCounted, Occurrences, items_of, read_by};
-ghost use Rattle.ac_automaton.specs.Stream.StreamIter.{progress_of, reader_name, reader_of};
+ghost use Rattle.ac_automaton.specs.Stream.Iter.{progress_of, reader_name, reader_of};
 
 use ac_automaton::search::Search;
 use ac_automaton::stream::overlapping::{StreamFindOverlappingIter, stream_find_overlapping_iter};

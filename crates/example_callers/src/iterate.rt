@@ -2,7 +2,7 @@
 ghost use Rattle.std.specs.Prelude.{◌≡◌, length, IfOk};
 ghost use Rattle.ac_input.specs.Same.{IsUnpaired};
 ghost use Rattle.ac_literal.specs.Packed.{search_kind};
-ghost use Rattle.ac_automaton.specs.Replace.{matches_in};
+ghost use Rattle.ac_automaton.specs.InMemory.Replace.{matches_in};
 ghost use Rattle.aho_corasick.specs.AhoCorasick.{as_built, supported_by};
 
 use ac_literal::packed::Searcher;

@@ -2,7 +2,7 @@
 ghost use Rattle.std.specs.Prelude.{◌≡◌, false, IfOk};
 ghost use Rattle.std.specs.List.{concat};
 ghost use Rattle.ac_literal.specs.Packed.{bytes_of};
-ghost use Rattle.ac_automaton.specs.Replace.{matches_in};
+ghost use Rattle.ac_automaton.specs.InMemory.Replace.{matches_in};
 ghost use Rattle.ac_automaton.specs.Stream.{CanBeCounted, read_by};
 ghost use Rattle.aho_corasick.specs.AhoCorasick.{as_built};
 ghost use Rattle.example_callers.specs.Pushed.{HasGathered, IsGathered, WentOn};

@@ -3,7 +3,7 @@
 ghost use Rattle.std.specs.Prelude.{◌≡◌, false, length, map, IfOk};
 ghost use Rattle.std.specs.List.{concat};
 ghost use Rattle.ac_automaton.specs.Stream.{CanBeCounted, read_by};
-ghost use Rattle.ac_automaton.specs.Stream.StreamReplace.{replaced_in};
+ghost use Rattle.ac_automaton.specs.Stream.Replace.{replaced_in};
 ghost use Rattle.aho_corasick.specs.AhoCorasick.{as_built, pattern_count};
 ghost use Rattle.example_callers.specs.PushedText.{AppendsDecided, AppendsNext, IsTextSoFar, TextWentOn};
 

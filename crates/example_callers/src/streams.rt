@@ -1,10 +1,10 @@
 //! Streams, under standard alone or under any kind. `Watched` wraps a reader or a writer, and knows whether a read ended it. Where a
 //! contract names the bytes, readers and writers are slices and `Vec`s.
 ghost use Rattle.std.specs.Prelude.{◌≡◌, ◌++◌, [], false, length, IfOk, OnOk};
-ghost use Rattle.ac_automaton.specs.Replace.{matches_in};
+ghost use Rattle.ac_automaton.specs.InMemory.Replace.{matches_in};
 ghost use Rattle.ac_automaton.specs.Stream.{read_by, Occurrences, items_of};
-ghost use Rattle.ac_automaton.specs.Stream.StreamIter.{progress_of};
-ghost use Rattle.ac_automaton.specs.Stream.StreamReplace.{IsStreamCost};
+ghost use Rattle.ac_automaton.specs.Stream.Iter.{progress_of};
+ghost use Rattle.ac_automaton.specs.Stream.Replace.{IsStreamCost};
 ghost use Rattle.aho_corasick.specs.AhoCorasick.{as_built, supported_by, pattern_count};
 ghost use Rattle.example_callers.specs.Callers.{Rewrites, TwoLooks};
 ghost use Rattle.aho_corasick.specs.Stream.{CanStream};

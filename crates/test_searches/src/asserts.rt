@@ -1,5 +1,5 @@
 //! What the tests of searches assert of results.
-ghost use Rattle.ac_automaton.specs.Overlapping.{CameFrom};
+ghost use Rattle.ac_automaton.specs.InMemory.Overlapping.{CameFrom};
 
 use ac_input::search::Input;
 use ac_input::steps::Steps;

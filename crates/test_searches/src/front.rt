@@ -3,7 +3,7 @@
 //! Every table is run by the front through the trait, as by each automaton (`engines`). Here some rows are run by the front's own
 //! calls, which take an input by value, and require a configuration or return an error; and rows that check which automaton
 //! serves.
-ghost use Rattle.ac_automaton.specs.Overlapping.{CanOverlap};
+ghost use Rattle.ac_automaton.specs.InMemory.Overlapping.{CanOverlap};
 ghost use Rattle.aho_corasick.specs.AhoCorasick.{as_built, supported_by};
 
 use crate::asserts::{equal, same};

@@ -15,7 +15,7 @@ use Rattle.ac_input.specs.declared.search.Anchored.TheVariants.{No}
 use Rattle.ac_input.specs.declared.steps.Steps.{Steps}
 use Rattle.ac_input.specs.Steps.{Done}
 use Rattle.ac_automaton.specs.Ahead.{Frees, IsAhead, IsNext, IsNote, IsPaid, Settles, StaysReadOnce, TakesEach, TakesTo, bytes_ahead, left_notes, noted_len, onward}
-use Rattle.ac_automaton.specs.Automaton.{Built, IsReached, IsReadCost, Leads, has_some, is_matching}
+use Rattle.ac_automaton.specs.Automaton.{Advances, Built, IsReached, IsReadCost, Leads, PassesPlain, has_some, is_matching}
 use Rattle.ac_automaton.specs.Skip.{ReadsPart}
 use Rattle.ac_automaton.specs.declared.ahead.Ahead.{Ahead}
 use Rattle.ac_automaton.specs.declared.ahead.Note.{Note}
@@ -23,7 +23,7 @@ use Rattle.ac_automaton.specs.declared.automaton.Advance.{Advance}
 use Rattle.ac_automaton.proofs.ahead.AheadLemmas.{left-first, left-over}
 use Rattle.ac_automaton.proofs.automaton.NamedLemmas.{cost-looks}
 use Rattle.ac_automaton.proofs.lemmas.CursorLemmas.{HasAdvanced, reached-on, take-more}
-use Rattle.ac_automaton.proofs.skip.ReadOnLemmas.{part-more}
+use Rattle.ac_automaton.proofs.skip.ReadOnLemmas.{cost-both, part-more, plain-both, read-both}
 use Rattle.ac_input.proofs.lemmas.SomeLemmas.{live-some}
 
 -- ---- what parts cost together
@@ -102,6 +102,40 @@ parts-join {b} {Reaches} {stops} {sid} {current} bytes from {read} {stop} {x} {s
           (sym (drop-drop read from bytes)) (omega (arith, inside, left))
           (part-then has.1.scanned has.1.moved part.2) has.2,
     )
+
+-- ---- some bytes were passed, and then it was read on
+
+module _ {b : Built} {Reaches : Anchored → List ℕ → StateID → Type 0} {anchored : Anchored} {stops : StateID → Bool}
+    {sid current : StateID} (bytes rest : List ℕ) {n : ℕ} {stop : Advance} {s t : Steps}
+    (is : rest ≡ drop n bytes) (some : 0 < n) (within : n ≤ length bytes)
+    (has : HasAdvanced b Reaches anchored stops sid bytes n current s t)
+    (goes : Advances (Reaches anchored) stops current rest stop) where
+  rest-len : length rest ≡ length bytes - n
+  rest-len = ap length is ∙ length-drop n bytes
+
+  -- it stops where it would have stopped from the first state
+  pub advances-on : Advances (Reaches anchored) stops sid bytes (record { sid = stop.sid; taken = n + stop.taken })
+  advances-on =
+      let R = Reaches anchored in
+      let size = rest-len in
+      let inside = goes.taken.0 in
+      record {
+        taken = (omega (arith, size, inside, within), λ _. omega (arith, some));
+        reads = read-both R sid current stop.sid bytes n stop.taken has.reads
+            (subst (λ l. Leads R current (take stop.taken l) stop.sid) is goes.reads);
+        plain = plain-both R sid current bytes n has.plain has.reads
+            (subst (λ l. PassesPlain R stops current l stop.taken) is goes.plain);
+        stops = λ lt. goes.stops (omega (arith, size, lt, within));
+      }
+
+  -- and both cost together what all the bytes cost
+  pub cost-on : {u : Steps} → IsReadCost b Reaches anchored current (take stop.taken rest) t u
+      → IsReadCost b Reaches anchored sid (take (n + stop.taken) bytes) s u
+  cost-on {u} cost =
+      let size = rest-len in
+      let inside = goes.taken.0 in
+      cost-both b Reaches sid current bytes n stop.taken (omega (arith, size, inside, within)) has.reads has.cost
+      (subst (λ l. IsReadCost b Reaches anchored current (take stop.taken l) t u) is cost)
 
 -- ---- a note is taken
 

@@ -206,10 +206,10 @@ following-none {m} {names} {sid} {byte} met = record {
 }
 
 -- one number more
-pub following-more : (m : Dictionary) (names : Naming) (start sid byte from looks fail : ℕ) → AreNumbers m names start
+pub following-more : {m : Dictionary} {names : Naming} {start sid byte from looks fail : ℕ} → AreNumbers m names start
     → IsFollowing m names sid byte from looks → IsStuck m names start from byte → IsFailureBy m names from fail
     → IsFollowing m names sid byte fail (looks + 1)
-following-more m names start sid byte from looks fail numbers h s failure =
+following-more {m} {names} {byte} {from} {fail} numbers h s failure =
     let some : s.text ≢ [] = λ e. s.apart (numbers.only from h.met (s.is ∙ ap Some e)) in
     let long = long-some names s.is in
     let fails = failure.fails s.text s.is in
@@ -299,14 +299,14 @@ followed-none m Fits start sid byte next steps edges nothing = record {
 }
 
 -- the failure of the number reached, with one look more
-followed-fail : (m : Dictionary) (Fits : Naming → Type 0) (start sid byte from fail : ℕ) (before after : Steps)
+followed-fail : {m : Dictionary} {Fits : Naming → Type 0} {start sid byte from : ℕ} (fail : ℕ) {before after : Steps}
     → (h : HasFollowed m Fits start sid byte from before after)
     → ((names : Naming) → Fits names → AreNumbers m names start)
     → OfNames Fits false from (λ names. IsFailureBy m names from fail)
     → OfNames Fits false sid (λ names. IsFollowing m names sid byte fail (h.looks + 1))
-followed-fail m Fits start sid byte from fail before after h numbers failures = λ names fits met.
+followed-fail fail h numbers failures = λ names fits met.
     let f = h.follows names fits met in
-    following-more m names start sid byte from h.looks fail (numbers names fits) f.0 f.1 (failures names fits f.0.met)
+    following-more (numbers names fits) f.0 f.1 (failures names fits f.0.met)
 
 -- one number more
 pub followed-more : (m : Dictionary) (Fits : Naming → Type 0) (start sid byte from fail next : ℕ)
@@ -324,7 +324,7 @@ followed-more m Fits start sid byte from fail next before between after h number
         moved = omega (arith, one.moved, h.counted.moved);
       };
   follows = λ names fits met.
-      let there = followed-fail m Fits start sid byte from fail before between h numbers failures names fits met in
+      let there = followed-fail fail h numbers failures names fits met in
       (there, stuck m names start fail byte next (edges names fits there.met) nothing, (h.follows names fits met).2);
 }
 
@@ -337,7 +337,7 @@ pub followed-end : (m : Dictionary) (Fits : Naming → Type 0) (start sid byte f
     → OfNames Fits false sid (λ names. IsPaidStep m names false 1 sid byte next before after)
 followed-end m Fits start sid byte from fail next before between after h numbers failures one edges some =
     λ names fits met.
-    let there = followed-fail m Fits start sid byte from fail before between h numbers failures names fits met in
+    let there = followed-fail fail h numbers failures names fits met in
     let count : Done (h.looks + 1) 0 0 before
     after = record {
       looked = omega (arith, one.looked, h.counted.looked);
@@ -402,7 +402,7 @@ failure-less : {m : Dictionary} {names : Naming} {start sid byte fail : ℕ} →
     → IsTrue (names.met false sid) → IsStuck m names start sid byte → IsFailureBy m names sid fail
     → text_len (names.text fail) + 1 ≤ text_len (names.text sid)
 failure-less {m} {names} {start} {sid} {byte} {fail} numbers met s failure =
-    let on = following-more m names start sid byte sid 0 fail numbers (following-none met) s failure in
+    let on = following-more numbers (following-none met) s failure in
     let paid = on.paid in
     omega (arith, paid)
 

@@ -108,10 +108,11 @@ tells-none No leads = (dead-tells).0 leads
 tells-none Yes leads = (dead-tells).1 leads
 
 -- the list of a number whose text leads to a state is the list of that state
-reached-list : (states : NamedStates) (anchored : Bool) (text state ns : List ℕ) (sid : ℕ) → AllNames states
+reached-list : (states : NamedStates) (anchored : Bool) (text : List ℕ) {state ns : List ℕ} (sid : ℕ)
+    → AllNames states
     → IsNumbered states anchored text sid → LeadsTo states.built.dictionary anchored text (Some state)
     → IsList states.built.dictionary state ns → ns ≡ states.matches sid
-reached-list states anchored text state ns sid all h leads list =
+reached-list states anchored text {state} {ns} sid all h leads list =
     ∥∥₁_elim h (Coded-set (coded_list coded_ℕ) ns (states.matches sid)) (λ w.
     let is = leads-one states.built.dictionary anchored text (w.0.text sid) (Some state) w.2.leads leads in
     list-one list (states.matches sid)
@@ -142,7 +143,7 @@ reached-tells states anchored text sid all h =
     by (Some state) leads =
         let ns = list-some in
         subst (Tells states.built.dictionary anchored text)
-        (reached-list states (is_anchored anchored) text state ns.0 sid all h leads ns.1)
+        (reached-list states (is_anchored anchored) text sid all h leads ns.1)
         (tells-some anchored ns.1 leads)
 
 -- it is decidable whether a number that isn't the dead state is special

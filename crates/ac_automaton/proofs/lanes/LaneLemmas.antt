@@ -33,21 +33,21 @@ walked-none Reaches stops bytes lane here same ordered inside reached =
     }
 
 -- a lane that begins has read nothing
-pub walked-begun : (Reaches : List ℕ → StateID → Type 0) (stops : StateID → Bool) (bytes : List ℕ) (at : ℕ)
-    (sid : StateID) (slots : ℕ) (lane : Lane) → LaneBegins at sid slots lane → lane.end ≤ length bytes
+pub walked-begun : (Reaches : List ℕ → StateID → Type 0) (stops : StateID → Bool) (bytes : List ℕ) {at : ℕ}
+    {sid : StateID} {slots : ℕ} {lane : Lane} → LaneBegins at sid slots lane → lane.end ≤ length bytes
     → IsReached Reaches sid → HasWalked Reaches stops bytes lane
-walked-begun Reaches stops bytes at sid slots lane begun inside reached =
+walked-begun Reaches stops bytes {at} {sid} {lane} begun inside reached =
     let some : at ≤ lane.end = begun.some in
     subst (HasWalked Reaches stops bytes) (sym begun.is)
     (walked-none Reaches stops bytes (lane_from at sid lane.end lane.slot lane.slots) refl refl some inside reached)
 
 -- a lane reads one byte more
-pub walked-byte : (Reaches : List ℕ → StateID → Type 0) (stops : StateID → Bool) (bytes : List ℕ) (before after : Lane)
-    → HasWalked Reaches stops bytes before → before.at < length bytes
+pub walked-byte : {Reaches : List ℕ → StateID → Type 0} {stops : StateID → Bool} {bytes : List ℕ} {before : Lane}
+    (after : Lane) → HasWalked Reaches stops bytes before → before.at < length bytes
     → Leads Reaches before.sid (get_or bytes before.at 0 ∷ []) after.sid
     → after.from ≡ before.from → after.first ≡ before.first → after.at ≡ before.at + 1
     → WalkedTo Reaches stops bytes after
-walked-byte Reaches stops bytes before after walked within leads from first at =
+walked-byte {Reaches} {stops} {bytes} {before} after walked within leads from first at =
     let to = walked.to in
     let ordered = to.ordered in
     let n : ℕ = before.at - before.from in
@@ -112,7 +112,7 @@ module _ (Reaches : List ℕ → StateID → Type 0) (bytes : List ℕ) (last : 
       → lane.at + read < length bytes → Leads Reaches current (get_or bytes (lane.at + read) 0 ∷ []) next
       → WalkedTo Reaches (is_up_to last) bytes (after (read + 1) next)
   turn-byte read current next walked within leads =
-      walked-byte Reaches (is_up_to last) bytes (after read current) (after (read + 1) next) walked within leads refl
+      walked-byte (after (read + 1) next) walked within leads refl
       refl (omega arith)
 
   -- after the byte the lane goes on, if its state is past the last one,
@@ -163,11 +163,11 @@ past-quiet : (matches : StateID → List ℕ) (last sid : StateID) → ((i : Sta
 past-quiet matches last sid quiet past e = false≢true (ap has_some (sym (quiet sid (up_to-past last sid past))) ∙ e)
 
 -- the bytes that a lane has read since its last note make a note
-pub walked-note : (Reaches : List ℕ → StateID → Type 0) (matches : StateID → List ℕ) (bytes : List ℕ) (lane : Lane)
-    (last : StateID)
-    → ((i : StateID) → last < i → matches i ≡ []) → WalkedTo Reaches (is_up_to last) bytes lane → lane.from < lane.at
+pub walked-note : {Reaches : List ℕ → StateID → Type 0} (matches : StateID → List ℕ) {bytes : List ℕ} {lane : Lane}
+    (last : StateID) → ((i : StateID) → last < i → matches i ≡ []) → WalkedTo Reaches (is_up_to last) bytes lane
+    → lane.from < lane.at
     → IsNote Reaches matches bytes (note_of lane)
-walked-note Reaches matches bytes lane last quiet to more =
+walked-note matches last quiet to more =
     let ordered = to.ordered in
     let within = to.within in
     record {

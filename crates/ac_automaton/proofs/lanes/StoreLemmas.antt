@@ -47,12 +47,20 @@ part-same notes from n at note where' = ⊎_elim
     where'
 
 -- storing keeps the number of places
-pub length-stores : (P : Type 0) (next : StateID) (old new : List Note) (before after : Lane)
+pub length-stores : {P : Type 0} {next : StateID} {old new : List Note} {before after : Lane}
     → StoresIf P next old new before after → length new ≡ length old
-length-stores P next old new before after s = ⊎_elim
+length-stores {P} {old} {before} s = ⊎_elim
     (λ (p : P). ap length (s.stores p).notes ∙ length-set old before.slot (note_of before))
     (λ (none : ¬ P). ap length (s.keeps none).0)
     s.either
+
+-- one lane after another stores a note, if a condition holds of it, and goes on from a state
+pub record StoreInTurn (P : Lane → Type 0) (next : Lane → StateID) (n0 n1 n2 n3 n4 : List Note)
+    (lanes after : Lanes) : Type 0 where
+  pub a : StoresIf (P lanes.a) (next lanes.a) n0 n1 lanes.a after.a
+  pub b : StoresIf (P lanes.b) (next lanes.b) n1 n2 lanes.b after.b
+  pub c : StoresIf (P lanes.c) (next lanes.c) n2 n3 lanes.c after.c
+  pub d : StoresIf (P lanes.d) (next lanes.d) n3 n4 lanes.d after.d
 
 module _ (Reaches : List ℕ → StateID → Type 0) (matches : StateID → List ℕ) (anew : Option StateID) (sure : Type 0)
     (bytes : List ℕ) where
@@ -164,20 +172,18 @@ module _ (Reaches : List ℕ → StateID → Type 0) (matches : StateID → List
   -- the four lanes store notes, one after another
   pub all-noted : (P : Lane → Type 0) (next : Lane → StateID) (n0 n1 n2 n3 n4 : List Note) (begun lanes after : Lanes)
       → HaveOwnNotes begun → EachLane (λ lane. P lane → MayStore (next lane) (length n0) lane) lanes
-      → StoresIf (P lanes.a) (next lanes.a) n0 n1 lanes.a after.a
-      → StoresIf (P lanes.b) (next lanes.b) n1 n2 lanes.b after.b
-      → StoresIf (P lanes.c) (next lanes.c) n2 n3 lanes.c after.c
-      → StoresIf (P lanes.d) (next lanes.d) n3 n4 lanes.d after.d
+      → StoreInTurn P next n0 n1 n2 n3 n4 lanes after
       → EachPair (HasNoted Reaches matches anew sure bytes n0) begun lanes
       → EachPair (HasNoted Reaches matches anew sure bytes n4) begun after
-  all-noted P next n0 n1 n2 n3 n4 begun lanes after apart may sa sb sc sd noted =
+  all-noted P next n0 n1 n2 n3 n4 begun lanes after apart may stored noted =
+      let sa = stored.a in let sb = stored.b in let sc = stored.c in let sd = stored.d in
       let ab : begun.a.slots ≤ begun.b.slot = apart.0 in
       let bc : begun.b.slots ≤ begun.c.slot = apart.1 in
       let cd : begun.c.slots ≤ begun.d.slot = apart.2 in
       let a0 = noted.a.slots in let b0 = noted.b.slots in let c0 = noted.c.slots in let d0 = noted.d.slots in
-      let one = length-stores (P lanes.a) (next lanes.a) n0 n1 lanes.a after.a sa in
-      let two = length-stores (P lanes.b) (next lanes.b) n1 n2 lanes.b after.b sb in
-      let three = length-stores (P lanes.c) (next lanes.c) n2 n3 lanes.c after.c sc in
+      let one = length-stores sa in
+      let two = length-stores sb in
+      let three = length-stores sc in
       let at_a = other (P lanes.a) (next lanes.a) n0 n1 lanes.a after.a in
       let at_b = other (P lanes.b) (next lanes.b) n1 n2 lanes.b after.b in
       let at_c = other (P lanes.c) (next lanes.c) n2 n3 lanes.c after.c in

@@ -14,21 +14,32 @@ use Rattle.ac_automaton.specs.declared.lanes.Lanes.{Lanes}
 use Rattle.ac_automaton.proofs.lanes.ChainLemmas.{onward-match, onward-quiet}
 use Rattle.ac_automaton.proofs.lanes.CountLemmas.{read-join}
 use Rattle.ac_automaton.proofs.lanes.LaneLemmas.{up_to-past, walked-none, walked-note, walked-on}
-use Rattle.ac_automaton.proofs.lanes.StoreLemmas.{MayStore, all-noted}
+use Rattle.ac_automaton.proofs.lanes.StoreLemmas.{MayStore, all-noted, StoreInTurn}
 
 -- ---- a lane that stores a note stands where it did
 
-pub stays : (P : Type 0) (next : StateID) (old new : List Note) (before after : Lane)
+stays : (P : Type 0) (next : StateID) (old new : List Note) (before after : Lane)
     → StoresIf P next old new before after → (after.at ≡ before.at) × (after.end ≡ before.end)
 stays P next old new before after s = ⊎_elim
     (λ (p : P). let e = (s.stores p).lane in (ap (λ l. l.at) e, ap (λ l. l.end) e))
     (λ (none : ¬ P). let e = (s.keeps none).1 in (ap (λ l. l.at) e, ap (λ l. l.end) e))
     s.either
 
+-- so do all four
+pub stay-all : {P : Lane → Type 0} {next : Lane → StateID} {n0 n1 n2 n3 n4 : List Note} {lanes after : Lanes}
+    → StoreInTurn P next n0 n1 n2 n3 n4 lanes after
+    → EachPair (λ one other. (other.at ≡ one.at) × (other.end ≡ one.end)) lanes after
+stay-all stored = record {
+  a = stays _ _ _ _ _ _ stored.a;
+  b = stays _ _ _ _ _ _ stored.b;
+  c = stays _ _ _ _ _ _ stored.c;
+  d = stays _ _ _ _ _ _ stored.d;
+}
+
 -- so what the lanes have read is the same after it
-pub stays-last : (begun before after : Lanes) (s t : Steps) → HaveRead begun before s t
+pub stays-last : {begun before after : Lanes} {s t : Steps} → HaveRead begun before s t
     → EachPair (λ one other. (other.at ≡ one.at) × (other.end ≡ one.end)) before after → HaveRead begun after s t
-stays-last begun before after s t one same =
+stays-last one same =
     let each = one.each in
     record {
       read = one.read;
@@ -37,11 +48,11 @@ stays-last begun before after s t one same =
     }
 
 -- and after they have read on before it
-pub stays-read : (begun before gone after : Lanes) (s t u : Steps) → HaveRead begun before s t
+pub stays-read : {begun before gone after : Lanes} {s t u : Steps} → HaveRead begun before s t
     → HaveRead before gone t u → EachPair (λ one other. (other.at ≡ one.at) × (other.end ≡ one.end)) gone after
     → HaveRead begun after s u
-stays-read begun before gone after s t u one two same =
-    stays-last begun gone after s u (read-join begun before gone s t u one two) same
+stays-read one two same =
+    stays-last (read-join one two) same
 
 -- the state from which a lane goes on after a match is reached
 next-reached : (Reaches : List ℕ → StateID → Type 0) (anew : Option StateID) (sid : StateID) → IfSome anew (Reaches [])
@@ -89,7 +100,7 @@ module _ (Reaches : List ℕ → StateID → Type 0) (matches : StateID → List
         room = omega (arith, room, slot, slots);
         own = omega (arith, own, slots);
         some = omega (arith, ordered, on, from);
-        is = walked-note Reaches matches bytes gone last quiet went.to (omega (arith, ordered, on, from));
+        is = walked-note matches last quiet went.to (omega (arith, ordered, on, from));
         on = λ s. sym (onward-match matches anew gone.sid (some s gone.sid went.to.reached stops));
       }
 
@@ -138,7 +149,7 @@ module _ (Reaches : List ℕ → StateID → Type 0) (matches : StateID → List
     room = p.1;
     own = own;
     some = p.0;
-    is = walked-note Reaches matches bytes lane last quiet walked.to p.0;
+    is = walked-note matches last quiet walked.to p.0;
     on = λ s. sym (onward-quiet matches anew (quiet lane.sid (up_to-past last lane.sid (walked.quiet p.0))));
   }
 
@@ -181,12 +192,9 @@ module _ (Reaches : List ℕ → StateID → Type 0) (matches : StateID → List
     -- the lanes have gone on, and settle
     pub turn-noted : (gone : Lanes) (len : ℕ) → 0 < len → HaveRoomFor len lanes
         → HaveGone Reaches (is_up_to last) bytes lanes gone
-        → StoresIf (gone.a.sid ≤ last) (unwrap_or anew gone.a.sid) n0 n1 gone.a after.a
-        → StoresIf (gone.b.sid ≤ last) (unwrap_or anew gone.b.sid) n1 n2 gone.b after.b
-        → StoresIf (gone.c.sid ≤ last) (unwrap_or anew gone.c.sid) n2 n3 gone.c after.c
-        → StoresIf (gone.d.sid ≤ last) (unwrap_or anew gone.d.sid) n3 n4 gone.d after.d
+        → StoreInTurn (λ lane. lane.sid ≤ last) (λ lane. unwrap_or anew lane.sid) n0 n1 n2 n3 n4 gone after
         → EachPair (HasNoted Reaches matches anew sure bytes n4) begun after
-    turn-noted gone len left_some left went sa sb sc sd =
+    turn-noted gone len left_some left went stored =
         all-noted Reaches matches anew sure bytes (λ lane. lane.sid ≤ last) (λ lane. unwrap_or anew lane.sid) n0 n1 n2
         n3 n4 begun gone after apart
         (record {
@@ -195,7 +203,7 @@ module _ (Reaches : List ℕ → StateID → Type 0) (matches : StateID → List
           c = gone-may lanes.c gone.c (length n0) walked.c went.c (left.c left_some).0 own.c;
           d = gone-may lanes.d gone.d (length n0) walked.d went.d (left.d left_some).0 own.d;
         })
-        sa sb sc sd
+        stored
         (record {
           a = gone-noted n0 begun.a lanes.a gone.a went.a (left.a left_some).0 noted.a;
           b = gone-noted n0 begun.b lanes.b gone.b went.b (left.b left_some).0 noted.b;
@@ -205,25 +213,19 @@ module _ (Reaches : List ℕ → StateID → Type 0) (matches : StateID → List
 
     -- they walk on
     pub turn-walked : (gone : Lanes) → IfSome anew (Reaches []) → HaveGone Reaches (is_up_to last) bytes lanes gone
-        → StoresIf (gone.a.sid ≤ last) (unwrap_or anew gone.a.sid) n0 n1 gone.a after.a
-        → StoresIf (gone.b.sid ≤ last) (unwrap_or anew gone.b.sid) n1 n2 gone.b after.b
-        → StoresIf (gone.c.sid ≤ last) (unwrap_or anew gone.c.sid) n2 n3 gone.c after.c
-        → StoresIf (gone.d.sid ≤ last) (unwrap_or anew gone.d.sid) n3 n4 gone.d after.d
+        → StoreInTurn (λ lane. lane.sid ≤ last) (λ lane. unwrap_or anew lane.sid) n0 n1 n2 n3 n4 gone after
         → HaveWalked Reaches (is_up_to last) bytes after
-    turn-walked gone begins went sa sb sc sd = record {
-      a = settled-walked n0 n1 lanes.a gone.a after.a begins walked.a went.a sa;
-      b = settled-walked n1 n2 lanes.b gone.b after.b begins walked.b went.b sb;
-      c = settled-walked n2 n3 lanes.c gone.c after.c begins walked.c went.c sc;
-      d = settled-walked n3 n4 lanes.d gone.d after.d begins walked.d went.d sd;
+    turn-walked gone begins went stored = record {
+      a = settled-walked n0 n1 lanes.a gone.a after.a begins walked.a went.a stored.a;
+      b = settled-walked n1 n2 lanes.b gone.b after.b begins walked.b went.b stored.b;
+      c = settled-walked n2 n3 lanes.c gone.c after.c begins walked.c went.c stored.c;
+      d = settled-walked n3 n4 lanes.d gone.d after.d begins walked.d went.d stored.d;
     }
 
     -- they store their last notes
-    pub last-noted : StoresIf (HasMore lanes.a) lanes.a.sid n0 n1 lanes.a after.a
-        → StoresIf (HasMore lanes.b) lanes.b.sid n1 n2 lanes.b after.b
-        → StoresIf (HasMore lanes.c) lanes.c.sid n2 n3 lanes.c after.c
-        → StoresIf (HasMore lanes.d) lanes.d.sid n3 n4 lanes.d after.d
+    pub last-noted : StoreInTurn HasMore (λ lane. lane.sid) n0 n1 n2 n3 n4 lanes after
         → EachPair (HasNoted Reaches matches anew sure bytes n4) begun after
-    last-noted sa sb sc sd =
+    last-noted stored =
         all-noted Reaches matches anew sure bytes HasMore (λ lane. lane.sid) n0 n1 n2 n3 n4 begun lanes after apart
         (record {
           a = last-may lanes.a (length n0) walked.a own.a;
@@ -231,4 +233,4 @@ module _ (Reaches : List ℕ → StateID → Type 0) (matches : StateID → List
           c = last-may lanes.c (length n0) walked.c own.c;
           d = last-may lanes.d (length n0) walked.d own.d;
         })
-        sa sb sc sd noted
+        stored noted

@@ -27,29 +27,29 @@ use Rattle.ac_input.proofs.lemmas.ShiftLemmas.{back_by}
 use Rattle.ac_input.proofs.lemmas.SpanLemmas.{occurs-in_whole_of_span}
 use Rattle.ac_input.proofs.lemmas.StateLemmas.{standard-entered}
 use Rattle.ac_automaton.specs.Automaton.{Built}
-use Rattle.ac_automaton.specs.Find.{IsUsable, MayGoOnFrom}
-use Rattle.ac_automaton.specs.declared.overlapping.Position.{Position}
-use Rattle.ac_automaton.specs.declared.overlapping.Position.TheVariants.{At, Over}
-use Rattle.ac_automaton.specs.declared.cursor.End.{End}
-use Rattle.ac_automaton.specs.declared.cursor.End.TheVariants.{Found, Idle}
-use Rattle.ac_automaton.specs.declared.overlapping.Shown.{Shown}
-use Rattle.ac_automaton.specs.Overlapping.{ending_from, occurrences_from, ShowsFirst, ReadsOn, IsPast, IsPaidTo, IsPaidAt, IsPaidBy, IsSkipCost, KeepsBudget, OnlyLooked, come_to, read_on_to}
-use Rattle.ac_automaton.specs.Overlapping.OverlappingSearch.{BeginsAt, IsScanFor}
-use Rattle.ac_automaton.specs.Cursor.{read_to, counts}
-use Rattle.ac_automaton.proofs.find.FindLemmas.{occurs_before, occurs_behind, match-goes_on}
+use Rattle.ac_automaton.specs.InMemory.Find.{IsUsable, MayGoOnFrom}
+use Rattle.ac_automaton.specs.declared.in_memory.overlapping.Position.{Position}
+use Rattle.ac_automaton.specs.declared.in_memory.overlapping.Position.TheVariants.{At, Over}
+use Rattle.ac_automaton.specs.declared.in_memory.find.cursor.End.{End}
+use Rattle.ac_automaton.specs.declared.in_memory.find.cursor.End.TheVariants.{Found, Idle}
+use Rattle.ac_automaton.specs.declared.in_memory.overlapping.Shown.{Shown}
+use Rattle.ac_automaton.specs.InMemory.Overlapping.{ending_from, occurrences_from, ShowsFirst, ReadsOn, IsPast, IsPaidTo, IsPaidAt, IsPaidBy, IsSkipCost, KeepsBudget, OnlyLooked, come_to, read_on_to}
+use Rattle.ac_automaton.specs.InMemory.Overlapping.OverlappingSearch.{BeginsAt, IsScanFor}
+use Rattle.ac_automaton.specs.InMemory.Find.Cursor.{read_to, counts}
+use Rattle.ac_automaton.proofs.in_memory.find.FindLemmas.{occurs_before, occurs_behind, match-goes_on}
 use Rattle.ac_automaton.proofs.lemmas.CursorLemmas.{slice_range-split}
-use Rattle.ac_automaton.proofs.overlapping.OverlappingLemmas.{IsPlace, ListsAll-like, ending_from-lists, ending_from-start, ending_from-split, read_to-length, told-lists}
-use Rattle.ac_automaton.proofs.overlapping.OverlappingStateLemmas.{read_to-start}
-use Rattle.ac_automaton.proofs.overlapping.OverlappingReadLemmas.{paid-start, paid-to, shows-none, occurrences_from-empty}
+use Rattle.ac_automaton.proofs.in_memory.overlapping.OverlappingLemmas.{IsPlace, ListsAll-like, ending_from-lists, ending_from-start, ending_from-split, read_to-length, told-lists}
+use Rattle.ac_automaton.proofs.in_memory.overlapping.OverlappingStateLemmas.{read_to-start}
+use Rattle.ac_automaton.proofs.in_memory.overlapping.OverlappingReadLemmas.{paid-start, paid-to, shows-none, occurrences_from-empty}
 
 -- ---- where the walk is back at the start
 
 -- An occurrence in a longer text that reaches the end of the first text begins no earlier than the first text's live
 -- part.
-live-no_before : (m : Dictionary) (text more : List ℕ) (from : ℕ) (o : Occurrence) → m.kind ≡ Standard
+live-no_before : (m : Dictionary) (text more : List ℕ) (from : ℕ) {o : Occurrence} → m.kind ≡ Standard
     → IsLive m false text (Some from) → Occurs (whole m (text ++ more) false) o → o.start ≤ length text
     → length text ≤ o.end → from ≤ o.start
-live-no_before m text more from o standard live h inside past =
+live-no_before m text more from {o} standard live h inside past =
     live.1 o.start (record {
       within = inside;
       begins = entered-begins text more h (standard-entered m standard h.same.1) inside past;
@@ -58,9 +58,9 @@ live-no_before m text more from o standard live h inside past =
     })
 
 -- where no byte read so far is live, an occurrence that ends here or later also begins here or later
-back-begins : (m : Dictionary) (s : Search) (at : ℕ) (o : Occurrence) → IsPlace m No s at
+back-begins : {m : Dictionary} {s : Search} {at : ℕ} {o : Occurrence} → IsPlace m No s at
     → IsLive m false (read_to s at) (Some (length (read_to s at))) → Occurs s o → at ≤ o.end → at ≤ o.start
-back-begins m s at o is live h past =
+back-begins {m} {s} {at} {o} is live h past =
     ⊎_elim
     (λ (later : at < o.start). let r : at ≤ o.start = omega arith in r)
     (λ (le : o.start ≤ at).
@@ -76,22 +76,22 @@ back-begins m s at o is live h past =
     subst (λ b. Occurs (whole m (read_to s s.end) b) (back_by s.start o)) is.anchor there.0 in
     let occurs : Occurs (whole m (text ++ rest) false) (back_by s.start o) =
     subst (λ t. Occurs (whole m t false) (back_by s.start o)) whole_text unanchored in
-    let le2 = live-no_before m text rest (length text) (back_by s.start o) is.standard live occurs (omega arith)
+    let le2 = live-no_before m text rest (length text) is.standard live occurs (omega arith)
     (omega arith) in
     omega arith)
     (cases_lt at o.start)
 
 -- Where no byte read so far is live, the occurrences that end here or later are those of the search that starts here.
-pub ending_from-back : (m : Dictionary) (s : Search) (at : ℕ) → IsPlace m No s at
+pub ending_from-back : {m : Dictionary} {s : Search} {at : ℕ} → IsPlace m No s at
     → IsLive m false (read_to s at) (Some (length (read_to s at))) → ending_from s at ≡ listing_of (starting_at s at)
-ending_from-back m s at is live =
+ending_from-back {s} {at} is live =
     let free : s.anchored ≡ false = is.anchor in
     let g = is.from in
     ListsAll-unique (ending_from-lists s at is.inside)
     (ListsAll-like (Occurs (starting_at s at)) (λ o. Occurs s o × (at ≤ o.end)) (listing_of (starting_at s at))
     (λ o. (
       λ h. (occurs_before s at o free g h, let w = h.within in omega arith),
-      λ h. occurs_behind s at o free (back-begins m s at o is live h.0 h.1) h.0,
+      λ h. occurs_behind s at o free (back-begins is live h.0 h.1) h.0,
     ))
     (listing_of-lists is.inside))
 
@@ -127,8 +127,8 @@ start-empty m s at here ns is tells none begins =
       to = is.to;
       inside = is.inside;
     } in
-    let ends = told-lists m No s at here is tells in
-    let all = told-lists m No t at ns place (subst (λ text. Tells m No text ns) (sym (read_to-start t)) begins) in
+    let ends = told-lists here is tells in
+    let all = told-lists ns place (subst (λ text. Tells m No text ns) (sym (read_to-start t)) begins) in
     let nothing : (o : Occurrence) → Contains (occurrences_from m t at ns 0) o → ⊥ = λ o c.
     let h = (all.1 o).0 c in
     Contains-nil (subst (λ os. Contains os o) none ((ends.1 o).1 (occurs_before s at o free g h.0, h.1))) in
@@ -146,9 +146,9 @@ over-reads Reaches matches m s at left r none found place =
 -- ---- where a prefilter points
 
 -- where nothing begins before a place, the listing from that place is the whole listing
-listing-skip : (s : Search) (at : ℕ) → s.anchored ≡ false → s.end ≤ length s.haystack → MayGoOnFrom s at
+listing-skip : {s : Search} {at : ℕ} → s.anchored ≡ false → s.end ≤ length s.haystack → MayGoOnFrom s at
     → listing_of s ≡ listing_of (starting_at s at)
-listing-skip s at free inside here =
+listing-skip {s} {at} free inside here =
     ListsAll-unique (listing_of-lists inside)
     (ListsAll-like (Occurs (starting_at s at)) (Occurs s) (listing_of (starting_at s at))
     (λ o. (λ h. occurs_before s at o free here.behind h, λ h. occurs_behind s at o free (here.none o h) h))
@@ -201,18 +201,18 @@ candidate-begins kind s c None h e = candidate-none kind s c h (sym e)
 candidate-begins kind s c (Some at) h e = candidate-before kind s c at h (sym e)
 
 -- the places that a scan covers lie in the span
-scan-within : (bytes : List ℕ) (s : Search) (places : ℕ) (c : Candidate) → s.start ≤ s.end → IsScan bytes s places c
+scan-within : {bytes : List ℕ} {s : Search} {places : ℕ} {c : Candidate} → s.start ≤ s.end → IsScan bytes s places c
     → s.start + places ≤ s.end
-scan-within bytes s places c ordered scan = by scan.found scan.first scan.exact
+scan-within {bytes} {s} {places} ordered scan = by scan.found scan.first scan.exact
   where
     by : (found : Option ℕ) → IsFirstOf bytes s found → places ≡ scan_len s found → s.start + places ≤ s.end
     by None first exact = omega arith
     by (Some place) first exact = let lt = first.1 in let le = first.0 in omega arith
 
 -- the last place that a scan covers is at most 254 after its candidate
-scan-near : (bytes : List ℕ) (s : Search) (places : ℕ) (c : Candidate) (at : ℕ) → IsScan bytes s places c
+scan-near : {bytes : List ℕ} {s : Search} {places : ℕ} {c : Candidate} (at : ℕ) → IsScan bytes s places c
     → start_of c ≡ Some at → s.start + places ≤ at + 255
-scan-near bytes s places c at scan e = by scan.found scan.first scan.exact scan.near
+scan-near {bytes} {s} {places} {c} at scan e = by scan.found scan.first scan.exact scan.near
   where
     by : (found : Option ℕ) → IsFirstOf bytes s found → places ≡ scan_len s found → IsNearFound found c
         → s.start + places ≤ at + 255
@@ -226,13 +226,14 @@ scan-near bytes s places c at scan e = by scan.found scan.first scan.exact scan.
 pub scanned-in_span : (needles : List ℕ) (s : Search) (places : ℕ) (c : Candidate) → s.start ≤ s.end
     → IsScanned needles s places c → s.start + places ≤ s.end
 scanned-in_span [] s places c ordered none = omega arith
-scanned-in_span (b ∷ bs) s places c ordered scan = scan-within (b ∷ bs) s places c ordered scan
+scanned-in_span (b ∷ bs) s places c ordered scan = scan-within ordered scan
 
 -- the last place that is counted as scanned is at most 254 after the candidate
-pub scanned-near : (needles : List ℕ) (s : Search) (places : ℕ) (c : Candidate) (at : ℕ) → IsScanned needles s places c
+pub scanned-near : (needles : List ℕ) {s : Search} (places : ℕ) (c : Candidate) {at : ℕ}
+    → IsScanned needles s places c
     → MayGoOnFrom s at → start_of c ≡ Some at → s.start + places ≤ at + 255
-scanned-near [] s places c at none here e = let g = here.behind in omega arith
-scanned-near (b ∷ bs) s places c at scan here e = scan-near (b ∷ bs) s places c at scan e
+scanned-near [] places c none here e = let g = here.behind in omega arith
+scanned-near (b ∷ bs) places c {at} scan here e = scan-near at scan e
 
 -- ---- what is paid
 
@@ -280,14 +281,14 @@ scans-paid Reaches matches m s at from places left (Idle to) le within near h = 
 
 -- The cost of a candidate's scan and of the walk from there is within that of a search by candidates.
 pub candidate-read : (Reaches : List ℕ → StateID → Type 0) (matches : StateID → List ℕ) (m : Dictionary)
-    (deterministic : Bool) (s : Search) (at from : ℕ) (left : List Occurrence) (reading : End Shown) (x y z : Steps)
+    (deterministic : Bool) (s : Search) {at from : ℕ} (left : List Occurrence) (reading : End Shown) {x y z : Steps}
     → s.start ≤ at → s.end ≤ length s.haystack → MayGoOnFrom (starting_at s at) from
     → IsScanFor at s.end (Some from) x y
     → ReadsOn Reaches matches m s from left reading
     → ((looks more : ℕ) → IsPaidAt m deterministic s from from looks → looks + z.looked.value ≡ more + y.looked.value
     → IsPaidBy m deterministic s reading more)
     → OnlyLooked y z → IsSkipCost m deterministic s at reading x z
-candidate-read Reaches matches m deterministic s at from left reading x y z g fits before scan reads pays only =
+candidate-read Reaches matches m deterministic s {at} {from} left reading {x} {y} g fits before scan reads pays only =
     let le = before.behind in
     let inside = before.within in
     let looked = scan.looked in
@@ -333,12 +334,12 @@ searched_on-first deterministic s at x le = record {
 }
 
 -- A further walk that ends back at the start takes the search on to that place.
-pub searched_on-further : (Reaches : List ℕ → StateID → Type 0) (matches : StateID → List ℕ) (m : Dictionary)
-    (deterministic : Bool) (s : Search) (at place to : ℕ) (x y z : Steps)
+pub searched_on-further : (Reaches : List ℕ → StateID → Type 0) (matches : StateID → List ℕ) {m : Dictionary}
+    {deterministic : Bool} {s : Search} {at place : ℕ} (to : ℕ) {x y z : Steps}
     → HasSkippedTo deterministic s at place x y
     → ReadsOn Reaches matches m s place (listing_of (starting_at s place)) (Idle to)
     → IsSkipCost m deterministic s place (Idle to) y z → HasSkippedTo deterministic s at to x z
-searched_on-further Reaches matches m deterministic s at place to x y z searched_on reads cost =
+searched_on-further Reaches matches to {x} {y} searched_on reads cost =
     let le = searched_on.behind in
     let lt = reads.0 in
     let one = searched_on.rose in
@@ -356,12 +357,12 @@ searched_on-further Reaches matches m deterministic s at place to x y z searched
     }
 
 -- what the last walk shows is what the search shows, and its total cost is paid for
-pub searched_on-shows : (Reaches : List ℕ → StateID → Type 0) (matches : StateID → List ℕ) (m : Dictionary)
-    (deterministic : Bool) (s : Search) (at place : ℕ) (shown : Shown) (x y z : Steps)
+pub searched_on-shows : (Reaches : List ℕ → StateID → Type 0) (matches : StateID → List ℕ) {m : Dictionary}
+    {deterministic : Bool} {s : Search} {at place : ℕ} (shown : Shown) {x y z : Steps}
     → HasSkippedTo deterministic s at place x y
     → ReadsOn Reaches matches m s place (listing_of (starting_at s place)) (Found shown)
     → IsSkipCost m deterministic s place (Found shown) y z → IsSkipCost m deterministic s at (Found shown) x z
-searched_on-shows Reaches matches m deterministic s at place shown x y z searched_on reads cost =
+searched_on-shows Reaches matches {s} {place} shown {x} {y} searched_on reads cost =
     let le = searched_on.behind in
     let come = come-behind s place shown.place searched_on.within reads.1 in
     let one = searched_on.rose in
@@ -394,11 +395,10 @@ pays-walk m deterministic s sid from at r x y le behind pays only =
     }
 
 -- a call that goes by candidates at once, having read nothing, stays within the budget
-pub pays-candidates : (m : Dictionary) (deterministic : Bool) (s : Search) (sid : StateID) (from at : ℕ) (r : Shown)
-    (x y : Steps)
-    → s.start ≤ at → at ≤ s.end → IsPast at r.place
+pub pays-candidates : {m : Dictionary} {deterministic : Bool} {s : Search} (sid : StateID) (from : ℕ) {at : ℕ}
+    (r : Shown) {x y : Steps} → s.start ≤ at → at ≤ s.end → IsPast at r.place
     → IsSkipCost m deterministic s at (Found r) x y → KeepsBudget m deterministic s (At sid from at 0) r.place x y
-pays-candidates m deterministic s sid from at r x y g le behind cost =
+pays-candidates {m} {deterministic} {s} sid from {at} r g le behind cost =
     let come = come-behind s at r.place le behind in
     record {
       looks = λ looks more paid e. cost.looks looks more
@@ -408,14 +408,13 @@ pays-candidates m deterministic s sid from at r x y g le behind cost =
     }
 
 -- A call that walks back to the start and goes by candidates from there stays within the budget.
-pub pays-both : (m : Dictionary) (deterministic : Bool) (s : Search) (sid : StateID) (from at to : ℕ) (r : Shown)
-    (x y z : Steps)
-    → s.start ≤ at → at < to → to ≤ s.end → IsPast to r.place
+pub pays-both : {m : Dictionary} {deterministic : Bool} {s : Search} (sid : StateID) (from at : ℕ) {to : ℕ}
+    (r : Shown) {x y z : Steps} → s.start ≤ at → at < to → to ≤ s.end → IsPast to r.place
     → ((looks more : ℕ) → IsPaidAt m deterministic s from at looks → looks + y.looked.value ≡ more + x.looked.value
     → IsPaidBy m deterministic s (Idle to) more)
     → OnlyLooked x y → IsSkipCost m deterministic s to (Found r) y z
     → KeepsBudget m deterministic s (At sid from at 0) r.place x z
-pays-both m deterministic s sid from at to r x y z g lt le behind pays only cost =
+pays-both {s} sid from at {to} r {x} {y} g lt le behind pays only cost =
     let come = come-behind s to r.place le behind in
     let one = only.rose in
     let two = cost.rose in
@@ -431,12 +430,12 @@ pays-both m deterministic s sid from at to r x y z g lt le behind pays only cost
 -- ---- what is left at the start
 
 -- Where nothing was read and nothing matches at the start, the occurrences that end later are all those from there on.
-ending_from-fresh : (m : Dictionary) (s : Search) (at : ℕ) (ns : List ℕ) → IsPlace m No (starting_at s at) at
+ending_from-fresh : {m : Dictionary} (s : Search) {at : ℕ} (ns : List ℕ) → IsPlace m No (starting_at s at) at
     → Tells m No [] ns → ns ≡ [] → ending_from (starting_at s at) (at + 1) ≡ listing_of (starting_at s at)
-ending_from-fresh m s at ns is tells none =
+ending_from-fresh {m} s {at} ns is tells none =
     let t = starting_at s at in
     let here : Tells m No (read_to t at) ns = subst (λ text. Tells m No text ns) (sym (read_to-start t)) tells in
-    sym (ending_from-split m No t at ns is here
+    sym (ending_from-split ns is here
     ∙ ap (λ xs. xs ++ ending_from t (at + 1)) (occurrences_from-empty m t at ns none))
     ∙ ending_from-start t is.inside
 
@@ -460,8 +459,8 @@ listing-begins m asked at from ns standard unanchored inside before tells none =
       to = before.within;
       inside = inside;
     } in
-    ending_from-fresh m s from ns place (subst (λ a. Tells m a [] ns) unanchored tells) none
-    ∙ sym (listing-skip (starting_at s at) from free inside before)
+    ending_from-fresh s ns place (subst (λ a. Tells m a [] ns) unanchored tells) none
+    ∙ sym (listing-skip free inside before)
 
 -- where a prefilter is used, the search isn't anchored and nothing matches at the start
 pub usable-some : (b : Built) (matches : StateID → List ℕ) (anchored : Anchored) (start : StateID)

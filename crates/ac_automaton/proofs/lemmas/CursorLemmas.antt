@@ -1,9 +1,8 @@
 -- What is known of a text as it grows, and what it costs to read on over it.
-use Rattle.std.proofs.Common.{◌≡◌, ◌≢◌, ◌↔◌, ⊎_elim, ℕ, zero, suc, ◌+◌, ◌-◌, ◌<◌, ◌≤◌, Bool, IsTrue, List, [], ◌∷◌, ◌++◌, length, take, drop, Option, Some, None, get_or, slice_get, slice_range, sym, ap, subst, refl, inl, inr, ◌∙◌, arith, length-append, take-append-drop, ap₂}
+use Rattle.std.proofs.Common.{◌≡◌, ◌≢◌, ◌↔◌, ⊎_elim, ℕ, zero, suc, ◌+◌, ◌-◌, ◌<◌, ◌≤◌, Bool, IsTrue, List, [], ◌∷◌, ◌++◌, length, take, drop, Option, Some, None, slice_get, slice_range, sym, ap, subst, refl, inl, inr, ◌∙◌, arith, length-append, take-append-drop, ap₂}
 use Rattle.std.proofs.Math.Logic.{∥∥₁_map}
 use Rattle.std.proofs.lemmas.Bool.{cases_lt}
 use Rattle.std.proofs.lemmas.List.{take-take, drop-take, drop-drop, append-nil, append_assoc}
-use Rattle.std.proofs.lemmas.Option.{slice_get-get_or}
 use Rattle.ac_input.specs.Number.{StateID}
 use Rattle.ac_input.specs.declared.search.Anchored.{Anchored}
 use Rattle.ac_input.specs.declared.steps.Steps.{Steps}
@@ -15,8 +14,8 @@ use Rattle.ac_input.specs.Work.{IsLookups}
 use Rattle.ac_input.proofs.lemmas.OrderLemmas.{slice_range-length}
 use Rattle.ac_input.proofs.lemmas.StateLemmas.{live-one}
 use Rattle.ac_automaton.specs.Automaton.{Built, IsSpecial, Leads, IsReadCost, Advances, PassesPlain, IsReached, IsState}
-use Rattle.ac_automaton.specs.Cursor.{IsCursor, IsQuiet, HasReadOn, read_to, walked}
-use Rattle.ac_automaton.specs.declared.cursor.Cursor.{Cursor}
+use Rattle.ac_automaton.specs.InMemory.Find.Cursor.{IsCursor, IsQuiet, HasReadOn, read_to, walked}
+use Rattle.ac_automaton.specs.declared.in_memory.find.cursor.Cursor.{Cursor}
 use Rattle.ac_input.proofs.lemmas.SomeLemmas.{live-some}
 
 -- ---- what it costs
@@ -27,9 +26,9 @@ lookups-none deterministic live s =
     record { some = omega arith; bound = omega arith; one = λ d. omega arith; scanned = refl; moved = refl }
 
 -- the looks for some bytes and for the bytes after them add up
-pub lookups-join : (deterministic : Bool) (n k a b c : ℕ) (s t u : Steps) → IsLookups deterministic n a b s t
+pub lookups-join : {deterministic : Bool} {n k a b c : ℕ} {s t u : Steps} → IsLookups deterministic n a b s t
     → IsLookups deterministic k b c t u → IsLookups deterministic (n + k) a c s u
-lookups-join deterministic n k a b c s t u run more =
+lookups-join run more =
     let g = run.bound in
     let h = more.bound in
     let e = run.some in
@@ -76,14 +75,6 @@ slice_get-take xs zero n x is = absurd (let e : None ≡ Some x = is in cc)
 slice_get-take [] (suc k) n x is = absurd (let e : None ≡ Some x = is in cc)
 slice_get-take (y ∷ ys) (suc k) zero x is = is
 slice_get-take (y ∷ ys) (suc k) (suc n) x is = slice_get-take ys k n x is
-
--- a byte of a part is one of the haystack
-pub part-byte : (haystack : List ℕ) (from end n : ℕ) → n < length (slice_range haystack from end)
-    → slice_get haystack (from + n) ≡ Some (get_or (slice_range haystack from end) n 0)
-part-byte haystack from end n within =
-    sym (slice_get-drop haystack from n)
-    ∙ slice_get-take (drop from haystack) (end - from) n (get_or (slice_range haystack from end) n 0)
-    (slice_get-get_or (slice_range haystack from end) n 0 within)
 
 -- a part of a text splits at any place in it
 pub slice_range-split : (x : List ℕ) (from at to : ℕ) → from ≤ at → at ≤ to
@@ -170,11 +161,12 @@ advanced-none b Reaches anchored special sid bytes s = record {
 }
 
 -- the bytes so far and one more lead to the next state
-pub advanced-reads : (b : Built) (Reaches : Anchored → List ℕ → StateID → Type 0) (anchored : Anchored)
-    (special : StateID → Bool) (sid : StateID) (bytes : List ℕ) (n byte : ℕ) (current next : StateID) (s t : Steps)
-    → slice_get bytes n ≡ Some byte → HasAdvanced b Reaches anchored special sid bytes n current s t
+pub advanced-reads : {b : Built} {Reaches : Anchored → List ℕ → StateID → Type 0} {anchored : Anchored}
+    {special : StateID → Bool} {sid : StateID} {bytes : List ℕ} {n : ℕ} (byte : ℕ) {current : StateID}
+    (next : StateID) {s t : Steps} → slice_get bytes n ≡ Some byte
+    → HasAdvanced b Reaches anchored special sid bytes n current s t
     → Leads (Reaches anchored) current (byte ∷ []) next → Leads (Reaches anchored) sid (take (n + 1) bytes) next
-advanced-reads b Reaches anchored special sid bytes n byte current next s t is has leads = λ text reads.
+advanced-reads {Reaches} {anchored} {bytes} {n} byte next is has leads = λ text reads.
     let longer : n + 1 ≡ suc n = omega arith in
     let more : take (n + 1) bytes ≡ take n bytes ++ byte ∷ [] = ap (λ k. take k bytes) longer
     ∙ take-more bytes n byte is in
@@ -200,8 +192,7 @@ advanced-cost b Reaches anchored special sid bytes n byte current s t u is has c
     let first = has.cost text p live.0 reads g live.1 in
     let after : IsLive m a ((text ++ take n bytes) ++ byte ∷ []) q = subst (λ l. IsLive m a l q) (sym whole) h in
     let second = cost (text ++ take n bytes) live.0 q there live.1 after in
-    let both = lookups-join b.deterministic (length (take n bytes)) 1 (live_len text p)
-    (live_len (text ++ take n bytes) live.0) (live_len ((text ++ take n bytes) ++ byte ∷ []) q) s t u first second in
+    let both = lookups-join first second in
     let long : length (take n bytes) + 1 ≡ length (take (n + 1) bytes) =
     sym (ap length more ∙ length-append (take n bytes) (byte ∷ [])) in
     subst (λ k. IsLookups b.deterministic k (live_len text p) (live_len (text ++ take (n + 1) bytes) q) s u) long
@@ -215,7 +206,7 @@ pub advanced-more : (b : Built) (Reaches : Anchored → List ℕ → StateID →
     → ¬ IsTrue (special next)
     → HasAdvanced b Reaches anchored special sid bytes (n + 1) next s u
 advanced-more b Reaches anchored special sid bytes n byte current next s t u is has leads cost none =
-    let reads = advanced-reads b Reaches anchored special sid bytes n byte current next s t is has leads in
+    let reads = advanced-reads byte next is has leads in
     record {
       reads = reads;
       plain = λ at lt le. ⊎_elim
@@ -235,28 +226,28 @@ pub advances-there : (b : Built) (Reaches : Anchored → List ℕ → StateID �
     → Advances (Reaches anchored) special sid bytes (record { sid = next; taken = n + 1 })
 advances-there b Reaches anchored special sid bytes n byte current next s t is within has leads there = record {
   taken = (omega (arith, within), λ some. omega arith);
-  reads = advanced-reads b Reaches anchored special sid bytes n byte current next s t is has leads;
+  reads = advanced-reads byte next is has leads;
   plain = has.plain;
   stops = λ lt. there;
 }
 
 -- without a special state, reading on stops after the last byte
-pub advances-all : (b : Built) (Reaches : Anchored → List ℕ → StateID → Type 0) (anchored : Anchored)
-    (special : StateID → Bool) (sid : StateID) (bytes : List ℕ) (n taken : ℕ) (current : StateID) (s t : Steps)
+pub advances-all : {b : Built} {Reaches : Anchored → List ℕ → StateID → Type 0} {anchored : Anchored}
+    {special : StateID → Bool} {sid : StateID} {bytes : List ℕ} {n : ℕ} (taken : ℕ) {current : StateID} {s t : Steps}
     → n ≡ taken → taken ≡ length bytes → HasAdvanced b Reaches anchored special sid bytes n current s t
     → Advances (Reaches anchored) special sid bytes (record { sid = current; taken = taken })
-advances-all b Reaches anchored special sid bytes n taken current s t is all has = record {
+advances-all {Reaches} {anchored} {sid} {bytes} taken {current} is all has = record {
   taken = (omega (arith, all), λ some. omega (arith, all, some));
   reads = subst (λ k. Leads (Reaches anchored) sid (take k bytes) current) is has.reads;
   plain = λ at some lt. has.plain at some (omega (arith, is, lt));
   stops = λ lt. absurd (omega (arith, all, lt));
 }
 
-pub advanced-all_cost : (b : Built) (Reaches : Anchored → List ℕ → StateID → Type 0) (anchored : Anchored)
-    (special : StateID → Bool) (sid : StateID) (bytes : List ℕ) (n taken : ℕ) (current : StateID) (s t : Steps)
+pub advanced-all_cost : {b : Built} {Reaches : Anchored → List ℕ → StateID → Type 0} {anchored : Anchored}
+    {special : StateID → Bool} {sid : StateID} {bytes : List ℕ} {n : ℕ} (taken : ℕ) {current : StateID} {s t : Steps}
     → n ≡ taken → HasAdvanced b Reaches anchored special sid bytes n current s t
     → IsReadCost b Reaches anchored sid (take taken bytes) s t
-advanced-all_cost b Reaches anchored special sid bytes n taken current s t is has =
+advanced-all_cost {b} {Reaches} {anchored} {sid} {bytes} taken {s} {t} is has =
     subst (λ k. IsReadCost b Reaches anchored sid (take k bytes) s t) is has.cost
 
 -- ---- a cursor that reads on
@@ -282,11 +273,11 @@ plain-quiet b anchored text ns start special tells stops none =
     (λ dead. none (stops.1 (inl dead)))
 
 -- where the cursor stands after reading on
-pub cursor-read : (Reaches : List ℕ → StateID → Type 0) (s : Search) (cursor : Cursor) (sid : StateID) (taken : ℕ)
+pub cursor-read : {Reaches : List ℕ → StateID → Type 0} {s : Search} {cursor : Cursor} (sid : StateID) (taken : ℕ)
     → IsCursor Reaches s cursor → taken ≤ s.end - cursor.at
     → Leads Reaches cursor.sid (take taken (slice_range s.haystack cursor.at s.end)) sid
     → IsCursor Reaches s (record { sid = sid; from = cursor.from; at = cursor.at + taken })
-cursor-read Reaches s cursor sid taken is fits leads =
+cursor-read {Reaches} {s} {cursor} sid taken is fits leads =
     let within = is.within in
     let ordered = is.ordered in
     record {
@@ -300,9 +291,8 @@ cursor-read Reaches s cursor sid taken is fits leads =
 
 -- what the cursor met on its way, and what reading on cost
 pub cursor-read_on : (b : Built) (Reaches : Anchored → List ℕ → StateID → Type 0) (anchored : Anchored)
-    (matches : StateID → List ℕ) (starts special : StateID → Bool) (s : Search) (cursor : Cursor) (sid : StateID)
-    (taken : ℕ) (x y : Steps)
-    → IsCursor (Reaches anchored) s cursor → 0 < taken → taken ≤ s.end - cursor.at
+    (matches : StateID → List ℕ) (starts special : StateID → Bool) {s : Search} {cursor : Cursor} (sid : StateID)
+    (taken : ℕ) (x y : Steps) → IsCursor (Reaches anchored) s cursor → 0 < taken → taken ≤ s.end - cursor.at
     → ((text : List ℕ) (state : StateID) → Reaches anchored text state
     → Tells b.dictionary anchored text (matches state))
     → ((text : List ℕ) (state : StateID) → Reaches anchored text state
@@ -310,7 +300,8 @@ pub cursor-read_on : (b : Built) (Reaches : Anchored → List ℕ → StateID �
     → PassesPlain (Reaches anchored) special cursor.sid (slice_range s.haystack cursor.at s.end) taken
     → IsReadCost b Reaches anchored cursor.sid (take taken (slice_range s.haystack cursor.at s.end)) x y
     → HasReadOn b anchored s cursor (record { sid = sid; from = cursor.from; at = cursor.at + taken }) x y
-cursor-read_on b Reaches anchored matches starts special s cursor sid taken x y is some fits tells stops plain cost =
+cursor-read_on b Reaches anchored matches starts special {s} {cursor} sid taken x y is some fits tells stops plain cost
+    =
     let m = b.dictionary in
     let h = s.haystack in
     let bytes = slice_range h cursor.at s.end in

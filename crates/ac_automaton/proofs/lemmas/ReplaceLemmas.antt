@@ -13,7 +13,7 @@ use Rattle.ac_input.proofs.lemmas.TextLemmas.{pick-occurs, replaced-more}
 use Rattle.ac_input.proofs.lemmas.WalkLemmas.{pick-within, walk_of-walk}
 use Rattle.ac_input.specs.Input.{Asked, whole_of}
 use Rattle.ac_automaton.specs.Automaton.{Built, walk_in}
-use Rattle.ac_automaton.specs.Replace.{LieInOrder, cuts_none, is_boundary, matches_in}
+use Rattle.ac_automaton.specs.InMemory.Replace.{LieInOrder, cuts_none, is_boundary, matches_in}
 
 -- the picks of a walk lie in order
 pub walk-lies : (kind : MatchKind) (s : Search) (at : ℕ) (last : Option ℕ) (os : List Occurrence)

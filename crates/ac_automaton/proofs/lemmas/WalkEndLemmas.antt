@@ -22,10 +22,10 @@ use Rattle.ac_input.proofs.lemmas.LiveLemmas.{occurs-front}
 use Rattle.ac_input.proofs.lemmas.ShiftLemmas.{back_by}
 use Rattle.ac_input.proofs.lemmas.SpanLemmas.{occurs-in_whole_of_span, best-of_span}
 use Rattle.ac_input.proofs.lemmas.StateLemmas.{new-behind}
-use Rattle.ac_automaton.specs.Find.{EndSays, IsWalkWork}
-use Rattle.ac_automaton.specs.Cursor.{counted, IsQuiet}
-use Rattle.ac_automaton.specs.declared.cursor.End.TheVariants.{Found, Idle}
-use Rattle.ac_automaton.proofs.find.ToldLemmas.{IsEarlier, earlier-append, told, asked_cases}
+use Rattle.ac_automaton.specs.InMemory.Find.{EndSays, IsWalkWork}
+use Rattle.ac_automaton.specs.InMemory.Find.Cursor.{counted, IsQuiet}
+use Rattle.ac_automaton.specs.declared.in_memory.find.cursor.End.TheVariants.{Found, Idle}
+use Rattle.ac_automaton.proofs.in_memory.find.ToldLemmas.{IsEarlier, earlier-append, told, asked_cases}
 use Rattle.ac_automaton.proofs.lemmas.CursorLemmas.{part-more, lookups-join}
 use Rattle.ac_automaton.proofs.lemmas.WalkLemmas.{AtDead, AtEnd, AtFirst, HasTold, HasReadText, IsOver, best-over, live-bound, occurs-bound, read}
 use Rattle.ac_input.proofs.lemmas.SomeLemmas.{live-some}
@@ -67,33 +67,31 @@ unshifted start None o e = absurd (let d : None ≡ Some o = e in cc)
 unshifted start (Some b) o e = (b, refl, same_Some (shifted start b) o e)
 
 -- a walk that is done in its haystack is over for the text that it has read
-done-over : (m : Dictionary) (anchored : Anchored) (earliest deterministic : Bool) (haystack : List ℕ) (span : Span)
-    (at : ℕ) (best : Option Occurrence) (s t : Steps) (more : List ℕ)
-    → span.end ≤ length haystack
+done-over : {m : Dictionary} {anchored : Anchored} {earliest deterministic : Bool} {haystack : List ℕ} {span : Span}
+    {at : ℕ} {best : Option Occurrence} {s t : Steps} (more : List ℕ) → span.end ≤ length haystack
     → (has : HasTold m anchored earliest deterministic haystack span at best s t)
     → length more ≡ length (slice_range haystack span.start span.end) - length (read haystack span at)
     → IsDone m anchored (asked_kind m.kind earliest) haystack span at best
     → IsOver m (is_anchored anchored) (asked_kind m.kind earliest) (read haystack span at) more has.found
-done-over m anchored earliest deterministic haystack span at best s t more within has long (Ended e) =
+done-over {haystack} {span} {at} more within has long (Ended e) =
     AtEnd (length-none more
     (let same : length (slice_range haystack span.start at) ≡ length (slice_range haystack span.start span.end) =
     ap (λ n. length (slice_range haystack span.start n)) e in omega arith))
-done-over m anchored earliest deterministic haystack span at best s t more within has long (Died dead) = AtDead dead
-done-over m anchored earliest deterministic haystack span at best s t more within has long (Won o standard some) =
+done-over more within has long (Died dead) = AtDead dead
+done-over {span} more within has long (Won o standard some) =
     let r = unshifted span.start has.found o (sym has.kept ∙ some) in AtFirst r.0 standard r.1
 
 -- the match of a walk that is done is the best of the search
-pub answer-says : (m : Dictionary) (anchored : Anchored) (earliest deterministic : Bool) (haystack : List ℕ)
-    (span : Span) (at : ℕ) (best : Option Occurrence) (s t : Steps)
-    → span.end ≤ length haystack
+pub answer-says : {m : Dictionary} {anchored : Anchored} {earliest deterministic : Bool} {haystack : List ℕ}
+    {span : Span} {at : ℕ} {best : Option Occurrence} {s t : Steps} → span.end ≤ length haystack
     → HasTold m anchored earliest deterministic haystack span at best s t
     → IsDone m anchored (asked_kind m.kind earliest) haystack span at best
     → EndSays (asked_kind m.kind earliest) (search_of m anchored haystack span) (Found best)
-answer-says m anchored earliest deterministic haystack span at best s t within has done =
+answer-says {m} {anchored} {earliest} {haystack} {span} {at} within has done =
     let behind = has.behind in
     let inside = has.inside in
     let rest = read-rest haystack span at behind inside in
-    let over = done-over m anchored earliest deterministic haystack span at best s t rest.0 within has rest.2 done in
+    let over = done-over rest.0 within has rest.2 done in
     let all : IsBest (asked_kind m.kind earliest)
     (whole m (slice_range haystack span.start span.end) (is_anchored anchored)) has.found =
     subst (λ l. IsBest (asked_kind m.kind earliest) (whole m l (is_anchored anchored)) has.found) rest.1
@@ -109,13 +107,12 @@ looks-within true n k live s t run le = let one = run.one refl in omega arith
 looks-within false n k live s t run le = let bound = run.bound in omega arith
 
 -- the place where a walk stops lies at most the longest pattern and one byte after the start of its match
-match-bound : (m : Dictionary) (anchored : Anchored) (earliest deterministic : Bool) (haystack : List ℕ) (span : Span)
-    (at : ℕ) (best : Option Occurrence) (s t : Steps) (b : Occurrence)
-    → span.end ≤ length haystack
+match-bound : {m : Dictionary} {anchored : Anchored} {earliest deterministic : Bool} {haystack : List ℕ} {span : Span}
+    {at : ℕ} {best : Option Occurrence} {s t : Steps} (b : Occurrence) → span.end ≤ length haystack
     → (has : HasTold m anchored earliest deterministic haystack span at best s t)
     → has.found ≡ Some b
     → at - span.start ≤ b.start + longest m.patterns + 1
-match-bound m anchored earliest deterministic haystack span at best s t b within has is = ⊎_elim
+match-bound {m} {anchored} {earliest} {haystack} {span} {at} b within has is = ⊎_elim
     (λ (lt : span.start < at).
     ⊎_elim
     (λ (standard : asked_kind m.kind earliest ≡ Standard).
@@ -127,7 +124,7 @@ match-bound m anchored earliest deterministic haystack span at best s t b within
     let rest = read-rest haystack (record { start = span.start; end = at }) (at - 1) (omega arith) (omega arith) in
     let long = slice_range-length haystack span.start {b = at - 1} (omega arith) (omega arith) in
     let live = has.near lt in
-    let le = live-bound m (is_anchored anchored) (read haystack span (at - 1)) rest.0 live.0 b leftmost.1 live.1
+    let le = live-bound m (is_anchored anchored) (read haystack span (at - 1)) rest.0 live.0 leftmost.1 live.1
     (subst (λ l. Occurs (whole m l (is_anchored anchored)) b) (sym rest.1) here.0) in
     omega arith)
     (asked_cases m.kind earliest))
@@ -139,24 +136,23 @@ match-bound m anchored earliest deterministic haystack span at best s t b within
         is has.told
 
 -- under the standard kind a walk stops no later than where the search is over
-over-bound : (m : Dictionary) (anchored : Anchored) (earliest deterministic : Bool) (haystack : List ℕ) (span : Span)
-    (at : ℕ) (best : Option Occurrence) (s t : Steps) (r : Option Occurrence)
+over-bound : {m : Dictionary} {anchored : Anchored} {earliest deterministic : Bool} {haystack : List ℕ} {span : Span}
+    {at : ℕ} {best : Option Occurrence} {s t : Steps} (r : Option Occurrence)
     → (has : HasTold m anchored earliest deterministic haystack span at best s t)
     → has.found ≡ r
     → asked_kind m.kind earliest ≡ Standard
     → at - span.start ≤ over_at (search_of m anchored haystack span) (shifted_best span.start r) - span.start
-over-bound m anchored earliest deterministic haystack span at best s t None has is standard = let inside = has.inside in
+over-bound None has is standard = let inside = has.inside in
     omega arith
-over-bound m anchored earliest deterministic haystack span at best s t (Some b) has is standard =
+over-bound (Some b) has is standard =
     let end = has.ends b standard is in omega arith
 
 -- the cost of a walk that returns a result
-pub answer-work : (m : Dictionary) (anchored : Anchored) (earliest deterministic : Bool) (haystack : List ℕ)
-    (span : Span) (at : ℕ) (best : Option Occurrence) (s t : Steps)
-    → span.end ≤ length haystack
+pub answer-work : {m : Dictionary} {anchored : Anchored} {earliest deterministic : Bool} {haystack : List ℕ}
+    {span : Span} {at : ℕ} {best : Option Occurrence} {s t : Steps} → span.end ≤ length haystack
     → HasTold m anchored earliest deterministic haystack span at best s t
     → IsWalkWork (asked_kind m.kind earliest) deterministic (search_of m anchored haystack span) (Found best) s t
-answer-work m anchored earliest deterministic haystack span at best s t within has =
+answer-work {m} {anchored} {deterministic} {haystack} {span} {at} {best} {s} {t} within has =
     let live = live-some in
     let run = has.work live.0 live.1 in
     let inside = has.inside in
@@ -168,14 +164,14 @@ answer-work m anchored earliest deterministic haystack span at best s t within h
             let le : at - span.start ≤ over_at (search_of m anchored haystack span) best
             - span.start = subst (λ x. at - span.start ≤ over_at (search_of m anchored haystack span) x - span.start)
             (sym has.kept)
-            (over-bound m anchored earliest deterministic haystack span at best s t has.found has refl standard) in
+            (over-bound has.found has refl standard) in
             looks-within deterministic (at - span.start)
             (over_at (search_of m anchored haystack span) best - span.start) (live_len (read haystack span at) live.0) s
             t run
             le;
         leftmost = λ o some.
             let b = unshifted span.start has.found o (sym has.kept ∙ some) in
-            let le = match-bound m anchored earliest deterministic haystack span at best s t b.0 within has b.1 in
+            let le = match-bound b.0 within has b.1 in
             let start : span.start + b.0.start ≡ o.start = ap (λ x. x.start) b.2 in
             looks-within deterministic (at - span.start) (o.start + longest m.patterns + 1 - span.start)
             (live_len (read haystack span at) live.0) s t run (omega arith);
@@ -226,13 +222,12 @@ come-bound m No earliest deterministic haystack span at best s t None within has
     absurd (none-some o (sym (has.kept ∙ ap (shifted_best span.start) is) ∙ some))
 
 -- a walk that is done has looked at a state for each byte that it passed
-pub answer-looks : (m : Dictionary) (anchored : Anchored) (earliest deterministic : Bool) (haystack : List ℕ)
-    (span : Span) (at : ℕ) (best : Option Occurrence) (s t : Steps)
-    → span.end ≤ length haystack
+pub answer-looks : {m : Dictionary} {anchored : Anchored} {earliest deterministic : Bool} {haystack : List ℕ}
+    {span : Span} {at : ℕ} {best : Option Occurrence} {s t : Steps} → span.end ≤ length haystack
     → HasTold m anchored earliest deterministic haystack span at best s t
     → IsDone m anchored (asked_kind m.kind earliest) haystack span at best
     → s.looked.value + (come_at_least (search_of m anchored haystack span) best - span.start) ≤ t.looked.value
-answer-looks m anchored earliest deterministic haystack span at best s t within has done =
+answer-looks {m} {anchored} {earliest} {deterministic} {haystack} {span} {at} {best} {s} {t} within has done =
     let live = live-some in
     let some = (has.work live.0 live.1).some in
     let le : come_at_least (search_of m anchored haystack span) best - span.start
@@ -247,25 +242,24 @@ unshifted-none start None e = refl
 unshifted-none start (Some b) e = absurd (let d : Some (shifted start b) ≡ None = e in cc)
 
 -- where nothing of a text is live and nothing occurs in it, an occurrence in a longer text begins after it
-behind-empty : (m : Dictionary) (text more : List ℕ) (o : Occurrence)
+behind-empty : (m : Dictionary) (text more : List ℕ) {o : Occurrence}
     → ((q : Occurrence) → ¬ Occurs (whole m text false) q) → IsLive m false text (Some (length text))
     → Occurs (whole m (text ++ more) false) o → length text ≤ o.start
-behind-empty m text more o none live h = ⊎_elim
+behind-empty m text more {o} none live h = ⊎_elim
     (λ (sooner : o.end < length text). absurd (none o (occurs-front m more (omega arith) h)))
     (λ (past : length text ≤ o.end). new-behind false more live h past)
     (cases_lt o.end (length text))
 
 -- nothing begins before a walk that is back at the start
-pub back-says : (m : Dictionary) (anchored : Anchored) (earliest deterministic : Bool) (haystack : List ℕ) (span : Span)
-    (at : ℕ) (best : Option Occurrence) (s t : Steps)
-    → span.end ≤ length haystack
+pub back-says : {m : Dictionary} {anchored : Anchored} {earliest deterministic : Bool} {haystack : List ℕ}
+    {span : Span} {at : ℕ} {best : Option Occurrence} {s t : Steps} → span.end ≤ length haystack
     → HasTold m anchored earliest deterministic haystack span at best s t
     → anchored ≡ No
     → best ≡ None
     → span.start < at
     → IsLive m (is_anchored anchored) (read haystack span at) (Some (length (read haystack span at)))
     → EndSays (asked_kind m.kind earliest) (search_of m anchored haystack span) (Idle at)
-back-says m anchored earliest deterministic haystack span at best s t within has unanchored none lt live =
+back-says {m} {anchored} {earliest} {haystack} {span} {at} within has unanchored none lt live =
     (lt, has.inside, λ o h. by o h)
   where
     nothing : (q : Occurrence) → ¬ Occurs (whole m (read haystack span at) (is_anchored anchored)) q
@@ -283,18 +277,18 @@ back-says m anchored earliest deterministic haystack span at best s t within has
         (back_by span.start o) = subst (λ l. Occurs (whole m l (is_anchored anchored)) (back_by span.start o))
         (sym rest.1) (occurs-in_whole_of_span m (refl, refl) (omega arith) (omega arith) within h h.within.2).0 in
         let no : is_anchored anchored ≡ false = ap is_anchored unanchored in
-        let le = behind-empty m (read haystack span at) rest.0 (back_by span.start o)
+        let le = behind-empty m (read haystack span at) rest.0
         (subst (λ b. (q : Occurrence) → ¬ Occurs (whole m (read haystack span at) b) q) no nothing)
         (subst (λ b. IsLive m b (read haystack span at) (Some (length (read haystack span at)))) no live)
         (subst (λ b. Occurs (whole m (read haystack span at ++ rest.0) b) (back_by span.start o)) no there) in
         omega arith
 
 -- the cost of a walk that is back at the start
-pub back-work : (m : Dictionary) (anchored : Anchored) (earliest deterministic : Bool) (haystack : List ℕ) (span : Span)
-    (at : ℕ) (best : Option Occurrence) (s t : Steps)
+pub back-work : {m : Dictionary} {anchored : Anchored} {earliest deterministic : Bool} {haystack : List ℕ}
+    {span : Span} {at : ℕ} {best : Option Occurrence} {s t : Steps}
     → HasTold m anchored earliest deterministic haystack span at best s t
     → IsWalkWork (asked_kind m.kind earliest) deterministic (search_of m anchored haystack span) (Idle at) s t
-back-work m anchored earliest deterministic haystack span at best s t has =
+back-work {deterministic} {haystack} {span} {at} {s} {t} has =
     let live = live-some in
     let run = has.work live.0 live.1 in (
       looks-within deterministic (at - span.start) (at - span.start) (live_len (read haystack span at) live.0) s t run
@@ -399,8 +393,7 @@ walked-on m anchored earliest deterministic haystack span at next best s t u wit
       work = λ last is.
           let bytes : at - span.start + (next - at) ≡ next - span.start = omega arith in
           subst (λ n. IsLookups deterministic n 0 (live_len (read haystack span next) last) s u) bytes
-          (lookups-join deterministic (at - span.start) (next - at) 0 (live_len (read haystack span at) (Some live.0))
-          (live_len (read haystack span next) last) s t u (has.work (Some live.0) live.1)
+          (lookups-join (has.work (Some live.0) live.1)
           (work (Some live.0) last live.1 is));
     }
 

@@ -21,8 +21,8 @@ use Rattle.ac_input.proofs.lemmas.OrderLemmas.{less-not_greater, occurs-end, sli
 use Rattle.ac_input.proofs.lemmas.RisingLemmas.{less_by_end}
 use Rattle.ac_input.proofs.lemmas.LiveLemmas.{occurs-append, occurs-front, dead-final}
 use Rattle.ac_input.proofs.lemmas.StateLemmas.{occurs-behind}
-use Rattle.ac_automaton.specs.Cursor.{counted, taken}
-use Rattle.ac_automaton.proofs.find.ToldLemmas.{IsEarlier, earlier-start, told, ending-fits}
+use Rattle.ac_automaton.specs.InMemory.Find.Cursor.{counted, taken}
+use Rattle.ac_automaton.proofs.in_memory.find.ToldLemmas.{IsEarlier, earlier-start, told, ending-fits}
 use Rattle.ac_automaton.proofs.lemmas.CursorLemmas.{part-empty}
 use Rattle.ac_input.proofs.lemmas.DeadLemmas.{no_longer-pattern}
 
@@ -82,15 +82,16 @@ occurs-bound m {o} h =
 -- Under a leftmost kind, where part of a text is live, a later occurrence begins at most the longest pattern's length
 -- before the
 -- text's end.
-pub live-bound : (m : Dictionary) (anchored : Bool) (text more : List ℕ) (from : ℕ) (o : Occurrence) → m.kind ≢ Standard
+pub live-bound : (m : Dictionary) (anchored : Bool) (text more : List ℕ) (from : ℕ) {o : Occurrence}
+    → m.kind ≢ Standard
     → IsLive m anchored text (Some from) → Occurs (whole m (text ++ more) anchored) o
     → length text ≤ o.start + longest m.patterns
-live-bound m true text more from o leftmost live h =
+live-bound m true text more from leftmost live h =
     let first : from ≡ 0 = live.0.anchor refl in
     let long = begins-bound m (drop from text) live.0.begins in
     let rest = length-drop from text in
     omega arith
-live-bound m false text more from o leftmost live h =
+live-bound m false text more from leftmost live h =
     let behind = occurs-behind more leftmost live h in
     let long = begins-bound m (drop from text) live.0.begins in
     let rest = length-drop from text in

@@ -1,7 +1,7 @@
 -- Bytes over which a search stays in the start.
 use Rattle.std.proofs.Common.{◌≡◌, ◌≢◌, ◌↔◌, ⊎_elim, ℕ, ◌+◌, ◌-◌, ◌<◌, ◌≤◌, Bool, IsTrue, List, [], ◌∷◌, ◌++◌, length, take, drop, sym, ap, ap₂, subst, ◌∙◌, arith, length-drop, take-append-drop}
 use Rattle.std.proofs.Math.Logic.{∥∥₁_elim, ∥∥₁_map, ∥∥₁_prop}
-use Rattle.std.proofs.lemmas.Bool.{cases_lt, cases_eq, false≢true}
+use Rattle.std.proofs.lemmas.Bool.{cases_lt, cases_eq}
 use Rattle.std.proofs.lemmas.List.{append_assoc, drop-take, length-take-le, take-take}
 use Rattle.ac_input.specs.Number.{StateID}
 use Rattle.ac_input.specs.declared.search.Anchored.{Anchored}
@@ -11,7 +11,6 @@ use Rattle.ac_input.specs.Input.{is_anchored}
 use Rattle.ac_input.specs.Steps.{Done}
 use Rattle.ac_input.specs.Work.{IsLookups}
 use Rattle.ac_automaton.specs.declared.starters.Starters.{Starters}
-use Rattle.ac_automaton.specs.declared.starters.Starters.TheVariants.{Many}
 use Rattle.ac_automaton.specs.declared.automaton.Advance.{Advance}
 use Rattle.ac_automaton.specs.Automaton.{Built, IsReached, Leads, Advances}
 use Rattle.ac_automaton.specs.Named.{NamedStates, Naming, AreNumbers, IsEdgeBy, IsReadBy, OfNames, IsStep}
@@ -45,10 +44,6 @@ skips-idle {Idle} {limit} starters skips idle = λ byte lt none.
     (λ (here : byte ≡ limit). subst Idle (sym here) idle)
     (λ (other : byte ≢ limit). skips byte (omega (arith, lt, other)) none)
     (cases_eq byte limit)
-
--- where there are too many starters, no byte is skipped
-pub skips-many : (Idle : ℕ → Type 0) {limit : ℕ} → SkipsBelow Idle limit Many
-skips-many Idle = λ byte lt none. absurd (false≢true (sym none))
 
 -- ---- idle bytes
 
@@ -125,8 +120,7 @@ advanced-run {b} {Reaches} {anchored} {sid} {bytes} {n} {k} {current} {s} {t} {u
           subst (λ l. IsLive m a l q) (sym whole) h in
           let second = cost-looks b Reaches rest long done (text ++ take n bytes) live.0 q there
           live.1 after in
-          let both = lookups-join b.deterministic (length (take n bytes)) (length rest) (live_len text p)
-          (live_len (text ++ take n bytes) live.0) (live_len ((text ++ take n bytes) ++ rest) q) s t u first
+          let both = lookups-join first
           second in
           let one = length-take-le n bytes (omega (arith, fits)) in
           let all = length-take-le (n + k) bytes fits in
@@ -172,11 +166,11 @@ advanced-same none has =
 -- ---- where it stops
 
 -- Two tests that agree on all states reached make reading on stop at the same place.
-pub advances-alike : (Reaches : List ℕ → StateID → Type 0) (tests others : StateID → Bool) (sid : StateID)
-    (bytes : List ℕ) (stop : Advance) → IsReached Reaches sid
+pub advances-alike : {Reaches : List ℕ → StateID → Type 0} {tests : StateID → Bool} (others : StateID → Bool)
+    {sid : StateID} {bytes : List ℕ} {stop : Advance} → IsReached Reaches sid
     → ((i : StateID) → IsReached Reaches i → (IsTrue (tests i) ↔ IsTrue (others i)))
     → Advances Reaches tests sid bytes stop → Advances Reaches others sid bytes stop
-advances-alike Reaches tests others sid bytes stop reached alike h = record {
+advances-alike {Reaches} others {sid} {bytes} {stop} reached alike h = record {
   taken = h.taken;
   reads = h.reads;
   plain =

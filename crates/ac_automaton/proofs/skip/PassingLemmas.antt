@@ -40,9 +40,9 @@ small-take (suc j) zero (x ∷ xs) small = small 0
 small-take (suc j) (suc k) (x ∷ xs) small = small-take j k xs (λ i. small (suc i))
 
 -- a look for each byte that was passed, and the looks for the bytes read after it
-looked-more : (deterministic : Bool) (passed bytes after : ℕ) (s t u : Steps) → Done passed 0 0 s t
+looked-more : {deterministic : Bool} {passed bytes after : ℕ} {s t u : Steps} → Done passed 0 0 s t
     → IsLookups deterministic bytes 0 after t u → IsLookups deterministic (passed + bytes) 0 after s u
-looked-more deterministic passed bytes after s t u done read = record {
+looked-more done read = record {
   some = omega (arith, done.looked, read.some);
   bound = omega (arith, done.looked, read.bound);
   one = λ is. let e = read.one is in omega (arith, done.looked, e);
@@ -92,7 +92,7 @@ module _ (b : Built) (Reaches : Anchored → List ℕ → StateID → Type 0) (m
       (shifted_place (length text) (shifted_place (length front) last.0)) live there in
       let same : live_len (text ++ (front ++ end)) q ≡ live_len end last.0 =
       ap (live_len (text ++ (front ++ end))) one ∙ live_len-passed text front end last.0 in
-      let more = looked-more b.deterministic passed (length end) (live_len end last.0) s t u done read in
+      let more = looked-more done read in
       let both : passed + length end ≡ length (front ++ end) =
       let e = length-append front end in omega (arith, e, is) in
       subst (λ n. IsLookups b.deterministic (length (front ++ end)) 0 n s u) (sym same)
@@ -144,8 +144,7 @@ module _ (b : Built) (Reaches : Anchored → List ℕ → StateID → Type 0) (m
             let after : IsLive m false (T ++ (front ++ end)) q =
             subst (λ l. IsLive m false l q) (sym whole) h in
             let second = passed-cost front q empty whole_none enough_end size done cost after in
-            let both = lookups-join b.deterministic (length (take n bytes)) (length (front ++ end)) (live_len text p) 0
-            (live_len (T ++ (front ++ end)) q) s t z first0 second in
+            let both = lookups-join first0 second in
             let one = length-take-le n bytes (omega (arith, fits)) in
             let all = length-take-le (n + (skipped + tail)) bytes fits in
             let run = length-take-le (skipped + tail) rest inside in
@@ -226,7 +225,8 @@ advanced-on {A} {automaton} {two} {sid} {current} {bytes} {n} {stop} {s} {u} may
           (subst (λ x. HasAdvanced (A.built automaton) (A.Reaches automaton) No (is_between two) sid bytes n
           current s x) (sym none.2) has)),
     )
-advanced-on {A} {automaton} {openings} {start} {two} {sid} {bytes} {n} {stop} {s} {t} {u} may some tells small within is at
+advanced-on {A} {automaton} {openings} {start} {two} {sid} {bytes} {n} {stop} {s} {t}
+    {u} may some tells small within is at
     (inr to) has =
     let b = A.built automaton in
     let R = A.Reaches automaton in

@@ -64,8 +64,8 @@ pub reads-all : {b : Built} {Reaches : Anchored → List ℕ → StateID → Typ
     → ReadsTo b Reaches anchored two sid bytes (record { sid = current; taken = taken }) s t
 reads-all {b} {Reaches} {anchored} {two} {sid} {bytes} {n} {taken} {current} {s} {t} is all has =
     record {
-      goes = advances-all b Reaches anchored (is_between two) sid bytes n taken current s t is all has;
-      cost = advanced-all_cost b Reaches anchored (is_between two) sid bytes n taken current s t is has;
+      goes = advances-all taken is all has;
+      cost = advanced-all_cost taken is has;
     }
 
 -- ---- two parts in turn
@@ -98,8 +98,7 @@ cost-both b Reaches {anchored} sid current bytes n k {s} {t} {u} fits leads firs
     let before = first text p live.0 reads g live.1 in
     let last : IsLive m a ((text ++ take n bytes) ++ rest) q = subst (λ l. IsLive m a l q) (sym whole) h in
     let after = second (text ++ take n bytes) live.0 q there live.1 last in
-    let both = lookups-join b.deterministic (length (take n bytes)) (length rest) (live_len text p)
-    (live_len (text ++ take n bytes) live.0) (live_len ((text ++ take n bytes) ++ rest) q) s t u before after in
+    let both = lookups-join before after in
     let count : length (take n bytes) + length rest ≡ length (take (n + k) bytes) =
     sym (ap length parts ∙ length-append (take n bytes) rest) in
     subst (λ i. IsLookups b.deterministic i (live_len text p) (live_len (text ++ take (n + k) bytes) q) s u) count

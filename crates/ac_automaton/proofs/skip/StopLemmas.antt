@@ -37,7 +37,7 @@ pub between-matching : {S : Type 0} (A : Ghosts S) (automaton : S) (first greate
     → Advances (A.Reaches automaton anchored) (is_between two) sid bytes stop
     → Advances (A.Reaches automaton anchored) (is_matching (A.matches automaton)) sid bytes stop
 between-matching A automaton first greatest two anchored sid bytes stop are from to reached =
-    advances-alike (A.Reaches automaton anchored) (is_between two) (is_matching (A.matches automaton)) sid bytes stop
+    advances-alike (is_matching (A.matches automaton))
     reached (λ i there.
     let state = reached-state (A.Reaches automaton) anchored i there in (
       (λ e. let w = (between {two = two} {i = i}).0 e in
@@ -52,7 +52,7 @@ pub between-special : (Reaches : List ℕ → StateID → Type 0) (last : ℕ) (
     → two.first ≡ 0 → two.last ≡ last → IsReached Reaches sid
     → Advances Reaches (is_between two) sid bytes stop → Advances Reaches (λ i. nat_le i last) sid bytes stop
 between-special Reaches last two sid bytes stop from to reached =
-    advances-alike Reaches (is_between two) (λ i. nat_le i last) sid bytes stop reached (λ i there. (
+    advances-alike (λ i. nat_le i last) reached (λ i there. (
       (λ e. let w = (between {two = two} {i = i}).0 e in le-leb i last (omega (arith, w.1, to))),
       (λ e. let le = leb-true i last e in (between {two = two} {i = i}).1 (omega (arith, from), omega (arith, le, to))),
     ))

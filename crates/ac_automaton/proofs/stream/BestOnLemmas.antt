@@ -10,8 +10,8 @@ use Rattle.ac_input.specs.Laws.LiveLaws.{shifted}
 use Rattle.ac_input.specs.Occurrence.{Occurrence}
 use Rattle.ac_input.specs.Tells.{Tells, ending, ending_at}
 use Rattle.ac_input.proofs.lemmas.OrderLemmas.{occurrence_from_parts}
-use Rattle.ac_automaton.proofs.find.TakenLemmas.{first-counts}
-use Rattle.ac_automaton.proofs.find.ToldLemmas.{IsEarlier, ending-fits, told}
+use Rattle.ac_automaton.proofs.in_memory.find.TakenLemmas.{first-counts}
+use Rattle.ac_automaton.proofs.in_memory.find.ToldLemmas.{IsEarlier, ending-fits, told}
 use Rattle.ac_automaton.proofs.lemmas.WalkEndLemmas.{earlier-read}
 
 -- One byte further on, the best match is the first entry of the state's list, or else the best match before that byte.

@@ -1,16 +1,15 @@
 -- What the closure's sink does at a match: it writes the bytes before it, and calls the closure.
-use Rattle.std.proofs.Common.{ℕ, inr, List, Option, Result, Ok, Err, Bor, MutBor, refl, sym, ◌∙◌, add-zero}
-use Rattle.std.specs.Fn.{Called}
+use Rattle.std.proofs.Common.{ℕ, inr, List, Option, Result, Ok, Err, sym, ◌∙◌, add-zero}
 use Rattle.std.specs.Io.KnownBytes.{Appends}
 use Rattle.ac_input.specs.Occurrence.{Occurrence}
-use Rattle.ac_automaton.specs.Devices.Moved.{HasTaken}
-use Rattle.ac_automaton.specs.Devices.Watched.{NoneRead, TookAll}
-use Rattle.ac_automaton.specs.Replace.{RepliesAt, Replacer}
-use Rattle.ac_automaton.specs.Stream.StreamPump.{AnswersPass}
-use Rattle.ac_automaton.specs.Stream.StreamReplaceWith.{CallsAt, calling}
+use Rattle.ac_automaton.specs.Stream.Devices.Moved.{HasTaken}
+use Rattle.ac_automaton.specs.Stream.Devices.Watched.{NoneRead, TookAll}
+use Rattle.ac_automaton.specs.InMemory.Replace.{Replacer}
+use Rattle.ac_automaton.specs.Stream.Pump.{AnswersPass}
+use Rattle.ac_automaton.specs.Stream.ReplaceWith.{CallsAt, calling}
 use Rattle.ac_automaton.specs.declared.error.StreamError.{StreamError}
 use Rattle.ac_automaton.specs.declared.stream.replace_with.Calling.{Calling}
-use Rattle.ac_automaton.specs.declared.watched.Watched.{Watched}
+use Rattle.ac_automaton.specs.declared.stream.devices.watched.Watched.{Watched}
 
 -- the writer took all the bytes
 pub HasTaken-from_all : {W : Type 0} {contents : W → Option (List ℕ)} {old new : Watched W} {bytes : List ℕ}
@@ -24,22 +23,6 @@ HasTaken-from_all all reads device =
       stalls = all.fine.stalls ∙ sym (add-zero _);
       reads = reads;
       device = device;
-    }
-
--- a call of the closure is its reply
-pub RepliesAt-from_call : {F D A : Type 0} {g : Replacer F D A} {f after : F} {found : Bor Occurrence}
-    {text : Bor (List ℕ)} {dst left : MutBor D} {r : A}
-    → Called g f (found, (text, (dst, tt))) (r, (left, tt)) after
-    → RepliesAt g f found.now text.now dst.now r after left.now
-RepliesAt-from_call {found} {text} {dst} {left} called =
-    record {
-      found = found;
-      text = text;
-      dst = dst;
-      shows = (refl, refl, refl);
-      left = left;
-      called = called;
-      leaves = refl;
     }
 
 -- a call after a write, by its result

@@ -1,5 +1,5 @@
 -- How a search of a stream under a leftmost kind waits for a match to be decided.
-use Rattle.std.proofs.Common.{◌≡◌, ◌≢◌, ◌↔◌, add-zero, add_assoc, ⊎_elim, inl, inr, ℕ, ◌+◌, ◌-◌, ◌*◌, ◌<◌, ◌≤◌, true, false, IsTrue, List, [], ◌∷◌, ◌++◌, length, drop, take, Option, None, Some, slice_get, slice_range, sym, ap, subst, refl, ◌∙◌, arith, append-nil, length-drop}
+use Rattle.std.proofs.Common.{◌≡◌, ◌≢◌, ◌↔◌, add-zero, add_assoc, ⊎_elim, inl, inr, ℕ, ◌+◌, ◌-◌, ◌<◌, ◌≤◌, true, false, IsTrue, List, [], ◌∷◌, ◌++◌, length, drop, take, Option, None, Some, slice_get, slice_range, sym, ap, subst, refl, ◌∙◌, arith, append-nil, length-drop}
 use Rattle.std.specs.Option.{option_map, option_or}
 use Rattle.std.proofs.lemmas.Bool.{cases_lt, false≢true}
 use Rattle.std.proofs.lemmas.Option.{same_Some}
@@ -10,7 +10,7 @@ use Rattle.ac_input.specs.declared.search.MatchKind.{MatchKind}
 use Rattle.ac_input.specs.declared.search.MatchKind.TheVariants.{Standard, LeftmostFirst, LeftmostLongest}
 use Rattle.ac_input.specs.declared.steps.Steps.{Steps}
 use Rattle.ac_input.specs.Best.{IsBest}
-use Rattle.ac_input.specs.Dictionary.{Dictionary, IsLive, live_len, whole}
+use Rattle.ac_input.specs.Dictionary.{Dictionary, IsLive, whole}
 use Rattle.ac_input.specs.Laws.LiveLaws.{shifted}
 use Rattle.ac_input.specs.Occurrence.{Occurrence, Occurs}
 use Rattle.ac_input.specs.Steps.{Done}
@@ -19,18 +19,17 @@ use Rattle.ac_input.specs.Walk.{IsPick}
 use Rattle.ac_input.specs.Work.{longest}
 use Rattle.ac_input.proofs.lemmas.LiveLemmas.{best-entered, dead-final, entered-begins, leftmost-no_later}
 use Rattle.ac_input.proofs.lemmas.OrderLemmas.{slice_range-length}
-use Rattle.ac_automaton.specs.Stream.{AreAllGiven, CanBeCounted, FindsHeld, ReadsNothing, StreamProgress, read_again, read_by, Picks}
-use Rattle.ac_automaton.specs.Stream.StreamSearch.{SearchesOn, StandsInState, after_search, since_last, some_of, waits}
+use Rattle.ac_automaton.specs.Stream.{AreAllGiven, CanBeCounted, FindsHeld, ReadsNothing, StreamProgress, read_by, Picks}
+use Rattle.ac_automaton.specs.Stream.Search.{Searched, SearchesOn, StandsInState, after_search, searched_anew, since_last, some_of, waits}
 use Rattle.ac_automaton.specs.Automaton.{Advances, IsSpecial}
 use Rattle.ac_automaton.specs.declared.automaton.Advance.{Advance}
 use Rattle.ac_automaton.specs.declared.automaton.Automaton.{Ghosts}
 use Rattle.ac_input.proofs.lemmas.StateLemmas.{live-one}
-use Rattle.ac_automaton.specs.declared.stream.search.Searched.{Searched}
 use Rattle.ac_automaton.proofs.stream.BestOnLemmas.{best-met, best-told}
 use Rattle.ac_automaton.proofs.lemmas.CursorLemmas.{list-none, slice_range-split}
 use Rattle.ac_automaton.proofs.automaton.PassLemmas.{ReadsOver}
-use Rattle.ac_automaton.proofs.stream.SearchLemmas.{again-leftmost, found-held, search-decided}
-use Rattle.ac_automaton.proofs.stream.SearchReadLemmas.{cost-on, looks-done, paid-on, reads-on, stands-from, text-on}
+use Rattle.ac_automaton.proofs.stream.SearchLemmas.{again-leftmost, found-held, search-decided, kept_by}
+use Rattle.ac_automaton.proofs.stream.SearchReadLemmas.{paid-on, reads-on, stands-from, text-on, goes-walking, done-on, inside-on}
 use Rattle.ac_automaton.proofs.stream.StreamLemmas.{given-anew, given-open, not-all, pick-rest, pick-since}
 use Rattle.ac_automaton.proofs.lemmas.WalkEndLemmas.{unshifted}
 use Rattle.ac_automaton.proofs.lemmas.WalkLemmas.{begins-bound, live-bound}
@@ -91,9 +90,9 @@ live-first t Reaches start sid best b stands is leftmost = ⊎_elim
     stands.alive.0.no_later
 
 -- the start of the waiting match is still held
-pub from-behind : (t : StreamProgress Picks) (Reaches : List ℕ → StateID → Type 0) (start sid : StateID)
+pub from-behind : {t : StreamProgress Picks} {Reaches : List ℕ → StateID → Type 0} {start sid : StateID}
     (best : Occurrence) → StandsInState Reaches t start sid (Some best) → t.from ≤ best.start
-from-behind t Reaches start sid best stands =
+from-behind {t} {Reaches} {start} {sid} best stands =
     let m = t.built.dictionary in
     let b = unshifted t.last stands.found best (sym stands.kept) in
     let leftmost : m.kind ≢ Standard = λ standard. let e : None ≡ Some b.0 = sym (stands.quiet standard) ∙ b.1 in cc in
@@ -145,11 +144,10 @@ module _ (t : StreamProgress Picks) (Reaches : Anchored → List ℕ → StateID
   leftmost standard = let e : None ≡ Some so_far.0 = sym (stands.quiet standard) ∙ so_far.1 in cc
 
   inside : to ≤ length (read_by t)
-  inside = let rest = length-drop t.at (read_by t) in let within = over.within in let le = stands.course.ordered.1 in
-      omega arith
+  inside = inside-on stands over
 
   pub reads : Reaches No since stop.sid
-  reads = reads-on t Reaches sid stop y z stands.course.ordered.0 stands.reads over
+  reads = reads-on stands over
 
   -- the best match of these bytes
   told : IsBest m.kind (whole m since false)
@@ -162,22 +160,8 @@ module _ (t : StreamProgress Picks) (Reaches : Anchored → List ℕ → StateID
       best-told m (read_by t) (matches stop.sid) t.last t.at to (Some so_far.0) ordered (omega (arith, some)) within
       (λ standard. absurd (leftmost standard)) quiet.silent (tells since stop.sid reads) before
 
-  paid : (live : Option ℕ) → IsLive m false since live
-      → (t.looked + looks + live_len since live ≤ 2 * (to + read_again m 0 (length t.given))) × (to ≤ t.looked + looks)
-      × (IsTrue t.built.deterministic → t.looked + looks ≤ to + read_again m 0 (length t.given))
-  paid live alive =
-      let before = live-some in
-      let sums = stands.lookups before.0 before.1 in
-      paid-on t.built.deterministic t.looked (live_len (since_last t) before.0) t.at (read_again m 0 (length t.given))
-      stop.taken (live_len since live) y z sums.0 sums.1 sums.2
-      (cost-on t Reaches sid stop y z before.0 live stands.course.ordered.0 stands.reads over before.1 alive)
-
   pub done : Done looks 0 0 y z
-  done =
-      let before = live-some in
-      let after = live-some in
-      looks-done t.built.deterministic stop.taken _ _ y z
-      (cost-on t Reaches sid stop y z before.0 after.0 stands.course.ordered.0 stands.reads over before.1 after.1)
+  done = done-on stands over
 
   -- the search still waits, with the best match so far
   waits-with : (b : Occurrence) (o : Occurrence) (live : ℕ) → IsBest m.kind (whole m since false) (Some b)
@@ -187,11 +171,11 @@ module _ (t : StreamProgress Picks) (Reaches : Anchored → List ℕ → StateID
       let course = stands.course in
       let ordered = course.ordered.0 in
       let within = inside in
-      let kept = course.kept in
-      stands-from (Reaches No) (waits t to looks) start stop.sid (Some o) (Some b) live course.unclosed course.filled
-      (omega arith) within course.ended (omega arith) (omega arith) kept.2 course.short course.paid.scanned
-      course.paid.moved stands.begins reads
-      (ap Some (sym same)) is (λ standard. absurd (leftmost standard)) alive stands.goes (λ one is_one. paid one is_one)
+      let kept = course.kept.0 in
+      stands-from (Reaches No) start stop.sid (Some o) (Some b) live
+      (goes-walking course t.given to t.last (t.looked + looks) (omega arith) (omega arith) within course.ended)
+      stands.begins reads (ap Some (sym same)) is (λ standard. absurd (leftmost standard)) alive stands.goes
+      (paid-on stands over)
 
   -- where no pattern matches here, the search waits with its match unchanged
   pub waits-same : matches stop.sid ≡ [] → (live : ℕ) → IsLive m false since (Some live)
@@ -223,11 +207,7 @@ module _ (t : StreamProgress Picks) (Reaches : Anchored → List ℕ → StateID
   -- The text is dead: the match is decided.
   pub decides-dead : IsLive m false since None → CanBeCounted (read_by t)
       → SearchesOn (Reaches No) t start
-      (record {
-        progress =
-            record { sid = start; from = t.from; at = best.end; last = best.end; best = None; closed = t.closed };
-        found = Some best;
-      }) y z
+      (searched_anew start (kept_by t sid (Some best)) best) y z
   decides-dead dead countable =
       let x = read_by t in
       let course = stands.course in
@@ -244,20 +224,20 @@ module _ (t : StreamProgress Picks) (Reaches : Anchored → List ℕ → StateID
       let long = slice_range-length x t.last {b = to} (omega arith) within in
       let short = slice_range-length x t.last {b = to - 1} (omega (arith, some)) (omega arith) in
       let split = slice_range-split x t.last (to - 1) to (omega (arith, some)) (omega arith) in
-      let bound = live-bound m false (slice_range x t.last (to - 1)) (slice_range x (to - 1) to) here.0 b leftmost
+      let bound = live-bound m false (slice_range x t.last (to - 1)) (slice_range x (to - 1) to) here.0 leftmost
       here.1 (subst (λ l. Occurs (whole m l false) b) split is.0) in
       let start_at : t.last + b.start ≡ best.start = ap (λ q. q.start) so_far.2 in
       let end_at : t.last + b.end ≡ best.end = ap (λ q. q.end) so_far.2 in
       let w = is.0.within in
       let v = before.0.within in
-      let sums = paid None dead in
+      let sums = paid-on stands over None dead in
       let more = again-leftmost m.kind (longest m.patterns) (length t.given) leftmost in
       let stays = λ (tail : List ℕ). (dead-final m false false since tail (Some b) dead).0 is in
       let picks = λ (tail : List ℕ) (follows : (t.closed ≡ true → tail ≡ [])).
       subst (λ q. IsPick m.kind (whole m (x ++ tail) false) t.last (Some t.last) (Some q)) so_far.2
       (pick-since m x tail t.last to b (omega arith) within course.filled stays) in
       search-decided t (Reaches No) start sid (Some best) best looks y z stands countable
-      (found-held t b best to course (from-behind t (Reaches No) start sid best stands)
+      (found-held best to course (from-behind best stands)
       (λ standard. absurd (leftmost standard)) (omega arith) within is.0 so_far.2)
       (λ given. let searched = given.searched in omega (arith, some))
       picks done (omega arith) (omega arith) (λ d. let e = sums.2 d in omega arith)
@@ -285,11 +265,7 @@ module _ (t : StreamProgress Picks) (Reaches : List ℕ → StateID → Type 0) 
   -- Nothing more comes: the match is decided.
   pub decides-closed : t.closed ≡ true
       → SearchesOn Reaches t start
-      (record {
-        progress =
-            record { sid = start; from = t.from; at = best.end; last = best.end; best = None; closed = t.closed };
-        found = Some best;
-      }) z z
+      (searched_anew start (kept_by t sid (Some best)) best) z z
   decides-closed closed =
       let m = t.built.dictionary in
       let x = read_by t in
@@ -299,7 +275,7 @@ module _ (t : StreamProgress Picks) (Reaches : List ℕ → StateID → Type 0) 
       let is = best-so_far in
       let long = slice_range-length x t.last ordered.0 ordered.1 in
       let none = append-nil (since_last t) in
-      let bound = live-bound m false (since_last t) [] stands.live b not-standard stands.alive
+      let bound = live-bound m false (since_last t) [] stands.live not-standard stands.alive
       (subst (λ l. Occurs (whole m l false) b) (sym none) is.0) in
       let start_at : t.last + b.start ≡ best.start = ap (λ q. q.start) last_found.2 in
       let end_at : t.last + b.end ≡ best.end = ap (λ q. q.end) last_found.2 in
@@ -314,7 +290,7 @@ module _ (t : StreamProgress Picks) (Reaches : List ℕ → StateID → Type 0) 
       subst (λ l. IsPick m.kind (whole m l false) t.last (Some t.last) (Some best))
       (sym (ap (λ l. x ++ l) (follows closed) ∙ append-nil x)) pick in
       search-decided t Reaches start sid (Some best) best 0 z z stands countable
-      (found-held t b best t.at course (from-behind t Reaches start sid best stands)
+      (found-held best t.at course (from-behind best stands)
       (λ standard. absurd (not-standard standard)) ordered.0 ordered.1 is.0 last_found.2)
       (λ given. not-all t best stands.goes (picks [] (λ _. refl)) (given.all (inr closed)))
       picks (record { looked = omega arith; scanned = omega arith; moved = omega arith }) (omega arith) (omega arith)
@@ -322,19 +298,13 @@ module _ (t : StreamProgress Picks) (Reaches : List ℕ → StateID → Type 0) 
 
   -- the search is unchanged
   same-search : after_search t
-      (record {
-        progress = record { sid = sid; from = t.from; at = t.at; last = t.last; best = Some best; closed = t.closed };
-        found = None;
-      }) 0 ≡ t
+      (record { progress = kept_by t sid (Some best); found = None }) 0 ≡ t
   same-search = λ i. record t { given = append-nil t.given i; looked = add-zero t.looked i }
 
   -- More may come: the match waits.
   pub waits-none : t.closed ≡ false
       → SearchesOn Reaches t start
-      (record {
-        progress = record { sid = sid; from = t.from; at = t.at; last = t.last; best = Some best; closed = t.closed };
-        found = None;
-      }) z z
+      (record { progress = kept_by t sid (Some best); found = None }) z z
   waits-none open_ =
       let m = t.built.dictionary in
       let x = read_by t in
@@ -386,10 +356,11 @@ module _ (t : StreamProgress Picks) (Reaches : List ℕ → StateID → Type 0) 
 -- ---- two steps in turn
 
 -- What a search finds after it has waited is what the search finds.
-pub searches-then : (Reaches : List ℕ → StateID → Type 0) (s : StreamProgress Picks) (start : StateID) (at looks : ℕ)
-    (r : Searched) (x y z : Steps) → s.built.dictionary.kind ≢ Standard → s.at ≤ at → at ≤ length (read_by s)
+pub searches-then : {Reaches : List ℕ → StateID → Type 0} (s : StreamProgress Picks) {start : StateID} (at : ℕ)
+    {looks : ℕ} {r : Searched} {x y z : Steps} → s.built.dictionary.kind ≢ Standard → s.at ≤ at
+    → at ≤ length (read_by s)
     → Done looks 0 0 x y → SearchesOn Reaches (waits s at looks) start r y z → SearchesOn Reaches s start r x z
-searches-then Reaches s start at looks r x y z leftmost further inside done on =
+searches-then {Reaches} s {start} at {looks} {r} leftmost further inside done on =
     let a = done.looked in
     let b = done.scanned in
     let c = done.moved in
@@ -455,7 +426,7 @@ searches-then Reaches s start at looks r x y z leftmost further inside done on =
 -- ---- what the automaton's own loop says
 
 -- Reading on to the first special state meets no match on the way and no dead text.
-pub advance-quiet : {S : Type 0} (A : Ghosts S) (a : S) (t : StreamProgress Picks) (sid : StateID) (stop : Advance)
+pub advance-quiet : {S : Type 0} (A : Ghosts S) (a : S) (t : StreamProgress Picks) {sid : StateID} {stop : Advance}
     → ((text : List ℕ) (state : StateID) → A.Reaches a No text state
     → Tells (A.built a).dictionary No text (A.matches a state))
     → ((text : List ℕ) (state : StateID) → A.Reaches a No text state
@@ -463,7 +434,7 @@ pub advance-quiet : {S : Type 0} (A : Ghosts S) (a : S) (t : StreamProgress Pick
     → t.built ≡ A.built a → t.last ≤ t.at → A.Reaches a No (since_last t) sid
     → Advances (A.Reaches a No) (A.special a) sid (drop t.at (read_by t)) stop
     → IsQuietOn t.built.dictionary (read_by t) t.last t.at (t.at + stop.taken)
-advance-quiet A a t sid stop tells stops built ordered here goes =
+advance-quiet A a t {stop} tells stops built ordered here goes =
     subst (λ d. IsQuietOn d.dictionary (read_by t) t.last t.at (t.at + stop.taken)) (sym built) (record {
       silent = λ k lt less.
           let mid = passed k lt less in

@@ -14,24 +14,24 @@ use Rattle.ac_input.specs.Tells.{Tells, ending_at}
 use Rattle.ac_input.proofs.lemmas.OrderLemmas.{slice_range-length}
 use Rattle.ac_automaton.specs.Automaton.{Advances, Built, IsReached, IsReadCost, IsSpecial, IsState}
 use Rattle.ac_automaton.specs.Stream.{StreamProgress, read_by, Picks}
-use Rattle.ac_automaton.specs.Stream.StreamSearch.{IsHeldAt, SearchesOn, StandsInState, searched_anew, since_last, waits}
-use Rattle.ac_automaton.specs.Stream.StreamWalk.{StandsAfter}
+use Rattle.ac_automaton.specs.Stream.Search.{IsHeldAt, Searched, SearchesOn, StandsInState, searched_anew, since_last, waits}
+use Rattle.ac_automaton.specs.Stream.Search.Walk.{StandsAfter}
 use Rattle.ac_automaton.specs.declared.automaton.Advance.{Advance}
 use Rattle.ac_automaton.specs.declared.automaton.Automaton.{Ghosts}
 use Rattle.ac_automaton.specs.declared.stream.search.Progress.{Progress}
-use Rattle.ac_automaton.specs.declared.stream.search.Searched.{Searched}
 use Rattle.ac_automaton.proofs.stream.DecideLemmas.{HasWaited, IsQuietOn, advance-quiet, dead-silent, decides-closed, decides-dead, done, not-dead, reads, searches-then, waits-better, waits-none, waits-same}
 use Rattle.ac_automaton.proofs.automaton.PassLemmas.{ReadsOver, StopsAtMatch}
-use Rattle.ac_automaton.proofs.stream.SearchLemmas.{found-here, met-done, progress-same, search-met, searched-reads, stands-here, stops-here, tells-here}
+use Rattle.ac_automaton.proofs.stream.SearchLemmas.{found-here, kept_by, met-done, progress-same, search-met, searched-reads, stands-here, stops-here, tells-here}
 use Rattle.ac_automaton.proofs.stream.SearchReadLemmas.{rest-held}
 use Rattle.ac_automaton.proofs.lemmas.WalkEndLemmas.{unshifted}
 use Rattle.ac_input.proofs.lemmas.SomeLemmas.{live-some}
 
 -- at first the search has not waited yet
-pub waited-none : (Reaches : List ℕ → StateID → Type 0) (s : StreamProgress Picks) (start sid : StateID) (at : ℕ)
-    (best : Option Occurrence) (met : Occurrence) (x : Steps) → StandsInState Reaches s start sid best → best ≡ Some met
+pub waited-none : {Reaches : List ℕ → StateID → Type 0} {s : StreamProgress Picks} {start sid : StateID} (at : ℕ)
+    {best : Option Occurrence} (met : Occurrence) (x : Steps) → StandsInState Reaches s start sid best
+    → best ≡ Some met
     → at ≡ s.at → HasWaited Reaches s start sid at met x x
-waited-none Reaches s start sid at best met x stands is there = record {
+waited-none {Reaches} {s} {start} {sid} at met x stands is there = record {
   on = omega (arith, there);
   looks = 0;
   done = record { looked = omega arith; scanned = omega arith; moved = omega arith };
@@ -41,11 +41,11 @@ waited-none Reaches s start sid at best met x stands is there = record {
 }
 
 -- the looks so far and the looks since add up
-waited-more : (Reaches : List ℕ → StateID → Type 0) (s : StreamProgress Picks) (start sid : StateID)
-    (at to looks more : ℕ) (best : Occurrence) (x y z : Steps) → s.at ≤ to → Done looks 0 0 x y → Done more 0 0 y z
+waited-more : {Reaches : List ℕ → StateID → Type 0} (s : StreamProgress Picks) {start sid : StateID} (at to : ℕ)
+    {looks more : ℕ} (best : Occurrence) {x y z : Steps} → s.at ≤ to → Done looks 0 0 x y → Done more 0 0 y z
     → StandsInState Reaches (waits (waits s at looks) to more) start sid (Some best)
     → HasWaited Reaches s start sid to best x z
-waited-more Reaches s start sid at to looks more best x y z further a b stands =
+waited-more {Reaches} s {start} {sid} at to {looks} {more} best further a b stands =
     let c = a.looked in
     let d = a.scanned in
     let e = a.moved in
@@ -60,11 +60,11 @@ waited-more Reaches s start sid at to looks more best x y z further a b stands =
           (λ i. record s { at = to; looked = add_assoc s.looked looks more i }) stands;
     }
 
-module _ {S : Type 0} (A : Ghosts S) (a : S) (s : StreamProgress Picks) (start : StateID) (p : Progress) (held : List ℕ)
+module _ {S : Type 0} (A : Ghosts S) (a : S) {s : StreamProgress Picks} {start : StateID} {p : Progress} {held : List ℕ}
     (tells : (text : List ℕ) (state : StateID) → A.Reaches a No text state
     → Tells (A.built a).dictionary No text (A.matches a state))
     (is : StandsAfter A a s start p held)
-    (sid : StateID) (at : ℕ) (best : Occurrence) (x y : Steps)
+    {sid : StateID} {at : ℕ} {best : Occurrence} {x y : Steps}
     (waited : HasWaited (A.Reaches a No) s start sid at best x y) where
   -- how far the search has come
   abbrev here : StreamProgress Picks
@@ -108,9 +108,7 @@ module _ {S : Type 0} (A : Ghosts S) (a : S) (s : StreamProgress Picks) (start :
   waited-closed over closed =
       subst (λ q. SearchesOn (A.Reaches a No) s start (searched_anew start q best) x y)
       (progress-same s p is.closed is.from is.at is.last)
-      (searches-then (A.Reaches a No) s start at waited.looks
-      (searched_anew start
-      (record { sid = p.sid; from = s.from; at = s.at; last = s.last; best = p.best; closed = s.closed }) best) x y y
+      (searches-then s at
       here-leftmost waited.on waited.stands.course.ordered.1 waited.done
       (decides-closed here (A.Reaches a No) start sid best y waited.stands (here-all over) is.countable
       (sym is.closed ∙ closed)))
@@ -118,33 +116,21 @@ module _ {S : Type 0} (A : Ghosts S) (a : S) (s : StreamProgress Picks) (start :
   -- where no held byte is left and more may come, the match waits
   pub waited-open : length held ≤ at - p.from → p.closed ≡ false
       → SearchesOn (A.Reaches a No) s start
-      (record {
-        progress = record { sid = sid; from = p.from; at = at; last = p.last; best = Some best; closed = false };
-        found = None;
-      }) x y
+      (record { progress = record p { sid = sid; at = at; best = Some best; closed = false }; found = None }) x y
   waited-open over open_ =
       let none : s.closed ≡ false = sym is.closed ∙ open_ in
       subst (λ q. SearchesOn (A.Reaches a No) s start
-      (record {
-        progress = record { sid = sid; from = q.from; at = at; last = q.last; best = Some best; closed = false };
-        found = None;
-      }) x y) (progress-same s p is.closed is.from is.at is.last)
+      (record { progress = record q { sid = sid; at = at; best = Some best; closed = false }; found = None }) x y)
+      (progress-same s p is.closed is.from is.at is.last)
       (subst (λ c. SearchesOn (A.Reaches a No) s start
-      (record {
-        progress = record { sid = sid; from = s.from; at = at; last = s.last; best = Some best; closed = c };
-        found = None;
-      }) x y) none
-      (searches-then (A.Reaches a No) s start at waited.looks
-      (record {
-        progress = record { sid = sid; from = s.from; at = at; last = s.last; best = Some best; closed = s.closed };
-        found = None;
-      }) x y y here-leftmost waited.on waited.stands.course.ordered.1 waited.done
+      (record { progress = record (kept_by here sid (Some best)) { closed = c }; found = None }) x y) none
+      (searches-then s at here-leftmost waited.on waited.stands.course.ordered.1 waited.done
       (waits-none here (A.Reaches a No) start sid best y waited.stands (here-all over) is.countable none)))
 
   module _
       (stops : (text : List ℕ) (state : StateID) → A.Reaches a No text state
       → IsTrue (A.special a state) ↔ IsSpecial (A.built a) (A.matches a state) (A.starts a state) No text)
-      (stop : Advance) (z : Steps) (left : at - p.from < length held)
+      {stop : Advance} (z : Steps) (left : at - p.from < length held)
       (goes : Advances (A.Reaches a No) (A.special a) sid (slice_range held (at - p.from) (length held)) stop)
       (cost : IsReadCost (A.built a) (A.Reaches a) No sid
       (take stop.taken (slice_range held (at - p.from) (length held))) y z) where
@@ -168,7 +154,7 @@ module _ {S : Type 0} (A : Ghosts S) (a : S) (s : StreamProgress Picks) (start :
 
     quiet-here : IsQuietOn here.built.dictionary (read_by here) here.last here.at (here.at + stop.taken)
     quiet-here =
-        advance-quiet A a here sid stop tells stops is.built waited.stands.course.ordered.0 waited.stands.reads
+        advance-quiet A a here tells stops is.built waited.stands.course.ordered.0 waited.stands.reads
         goes-here
 
     -- the bytes since the search last began
@@ -204,9 +190,7 @@ module _ {S : Type 0} (A : Ghosts S) (a : S) (s : StreamProgress Picks) (start :
     waited-dead dead =
         subst (λ q. SearchesOn (A.Reaches a No) s start (searched_anew start q best) x z)
         (progress-same s p is.closed is.from is.at is.last)
-        (searches-then (A.Reaches a No) s start at waited.looks
-        (searched_anew start
-        (record { sid = p.sid; from = s.from; at = s.at; last = s.last; best = p.best; closed = s.closed }) best) x y z
+        (searches-then s at
         here-leftmost waited.on waited.stands.course.ordered.1 waited.done
         (decides-dead here (A.Reaches a) (A.matches a) start sid best stop y z told-here waited.stands over-here
         some-read quiet-here (subst (λ d. IsLive d.dictionary false text-there None) (sym is.built) dead) is.countable))
@@ -224,8 +208,7 @@ module _ {S : Type 0} (A : Ghosts S) (a : S) (s : StreamProgress Picks) (start :
         → HasWaited (A.Reaches a No) s start stop.sid (at + stop.taken) best x z
     waited-same open_ none =
         let alive = alive-there open_ in
-        waited-more (A.Reaches a No) s start stop.sid at (at + stop.taken) waited.looks
-        (z.looked.value - y.looked.value) best x y z (let further = waited.on in omega arith) waited.done done-there
+        waited-more s at (at + stop.taken) best (let further = waited.on in omega arith) waited.done done-there
         (waits-same here (A.Reaches a) (A.matches a) start sid best stop y z told-here waited.stands over-here some-read
         quiet-here none alive.0 alive.1)
 
@@ -240,8 +223,7 @@ module _ {S : Type 0} (A : Ghosts S) (a : S) (s : StreamProgress Picks) (start :
         (slice_get (A.matches a stop.sid) 0) = subst
         (λ d. Some o ≡ option_map (ending_at d.dictionary (at + stop.taken)) (slice_get (A.matches a stop.sid) 0))
         (sym is.built) found in
-        waited-more (A.Reaches a No) s start stop.sid at (at + stop.taken) waited.looks
-        (z.looked.value - y.looked.value) o x y z (let further = waited.on in omega arith) waited.done done-there
+        waited-more s at (at + stop.taken) o (let further = waited.on in omega arith) waited.done done-there
         (waits-better here (A.Reaches a) (A.matches a) start sid best stop y z told-here waited.stands over-here
         some-read quiet-here o matched there alive.0 alive.1)
 
@@ -315,7 +297,7 @@ module _ (b : Built) (s : StreamProgress Picks) (Reaches : Anchored → List ℕ
       → SearchesOn (Reaches No) (waits s (s.at + stop.taken) met-looks) start r z u
       → SearchesOn (Reaches No) s start r y u
   met-then r u on =
-      searches-then (Reaches No) s start (s.at + stop.taken) met-looks r y z u met-leftmost (omega arith)
+      searches-then s (s.at + stop.taken) met-leftmost (omega arith)
       met-held.stands.course.ordered.1
       (met-done s Reaches matches start p.sid stop o y z
       (tells-here b s Reaches matches start p held stop true y z tells is open_ stops)

@@ -12,13 +12,13 @@ use Rattle.ac_input.specs.Occurrence.{Occurrence}
 use Rattle.ac_input.specs.Text.{replaced_from}
 use Rattle.ac_input.specs.Work.{longest}
 use Rattle.ac_automaton.specs.Automaton.{Built}
-use Rattle.ac_automaton.specs.Devices.Moved.{AllFit, HasGiven, but_last}
-use Rattle.ac_automaton.specs.Replace.{LieInOrder}
+use Rattle.ac_automaton.specs.Stream.Devices.Moved.{AllFit, HasGiven, but_last}
+use Rattle.ac_automaton.specs.InMemory.Replace.{LieInOrder}
 use Rattle.ac_automaton.specs.Stream.{AreAllGiven, CanBeCounted, Decides, FindsHeld, HasRead, IsFront, IsNear, IsOnCourse, Picks, Occurrences, ReadsNothing, Sequence, StreamProgress, closed_by, cut_of, items_of, may_wait, place_of, read_by, room_of}
-use Rattle.ac_automaton.specs.Stream.StreamReplace.{IsAtCut, IsPlaced, replaced_in}
-use Rattle.ac_automaton.specs.declared.watched.Watched.{Watched}
-use Rattle.ac_automaton.proofs.devices.MovedLemmas.{given-push}
-use Rattle.ac_automaton.proofs.iter.ItemsLemmas.{lies-longer}
+use Rattle.ac_automaton.specs.Stream.Replace.{IsAtCut, IsPlaced, replaced_in}
+use Rattle.ac_automaton.specs.declared.stream.devices.watched.Watched.{Watched}
+use Rattle.ac_automaton.proofs.stream.devices.MovedLemmas.{given-push}
+use Rattle.ac_automaton.proofs.in_memory.iter.ItemsLemmas.{lies-longer}
 use Rattle.ac_automaton.proofs.stream.StreamCutLemmas.{matches-cut, matches-front}
 use Rattle.ac_automaton.proofs.stream.StreamIterLemmas.{but_last-push}
 
@@ -74,14 +74,14 @@ ReadsNothing-then s t u a b = record {
 }
 
 -- the cut lies within what was read
-pub cut-within : {q : Sequence} (s : StreamProgress q) → IsOnCourse s → cut_of s ≤ length (read_by s)
-cut-within s course = let a = course.ordered.0 in let e = course.ordered.1 in omega arith
+pub cut-within : {q : Sequence} {s : StreamProgress q} → IsOnCourse s → cut_of s ≤ length (read_by s)
+cut-within course = let a = course.ordered.0 in let e = course.ordered.1 in omega arith
 
 -- the items of what was read that are left, all of which are at the cut or later
-pub rest-left : {q : Sequence} (s : StreamProgress q) → IsOnCourse s
+pub rest-left : {q : Sequence} {s : StreamProgress q} → IsOnCourse s
     → (rest : List Occurrence) × (items_of q s.built.dictionary (read_by s) ≡ s.given ++ rest)
     × All (λ o. cut_of s ≤ place_of q o) rest
-rest-left {q} s course =
+rest-left {q} {s} course =
     let decided = course.decided [] (λ _. refl) in
     (decided.0, ap (items_of q s.built.dictionary) (sym (append-nil (read_by s))) ∙ decided.1, decided.2)
 
@@ -106,7 +106,7 @@ module _ {q : Sequence} (s t : StreamProgress q) (o : Occurrence) (course : IsOn
   pub next-left : (rest : List Occurrence)
       × (items_of q s.built.dictionary (read_by s) ≡ s.given ++ o ∷ rest) × All (λ p. o.end ≤ place_of q p) rest
   next-left =
-      let left = rest-left t course in
+      let left = rest-left course in
       let last : t.last ≡ o.end = finds.2 in
       let read : items_of q t.built.dictionary (read_by t) ≡ items_of q s.built.dictionary (read_by s) =
       ap (λ b. items_of q b.dictionary (read_by t)) finds.0.built ∙ ap (items_of q s.built.dictionary) same-read in (
@@ -119,7 +119,7 @@ module _ {q : Sequence} (s t : StreamProgress q) (o : Occurrence) (course : IsOn
     -- the item comes where the passed text ends, or later
     pub item-behind : at ≤ place_of q o
     item-behind =
-        let left = rest-left s placed.course in
+        let left = rest-left placed.course in
         let next = next-left in
         let from = next-begins q (items_of q s.built.dictionary (read_by s)) s.given left.0 next.0 o (cut_of s) left.1
         (next.1 ∙ sym (append_assoc s.given (o ∷ []) next.0)) left.2 in
@@ -154,9 +154,9 @@ module _ {q : Sequence} (s t : StreamProgress q) (o : Occurrence) (course : IsOn
         }
 
 -- where no further item was read, the text may be passed on up to the same place
-pub none-placed : {q : Sequence} (s t : StreamProgress q) (at : ℕ) → IsPlaced s at → IsOnCourse t → FindsHeld s None t
+pub none-placed : {q : Sequence} {s t : StreamProgress q} {at : ℕ} → IsPlaced s at → IsOnCourse t → FindsHeld s None t
     → IsPlaced t at
-none-placed s t at placed course finds =
+none-placed {s} {t} {at} placed course finds =
     let same = finds.0 in
     let read : read_by t ≡ read_by s = ap concat same.pieces in
     let all = finds.2 placed.countable in
@@ -194,9 +194,9 @@ cut-placed s at cut placed is =
     }
 
 -- where more may come, the items returned are those that are decided
-pub decides-given : {q : Sequence} (s : StreamProgress q) → IsOnCourse s → AreAllGiven s → s.closed ≡ false
+pub decides-given : {q : Sequence} {s : StreamProgress q} → IsOnCourse s → AreAllGiven s → s.closed ≡ false
     → Decides q s.built.dictionary (read_by s) s.given
-decides-given s course all unclosed = record {
+decides-given course all unclosed = record {
   first = λ more. let rest = course.decided more (λ closed. absurd (false≢true (sym unclosed ∙ closed))) in
       (rest.0, rest.1);
   all = λ standard. all.all (inl standard);
@@ -204,41 +204,41 @@ decides-given s course all unclosed = record {
 }
 
 -- no more bytes lie after the cut of a search for matches than may be kept
-near-picked : (s : StreamProgress Picks) (at : ℕ) → IsAtCut s at → s.closed ≡ false
+near-picked : {s : StreamProgress Picks} {at : ℕ} → IsAtCut s at → s.closed ≡ false
     → IsNear s.built.dictionary (read_by s) at
-near-picked s at place unclosed =
+near-picked {s} {at} place unclosed =
     let is : at ≡ cut_of s = place.cut in
     let searched : s.at ≡ length (read_by s) = place.all.searched in
     record {
       kept = omega arith;
-      all = λ done. let anew = place.all.anew (done s.given (decides-given s place.placed.course place.all unclosed)) in
+      all = λ done. let anew = place.all.anew (done s.given (decides-given place.placed.course place.all unclosed)) in
           omega arith;
     }
 
 -- no bytes lie after the cut of a search for occurrences
-near-listed : (s : StreamProgress Occurrences) (at : ℕ) → IsAtCut s at → IsNear s.built.dictionary (read_by s) at
-near-listed s at place =
+near-listed : {s : StreamProgress Occurrences} {at : ℕ} → IsAtCut s at → IsNear s.built.dictionary (read_by s) at
+near-listed {s} {at} place =
     let is : at ≡ cut_of s = place.cut in
     let searched : s.at ≡ length (read_by s) = place.all.searched in
     let last : s.last ≡ s.at = place.placed.course.passed refl in
     record { kept = omega arith; all = λ done. omega arith }
 
-pub near-cut : (q : Sequence) (s : StreamProgress q) (at : ℕ) → IsAtCut s at → s.closed ≡ false
+pub near-cut : (q : Sequence) {s : StreamProgress q} {at : ℕ} → IsAtCut s at → s.closed ≡ false
     → IsNear s.built.dictionary (read_by s) at
-near-cut Picks s at place unclosed = near-picked s at place unclosed
-near-cut Occurrences s at place unclosed = near-listed s at place
+near-cut Picks place unclosed = near-picked place unclosed
+near-cut Occurrences place unclosed = near-listed place
 
 -- the text up to the cut is the front of what was read, replaced
-pub front-at_cut : (b : Built) (replacements : List (List ℕ)) (s : StreamProgress Picks) (at : ℕ) → s.built ≡ b
+pub front-at_cut : (b : Built) (replacements : List (List ℕ)) {s : StreamProgress Picks} {at : ℕ} → s.built ≡ b
     → IsAtCut s at → s.closed ≡ false
     → IsFront b.dictionary (replaced_in b replacements) (read_by s)
     (replaced_from 0 (take at (read_by s)) replacements s.given)
-front-at_cut b replacements s at built place unclosed =
+front-at_cut b replacements {s} {at} built place unclosed =
     let x = read_by s in
     let course = place.placed.course in
-    let left = rest-left s course in
+    let left = rest-left course in
     let at_cut : at ≡ cut_of s = place.cut in
-    let within = cut-within s course in
+    let within = cut-within course in
     let inside : at ≤ length x = omega arith in
     let begin = all-later Picks at _ left.0 (omega arith) left.2 in
     let patterns = length s.built.dictionary.patterns in
@@ -247,7 +247,7 @@ front-at_cut b replacements s at built place unclosed =
     built (record {
       cut = at;
       is_cut = matches-cut s.built x at patterns s.given left.0 inside left.1 lies begin;
-      near = near-picked s at place unclosed;
+      near = near-picked place unclosed;
       front = ap (replaced_from 0 (take at x) replacements)
           (sym (matches-front s.built x at patterns s.given left.0 course.filled inside left.1 lies begin));
     })
@@ -295,9 +295,9 @@ module _ {R : Type 0} {q : Sequence} {remaining : R → Option (List ℕ)} {s t 
       }
 
 -- no piece that was read is longer than the buffer
-pub pieces-fit : {q : Sequence} (b : Built) (t : StreamProgress q) → t.built ≡ b → IsOnCourse t
+pub pieces-fit : {q : Sequence} (b : Built) {t : StreamProgress q} → t.built ≡ b → IsOnCourse t
     → AllFit (room_of q b) t.pieces
-pieces-fit {q} b t built course = subst (λ c. AllFit (room_of q c) t.pieces) built course.short
+pieces-fit {q} b {t} built course = subst (λ c. AllFit (room_of q c) t.pieces) built course.short
 
 -- ---- what a read returned
 

@@ -10,14 +10,14 @@ use Rattle.ac_input.specs.declared.search.MatchKind.TheVariants.{Standard, Leftm
 use Rattle.ac_input.specs.declared.steps.Steps.{Steps}
 use Rattle.ac_input.specs.Work.{longest, lookups_per_byte}
 use Rattle.ac_automaton.specs.Automaton.{Built}
-use Rattle.ac_automaton.specs.Replace.{matches_in}
+use Rattle.ac_automaton.specs.InMemory.Replace.{matches_in}
 use Rattle.ac_automaton.specs.Stream.{CanStream, IsOnCourse, IsSearched, Occurrences, Picks, Sequence, StreamProgress, again_for, fresh_progress, read_again, read_by, read_in_all}
-use Rattle.ac_automaton.specs.Stream.StreamPump.{Handling, PumpsAt, PumpsMatches, PumpsOccurrences}
-use Rattle.ac_automaton.specs.Stream.StreamReplace.{CostsSearch, HasSearched}
+use Rattle.ac_automaton.specs.Stream.Pump.{Handling, PumpsAt, PumpsMatches, PumpsOccurrences}
+use Rattle.ac_automaton.specs.Stream.Replace.{CostsSearch, HasSearched}
 use Rattle.ac_automaton.specs.declared.error.StreamError.{StreamError}
 use Rattle.ac_automaton.specs.declared.stream.StreamKinds.{StreamKinds}
 use Rattle.ac_automaton.specs.declared.stream.StreamKinds.TheVariants.{OnlyStandard}
-use Rattle.ac_automaton.specs.declared.watched.Watched.{Watched}
+use Rattle.ac_automaton.specs.declared.stream.devices.watched.Watched.{Watched}
 
 -- the look-ups for fewer bytes are within those for more
 looks-fit : (deterministic : Bool) (looked less n : ℕ) → looked ≤ lookups_per_byte deterministic * less → less ≤ n
@@ -33,17 +33,17 @@ again-within LeftmostFirst long n few more le = let again = mul-le-mul_left (lon
 again-within LeftmostLongest long n few more le = let again = mul-le-mul_left (long + 1) le in omega arith
 
 -- what may be read again for the items returned is within what may be for all matches
-again-all : (q : Sequence) (t : StreamProgress q) → IsOnCourse t
+again-all : (q : Sequence) {t : StreamProgress q} → IsOnCourse t
     → read_in_all t ≤ length (read_by t)
     + read_again t.built.dictionary (length (read_by t)) (length (matches_in t.built (read_by t)))
-again-all Picks t course =
+again-all Picks {t} course =
     let begun = course.begun in
     let long = ap length begun.1 in
     let both = length-append t.given begun.0 in
     let again = again-within t.built.dictionary.kind (longest t.built.dictionary.patterns) (length (read_by t))
     (length t.given) (length (matches_in t.built (read_by t))) (omega arith) in
     omega arith
-again-all Occurrences t course =
+again-all Occurrences {t} course =
     let none =
     ap (λ k. length (read_by t) + again_for k (longest t.built.dictionary.patterns) (length (read_by t))
     (length t.given)) (course.standard refl) in
@@ -65,7 +65,7 @@ cost-searched {R} {q} b s t r0 r1 before after result fresh h =
     let looks =
     subst (λ c. t.looked ≤ lookups_per_byte c.deterministic
     * (n + read_again c.dictionary n (length (matches_in c (read_by t))))) built
-    (looks-fit t.built.deterministic t.looked (read_in_all t) _ paid.looked (again-all q t h.course)) in (
+    (looks-fit t.built.deterministic t.looked (read_in_all t) _ paid.looked (again-all q h.course)) in (
       t.pieces,
       h.read,
       record {

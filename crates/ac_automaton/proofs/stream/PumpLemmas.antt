@@ -3,13 +3,13 @@ use Rattle.std.proofs.Common.{◌≡◌, inl, inr, ℕ, ◌-◌, ◌<◌, ◌≤
 use Rattle.std.specs.List.{concat}
 use Rattle.std.proofs.lemmas.List.{append-nil, length-append}
 use Rattle.ac_input.specs.Occurrence.{Occurrence}
-use Rattle.ac_automaton.specs.Replace.{LieInOrder}
+use Rattle.ac_automaton.specs.InMemory.Replace.{LieInOrder}
 use Rattle.ac_automaton.specs.Stream.{AreAllGiven, FindsHeld, IsOnCourse, Occurrences, Picks, Sequence, StreamProgress, cut_of, items_of, place_of, read_by}
-use Rattle.ac_automaton.specs.Stream.StreamPump.{Handling, IsSinkChain, LiesHeld, PassesItems, StaysReady, StopsFrom, StopsPassing, bytes_between}
-use Rattle.ac_automaton.specs.Stream.StreamReplace.{IsPlaced}
+use Rattle.ac_automaton.specs.Stream.Pump.{Handling, IsSinkChain, LiesHeld, PassesItems, StaysReady, StopsFrom, StopsPassing, bytes_between}
+use Rattle.ac_automaton.specs.Stream.Replace.{IsPlaced}
 use Rattle.ac_automaton.specs.declared.error.StreamError.{StreamError}
 use Rattle.ac_automaton.proofs.stream.PlacedLemmas.{ReadsNothing-then, all-later, cut-placed, cut-within, item-behind, item-placed, match-behind, next-left, none-placed, nothing-read, rest-left}
-use Rattle.ac_automaton.proofs.stream.SinkChainLemmas.{BeginsBy, IsLawful, chain-none, chain-then}
+use Rattle.ac_automaton.proofs.stream.SinkChainLemmas.{begin_of, IsLawful, chain-none, chain-then}
 
 -- ---- items in order
 
@@ -17,13 +17,14 @@ use Rattle.ac_automaton.proofs.stream.SinkChainLemmas.{BeginsBy, IsLawful, chain
 lies-join : (patterns at mid to : ℕ) (os more : List Occurrence) → mid ≤ to → at ≤ mid → LieInOrder patterns mid at os
     → LieInOrder patterns to mid more → LieInOrder patterns to at (os ++ more)
 lies-join patterns at mid to [] [] le from one two = tt
-lies-join patterns at mid to [] (o ∷ more) le from one two = let start = two.1 in (two.0, omega arith, two.2, two.3, two.4)
+lies-join patterns at mid to [] (o ∷ more) le from one two = let start = two.1 in
+    (two.0, omega arith, two.2, two.3, two.4)
 lies-join patterns at mid to (o ∷ os) more le from one two =
     let end = one.3 in (one.0, one.1, one.2, omega arith, lies-join patterns o.end mid to os more le one.3 one.4 two)
 
 -- the first of some items begins where the ones before it end, or later
 pub begins-by : (patterns to mid : ℕ) (more : List Occurrence) → mid ≤ to → LieInOrder patterns to mid more
-    → BeginsBy mid more to
+    → mid ≤ begin_of more to
 begins-by patterns to mid [] le lies = le
 begins-by patterns to mid (o ∷ more) le lies = lies.1
 
@@ -123,7 +124,7 @@ module _ {Z : Type 0} {h : Handling Z} (lawful : IsLawful h) {q : Sequence} wher
   none-passed s t at z placed course finds = (
     record {
       same = finds.0;
-      placed = none-placed s t at placed course finds;
+      placed = none-placed placed course finds;
       on = omega arith;
       more = [];
       given = finds.1 ∙ sym (append-nil s.given);
@@ -202,7 +203,8 @@ module _ {Z : Type 0} {h : Handling Z} (lawful : IsLawful h) {q : Sequence} wher
   fewer-left s t from to z last passed more =
       let begun = passed.placed.course.begun in
       let long = ap length begun.1 ∙ length-append t.given begun.0 in
-      let read : length (items_of q t.built.dictionary (read_by t)) ≡ length (items_of q s.built.dictionary (read_by s)) =
+      let read : length (items_of q t.built.dictionary (read_by t)) ≡ length (items_of q s.built.dictionary
+      (read_by s)) =
       ap (λ b. length (items_of q b.dictionary (read_by t))) passed.same.built
       ∙ ap (λ pieces. length (items_of q s.built.dictionary (concat pieces))) passed.same.pieces in
       omega arith
@@ -227,9 +229,9 @@ module _ {Z : Type 0} {h : Handling Z} (lawful : IsLawful h) {q : Sequence} wher
     -- the sink stopped at the text before the cut
     pub cut-stopped : (error : StreamError) → h.stops z bytes error last → StopsPassing h s s at z error last
     cut-stopped error stops =
-        let left = rest-left s placed.course in
+        let left = rest-left placed.course in
         let le = placed.cut in
-        let within = cut-within s placed.course in (
+        let within = cut-within placed.course in (
           nothing-read s,
           record {
             more = [];

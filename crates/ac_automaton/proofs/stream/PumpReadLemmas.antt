@@ -17,15 +17,15 @@ use Rattle.ac_input.proofs.lemmas.TextLemmas.{pick-occurs}
 use Rattle.ac_input.proofs.lemmas.UnusedLemmas.{occurs-some}
 use Rattle.ac_input.proofs.lemmas.WalkLemmas.{pick-within}
 use Rattle.ac_automaton.specs.Automaton.{Built}
-use Rattle.ac_automaton.specs.Devices.Moved.{AreFilled, AreWhole, HasGiven, but_last}
-use Rattle.ac_automaton.specs.Replace.{LieInOrder, matches_in}
+use Rattle.ac_automaton.specs.Stream.Devices.Moved.{AreFilled, AreWhole, HasGiven, but_last}
+use Rattle.ac_automaton.specs.InMemory.Replace.{matches_in}
 use Rattle.ac_automaton.specs.Stream.{CanBeCounted, HasRead, IsOnCourse, IsSearched, Occurrences, Picks, ReadsMore, ReadsNothing, Sequence, StreamCounts, StreamProgress, closed_by, cut_of, fresh_progress, items_of, place_of, read_by}
-use Rattle.ac_automaton.specs.Stream.StreamPump.{HasComeToCut, Handling, IsSinkChain, PassesItems, Pumps, StopsFrom, StopsPassing, AnswersTake, bytes_between}
-use Rattle.ac_automaton.specs.Stream.StreamReplace.{HasSearched, IsAtCut, IsPlaced}
+use Rattle.ac_automaton.specs.Stream.Pump.{HasComeToCut, Handling, IsSinkChain, PassesItems, Pumps, StopsFrom, StopsPassing, AnswersTake, bytes_between}
+use Rattle.ac_automaton.specs.Stream.Replace.{HasSearched, IsAtCut, IsPlaced}
 use Rattle.ac_automaton.specs.declared.error.StreamError.{StreamError}
 use Rattle.ac_automaton.specs.declared.error.StreamError.TheVariants.{Config, Read, Write, WriteZero, Memory, Position}
-use Rattle.ac_automaton.specs.declared.watched.Watched.{Watched}
-use Rattle.ac_automaton.proofs.devices.MovedLemmas.{AreFilled-push, given-none}
+use Rattle.ac_automaton.specs.declared.stream.devices.watched.Watched.{Watched}
+use Rattle.ac_automaton.proofs.stream.devices.MovedLemmas.{AreFilled-push, given-none}
 use Rattle.ac_automaton.proofs.lemmas.WalkEndLemmas.{none-alive}
 use Rattle.ac_automaton.proofs.stream.PlacedLemmas.{all-later, before-last, cut-within, decides-given, given-more, near-cut, pieces-fit, placed-after, read-more, read-same}
 use Rattle.ac_automaton.proofs.stream.PumpLemmas.{begins-by}
@@ -130,14 +130,14 @@ module _ {Z : Type 0} {h : Handling Z} (lawful : IsLawful h) {q : Sequence} {R :
   come-to_cut s at r z p =
       let course = p.place.placed.course in
       let is : at ≡ cut_of s = p.place.cut in
-      let inside = cut-within s course in
+      let inside = cut-within course in
       subst (λ c. HasComeToCut h q c (read_by s) at s.given z0 z) p.built (record {
-        decides = decides-given s course p.place.all p.unclosed;
+        decides = decides-given course p.place.all p.unclosed;
         within = omega arith;
         later = λ more.
             let left = course.decided more (λ closed. absurd (false≢true (sym p.unclosed ∙ closed))) in
             (left.0, left.1, all-later q at _ left.0 (omega arith) left.2);
-        near = near-cut q s at p.place p.unclosed;
+        near = near-cut q p.place p.unclosed;
         lies = p.place.placed.lies;
         chain = p.chain;
         settled = p.settled;
@@ -160,7 +160,7 @@ module _ {Z : Type 0} {h : Handling Z} (lawful : IsLawful h) {q : Sequence} {R :
     -- the search has come to a place of what was read by now
     pub read-on : IsOnCourse t → CanBeCounted (read_by t) → failed ≡ 0 → HasReadOn h q remaining b r0 z0 t at r1 z
     read-on course countable fine =
-        let within = cut-within s p.place.placed.course in
+        let within = cut-within p.place.placed.course in
         let is : at ≡ cut_of s = p.place.cut in
         record {
           built = built-read;
@@ -191,7 +191,7 @@ module _ {Z : Type 0} {h : Handling Z} (lawful : IsLawful h) {q : Sequence} {R :
       t.pieces,
       failed,
       given-read,
-      pieces-fit b t built-read course,
+      pieces-fit b built-read course,
       inr (
         fails,
         whole-read none,
@@ -210,7 +210,7 @@ module _ {Z : Type 0} {h : Handling Z} (lawful : IsLawful h) {q : Sequence} {R :
       t.pieces,
       failed,
       given-read,
-      pieces-fit b t built-read course,
+      pieces-fit b built-read course,
       inr (
         fine,
         long,
@@ -274,6 +274,27 @@ module _ {Z : Type 0} {h : Handling Z} (lawful : IsLawful h) {q : Sequence} {R :
       })
       course
 
+  -- the sink stopped
+  pub stopped-on : (t u : StreamProgress q) (at : ℕ) (r : Watched R) (z last : Z)
+      → HasReadOn h q remaining b r0 z0 t at r z → (error : StreamError) → StopsPassing h t u at z error last
+      → Pumps h q remaining b r0 r z0 last (Err error)
+  stopped-on t u at r z last o error (same, stop) = (
+    t.pieces,
+    0,
+    o.read,
+    pieces-fit b o.built o.placed.course,
+    inl (
+      refl,
+      record {
+        cut = at;
+        done = t.given;
+        mid = z;
+        came = o.came;
+        stops = subst (λ c. StopsFrom h q c (read_by t) at t.given z error last) o.built stop;
+      },
+    ),
+  )
+
   module _ (t u : StreamProgress q) (at to : ℕ) (r : Watched R) (z y : Z)
       (o : HasReadOn h q remaining b r0 z0 t at r z) (goes : PassesItems h t u at to z y) where
     same-pieces : read_by u ≡ read_by t
@@ -310,7 +331,7 @@ module _ {Z : Type 0} {h : Handling Z} (lawful : IsLawful h) {q : Sequence} {R :
     module _ (whole : AreWhole t.pieces) (all : u.given ≡ items_of q u.built.dictionary (read_by u)) (last : Z)
         (bytes : List ℕ) (is : bytes ≡ bytes_between q (read_by u) to (length (read_by u))) where
       within-on : to ≤ length (read_by u)
-      within-on = let cut = goes.placed.cut in let inside = cut-within u goes.placed.course in omega arith
+      within-on = let cut = goes.placed.cut in let inside = cut-within goes.placed.course in omega arith
 
       -- the rest was taken
       rest-taken : h.takes y bytes last → h.settled last → Pumps h q remaining b r0 r z0 last (Ok tt)
@@ -319,7 +340,7 @@ module _ {Z : Type 0} {h : Handling Z} (lawful : IsLawful h) {q : Sequence} {R :
             u.pieces,
             0,
             given-on,
-            pieces-fit b u built-on goes.placed.course,
+            pieces-fit b built-on goes.placed.course,
             (
               refl,
               record {
@@ -338,69 +359,35 @@ module _ {Z : Type 0} {h : Handling Z} (lawful : IsLawful h) {q : Sequence} {R :
       rest-stopped : (error : StreamError) → h.stops y bytes error last
           → Pumps h q remaining b r0 r z0 last (Err error)
       rest-stopped error stops =
-          let x = read_by t in
-          let left : items_of q b.dictionary x ≡ t.given ++ (goes.more ++ []) =
-          ap (λ c. items_of q c.dictionary x) (sym built-on) ∙ ap (items_of q u.built.dictionary) (sym same-pieces)
-          ∙ sym all ∙ goes.given ∙ ap (λ os. t.given ++ os) (sym (append-nil goes.more)) in
           let inside = within-on in
-          let long : length (read_by u) ≡ length x = ap length same-pieces in (
-            t.pieces,
-            0,
-            o.read,
-            pieces-fit b t o.built o.placed.course,
-            inl (
-              refl,
-              record {
-                cut = at;
-                done = t.given;
-                mid = z;
-                came = o.came;
-                stops = record {
-                  more = goes.more;
-                  rest = [];
-                  all = left;
-                  at = to;
-                  on = goes.on;
-                  lies = λ e. subst (λ c. LieInOrder (length c.dictionary.patterns) to at goes.more) o.built (goes.lies e);
-                  there = y;
-                  chain = goes.chain;
-                  stop = inl (record {
-                    end = length x;
-                    order = (omega arith, omega arith);
-                    later = All-from_recursion (λ (i : Occurrence). length x ≤ place_of q i) [] tt;
-                    stopped = subst (λ w. h.stops y (bytes_between q w to (length w)) error last) same-pieces
-                        (subst (λ xs. h.stops y xs error last) is stops);
-                  });
-                };
-              },
-            ),
+          let long : length (read_by u) ≡ length (read_by t) = ap length same-pieces in
+          stopped-on t u at r z last o error (
+            goes.same,
+            record {
+              more = goes.more;
+              rest = [];
+              all = ap (λ c. items_of q c.dictionary (read_by t)) (sym goes.same.built)
+                  ∙ ap (items_of q u.built.dictionary) (sym same-pieces) ∙ sym all ∙ goes.given
+                  ∙ ap (λ os. t.given ++ os) (sym (append-nil goes.more));
+              at = to;
+              on = goes.on;
+              lies = goes.lies;
+              there = y;
+              chain = goes.chain;
+              stop = inl (record {
+                end = length (read_by t);
+                order = (omega arith, omega arith);
+                later = All-from_recursion (λ (i : Occurrence). length (read_by t) ≤ place_of q i) [] tt;
+                stopped = subst (λ w. h.stops y (bytes_between q w to (length w)) error last) same-pieces
+                    (subst (λ xs. h.stops y xs error last) is stops);
+              });
+            },
           )
 
       pub rest-answered : (result : Result (Unit {0}) StreamError) → AnswersTake h y bytes last result
           → Pumps h q remaining b r0 r z0 last result
       rest-answered (Ok done) takes = rest-taken takes.0 takes.1
       rest-answered (Err error) stops = rest-stopped error stops
-
-  -- the sink stopped
-  pub stopped-on : (t u : StreamProgress q) (at : ℕ) (r : Watched R) (z last : Z)
-      → HasReadOn h q remaining b r0 z0 t at r z → (error : StreamError) → StopsPassing h t u at z error last
-      → Pumps h q remaining b r0 r z0 last (Err error)
-  stopped-on t u at r z last o error (same, stop) = (
-    t.pieces,
-    0,
-    o.read,
-    pieces-fit b t o.built o.placed.course,
-    inl (
-      refl,
-      record {
-        cut = at;
-        done = t.given;
-        mid = z;
-        came = o.came;
-        stops = subst (λ c. StopsFrom h q c (read_by t) at t.given z error last) o.built stop;
-      },
-    ),
-  )
 
 -- ---- what was read and counted
 

@@ -9,18 +9,17 @@ use Rattle.ac_input.specs.Occurrence.{Occurrence}
 use Rattle.ac_input.specs.Steps.{Done}
 use Rattle.ac_automaton.specs.Ahead.{Settles, onward}
 use Rattle.ac_automaton.specs.Automaton.{Built, has_some}
-use Rattle.ac_automaton.specs.Cursor.{IsFirstAt}
-use Rattle.ac_automaton.specs.FindAhead.{IsAheadOf}
+use Rattle.ac_automaton.specs.InMemory.Find.Cursor.{IsFirstAt}
+use Rattle.ac_automaton.specs.InMemory.Find.Ahead.{IsAheadOf}
 use Rattle.ac_automaton.specs.Stream.{StreamProgress, read_by, Picks}
-use Rattle.ac_automaton.specs.Stream.StreamSearch.{IsHeldAt, SearchesOn, searched_anew}
-use Rattle.ac_automaton.specs.Stream.StreamWalk.{IsAheadBy}
+use Rattle.ac_automaton.specs.Stream.Search.{IsHeldAt, Searched, SearchesOn, searched_anew}
+use Rattle.ac_automaton.specs.Stream.Search.Walk.{IsAheadBy}
 use Rattle.ac_automaton.specs.declared.ahead.Ahead.{Ahead}
 use Rattle.ac_automaton.specs.declared.automaton.Automaton.{Ghosts}
 use Rattle.ac_automaton.specs.declared.stream.search.Progress.{Progress}
-use Rattle.ac_automaton.specs.declared.stream.search.Searched.{Searched}
 use Rattle.ac_automaton.proofs.ahead.AheadLemmas.{ahead-elsewhere, ahead-over}
 use Rattle.ac_automaton.proofs.automaton.PassLemmas.{matching-some}
-use Rattle.ac_automaton.proofs.find_ahead.FindAheadLemmas.{first-ends}
+use Rattle.ac_automaton.proofs.in_memory.find.ahead.FindAheadLemmas.{first-ends}
 
 -- ---- what is paid
 

@@ -9,7 +9,7 @@ use Rattle.ac_input.specs.declared.search.Anchored.TheVariants.{No}
 use Rattle.ac_input.specs.declared.search.MatchKind.TheVariants.{Standard, LeftmostFirst, LeftmostLongest}
 use Rattle.ac_input.specs.declared.steps.Steps.{Steps}
 use Rattle.ac_input.specs.Best.{IsBest}
-use Rattle.ac_input.specs.Dictionary.{Dictionary, IsLive, live_len, whole}
+use Rattle.ac_input.specs.Dictionary.{Dictionary, IsLive, whole}
 use Rattle.ac_input.specs.Laws.LiveLaws.{shifted}
 use Rattle.ac_input.specs.Occurrence.{Occurrence, Occurs}
 use Rattle.ac_input.specs.Steps.{Done}
@@ -19,8 +19,8 @@ use Rattle.ac_input.specs.Work.{longest}
 use Rattle.ac_input.proofs.lemmas.OrderLemmas.{slice_range-length}
 use Rattle.ac_input.specs.declared.search.MatchKind.{MatchKind}
 use Rattle.ac_automaton.specs.Automaton.{Advances, Built, IsReadCost, IsState, is_matching}
-use Rattle.ac_automaton.specs.Replace.{matches_in}
-use Rattle.ac_automaton.specs.Stream.StreamSearch.{ContinuesWalk, IsHeldAt, SearchesOn, StandsInState, after_search, since_last, searched_anew, waits}
+use Rattle.ac_automaton.specs.InMemory.Replace.{matches_in}
+use Rattle.ac_automaton.specs.Stream.Search.{ContinuesWalk, IsHeldAt, SearchesOn, StandsInState, after_search, since_last, searched_anew, waits}
 use Rattle.ac_automaton.specs.Stream.{CanBeCounted, FindsHeld, IsHeldItem, IsOnCourse, NothingIsLive, StreamProgress, end_of, read_by, read_again, again_for, AreAllGiven, may_wait, Picks}
 use Rattle.ac_automaton.specs.declared.automaton.Advance.{Advance}
 use Rattle.ac_automaton.specs.declared.automaton.Automaton.{Ghosts}
@@ -28,13 +28,17 @@ use Rattle.ac_automaton.specs.declared.stream.search.Progress.{Progress}
 use Rattle.ac_automaton.proofs.lemmas.CursorLemmas.{list-none, part-empty}
 use Rattle.ac_automaton.proofs.automaton.PassLemmas.{StopsAtMatch, stops-none, stops-there, stops-over}
 use Rattle.ac_automaton.proofs.stream.StreamLemmas.{all-given, end_of-push, given-anew, given-open, goes-anew, goes-match, pick-since}
-use Rattle.ac_automaton.proofs.find.ToldLemmas.{told-first_occurs}
+use Rattle.ac_automaton.proofs.in_memory.find.ToldLemmas.{told-first_occurs}
 use Rattle.ac_automaton.proofs.lemmas.WalkLemmas.{occurs-bound, standard-final}
 use Rattle.ac_automaton.proofs.stream.BestOnLemmas.{best-met, best-stays, best-told}
 use Rattle.ac_automaton.proofs.stream.SequenceLemmas.{picks≢occurrences}
 use Rattle.ac_input.proofs.lemmas.SomeLemmas.{live-some}
 use Rattle.ac_input.proofs.lemmas.UnusedLemmas.{occurs-some}
-use Rattle.ac_automaton.proofs.stream.SearchReadLemmas.{alive-none, cost-on, live-empty, looks-done, none-quiet, nothing-in_empty, paid-on, reads-on, rest-held, stands-from, tells-on, text-on}
+use Rattle.ac_automaton.proofs.stream.SearchReadLemmas.{alive-none, none-quiet, paid-on, reads-on, rest-held, stands-from, tells-on, text-on, stands-anew, goes-walking, done-on, inside-on}
+
+-- the fields that a search keeps, by how far it has come
+abbrev pub kept_by : StreamProgress Picks → StateID → Option Occurrence → Progress
+kept_by s sid best = record { sid = sid; from = s.from; at = s.at; last = s.last; best = best; closed = s.closed }
 
 -- All that is held was searched, and nothing was found.
 module _ (s : StreamProgress Picks) (Reaches : Anchored → List ℕ → StateID → Type 0) (matches : StateID → List ℕ)
@@ -63,10 +67,6 @@ module _ (s : StreamProgress Picks) (Reaches : Anchored → List ℕ → StateID
   all = let rest = length-drop s.at (read_by s) in let within = stops.within in let inside = stands.course.ordered.1 in
       omega (arith, (stops.none refl).0)
 
-  -- the state was reached by these bytes
-  reads : Reaches No since stop.sid
-  reads = reads-on s Reaches sid stop y z stands.course.ordered.0 stands.reads (stops-over stops)
-
   -- these bytes hold no match
   since-quiet : IsBest m.kind (whole m since false) None
   since-quiet =
@@ -74,13 +74,14 @@ module _ (s : StreamProgress Picks) (Reaches : Anchored → List ℕ → StateID
       let end = all in
       best-stays stop.taken m (read_by s) s.last s.at None ordered (omega arith) (λ standard. refl)
       (λ k lt le. ⊎_elim
-      (λ (before : k < to). tells-on s Reaches matches sid stop false y z tells ordered stands.reads stops k lt before)
+      (λ (before : k < to). tells-on s tells ordered stands.reads stops k lt before)
       (λ (there : to ≤ k).
       let same : to ≡ k = omega arith in
       subst (λ n. Tells m No (slice_range (read_by s) s.last n) []) same
-      (subst (λ ns. Tells m No since ns) (stops.none refl).1 (tells since stop.sid reads)))
+      (subst (λ ns. Tells m No since ns) (stops.none refl).1
+      (tells since stop.sid (reads-on stands (stops-over stops)))))
       (cases_lt k to))
-      (none-quiet s (Reaches No) start sid stands)
+      (none-quiet stands)
 
   -- these bytes aren't dead
   since-alive : (live : ℕ) × IsLive m false since (Some live)
@@ -89,26 +90,6 @@ module _ (s : StreamProgress Picks) (Reaches : Anchored → List ℕ → StateID
   -- no match was returned since, so no more bytes may be read again
   same-again : read_again m 0 (length (s.given ++ [])) ≡ read_again m 0 (length s.given)
   same-again = ap (λ os. read_again m 0 (length os)) (append-nil s.given)
-
-  -- all that looking so far has cost is paid for
-  paid : (live : Option ℕ) → IsLive m false since live
-      → (s.looked + looks + live_len since live ≤ 2 * (to + read_again m 0 (length s.given))) × (to ≤ s.looked + looks)
-      × (IsTrue s.built.deterministic → s.looked + looks ≤ to + read_again m 0 (length s.given))
-  paid live is =
-      let before = live-some in
-      let sums = stands.lookups before.0 before.1 in
-      paid-on s.built.deterministic s.looked (live_len (since_last s) before.0) s.at (read_again m 0 (length s.given))
-      stop.taken (live_len since live) y z sums.0 sums.1 sums.2
-      (cost-on s Reaches sid stop y z before.0 live stands.course.ordered.0 stands.reads (stops-over stops) before.1 is)
-
-  -- the looks are all that was done
-  done : Done looks 0 0 y z
-  done =
-      let before = live-some in
-      let after = live-some in
-      looks-done s.built.deterministic stop.taken _ _ y z
-      (cost-on s Reaches sid stop y z before.0 after.0 stands.course.ordered.0 stands.reads (stops-over stops) before.1
-      after.1)
 
   -- all matches were returned
   given : s.given ++ [] ≡ matches_in s.built (read_by s)
@@ -121,11 +102,12 @@ module _ (s : StreamProgress Picks) (Reaches : Anchored → List ℕ → StateID
   -- there is no further match in what was read
   none-finds : (sid' : StateID) (last : ℕ) → s.last ≤ last → (NothingIsLive m since → last ≡ to)
       → FindsHeld s None
-      (after_search s
-      (record {
-        progress = record { sid = sid'; from = s.from; at = to; last = last; best = None; closed = s.closed };
+      (after_search s (record {
+        progress = kept_by (record (waits s to looks)
+            { last = last }) sid' None;
         found = None;
-      }) looks)
+      })
+      looks)
   none-finds sid' last later anew =
       let course = stands.course in
       let ordered = course.ordered.0 in
@@ -151,79 +133,58 @@ module _ (s : StreamProgress Picks) (Reaches : Anchored → List ℕ → StateID
   -- Something is still live: the search goes on in the state that it came to.
   pub search-none : ¬ NothingIsLive m since
       → SearchesOn (Reaches No) s start
-      (record {
-        progress = record { sid = stop.sid; from = s.from; at = to; last = s.last; best = None; closed = s.closed };
-        found = None;
-      }) y z
+      (record { progress = kept_by (waits s to looks) stop.sid None; found = None }) y z
   search-none live =
       let course = stands.course in
       let ordered = course.ordered.0 in
-      let kept = course.kept in
-      let ended = course.ended in
+      let kept = course.kept.0 in
       let end = all in
       let again = same-again in
-      let t : StreamProgress Picks = after_search s
-      (record {
-        progress = record { sid = stop.sid; from = s.from; at = to; last = s.last; best = None; closed = s.closed };
-        found = None;
-      }) looks in
+      let over = stops-over stops in
+      let t : StreamProgress Picks = record (waits s to looks) { given = s.given ++ [] } in
       let goes : ContinuesWalk t =
       subst (λ l. ContinuesWalk (record t { given = l })) (sym (append-nil s.given)) stands.goes in
       record {
         looks = looks;
-        done = done;
+        done = done-on stands over;
         closed = refl;
         from = refl;
         finds = none-finds stop.sid s.last (omega arith) (λ nothing. absurd (live nothing));
-        stands = stands-from (Reaches No) t start stop.sid None None since-alive.0 course.unclosed course.filled
-            (omega arith) (omega arith) (omega (arith, ap end_of (append-nil s.given))) (omega arith) (omega arith)
-            kept.2
-            course.short course.paid.scanned course.paid.moved stands.begins reads
-            refl since-quiet (λ standard. refl) since-alive.1 goes
-            (λ one is. let sums = paid one is in (omega arith, sums.1, λ d. let e = sums.2 d in omega arith));
+        stands = stands-from (Reaches No) start stop.sid None None since-alive.0
+            (goes-walking course (s.given ++ []) to s.last (s.looked + looks) (omega arith) (omega arith) (omega arith)
+            (omega (arith, ap end_of (append-nil s.given), course.ended)))
+            stands.begins (reads-on stands over) refl since-quiet (λ standard. refl) since-alive.1 goes
+            (λ one is. let sums = paid-on stands over one is in
+            (omega (arith, sums.0), sums.1, λ d. omega (arith, sums.2 d)));
       }
 
   -- Nothing is live: the search begins anew.
   pub search-anew : NothingIsLive m since
       → SearchesOn (Reaches No) s start
-      (record {
-        progress = record { sid = start; from = s.from; at = to; last = to; best = None; closed = s.closed };
-        found = None;
-      }) y z
+      (record { progress = kept_by (record (waits s to looks) { last = to }) start None; found = None }) y z
   search-anew live =
       let course = stands.course in
       let ordered = course.ordered.0 in
-      let kept = course.kept in
-      let ended = course.ended in
+      let kept = course.kept.0 in
       let end = all in
       let again = same-again in
-      let x = read_by s in
-      let empty = part-empty x to in
-      let begins : Reaches No (slice_range x to to) start = subst (λ l. Reaches No l start) (sym empty) stands.begins in
-      let sums = paid (Some (length since)) live in
-      let t : StreamProgress Picks = after_search s
-      (record {
-        progress = record { sid = start; from = s.from; at = to; last = to; best = None; closed = s.closed };
-        found = None;
-      }) looks in
-      let nothing = nothing-in_empty m (slice_range x to to) course.filled empty in
-      let one = live-some in
-      let alive = alive-none m (slice_range x to to) one.0 nothing one.1 in
+      let over = stops-over stops in
+      let sums = paid-on stands over (Some (length since)) live in
+      let t : StreamProgress Picks = record (waits s to looks) { given = s.given ++ []; last = to } in
       let goes : ContinuesWalk t = goes-anew (record t { last = s.last }) course.filled (omega arith) (omega arith)
       since-quiet live
       (subst (λ l. ContinuesWalk (record t { given = l; last = s.last })) (sym (append-nil s.given)) stands.goes) in
       record {
         looks = looks;
-        done = done;
+        done = done-on stands over;
         closed = refl;
         from = refl;
         finds = none-finds start to (omega arith) (λ none. refl);
-        stands = stands-from (Reaches No) t start start None None alive.0 course.unclosed course.filled (omega arith)
-            (omega arith) (omega (arith, ap end_of (append-nil s.given))) (omega arith) (omega arith) kept.2
-            course.short
-            course.paid.scanned course.paid.moved stands.begins begins
-            refl nothing (λ standard. refl) alive.1 goes
-            (λ one is. let zero = live-empty x to one in (omega arith, sums.1, λ d. let e = sums.2 d in omega arith));
+        stands = stands-anew (Reaches No) start
+            (goes-walking course (s.given ++ []) to to (s.looked + looks) (omega arith) (omega arith) (omega arith)
+            (omega (arith, ap end_of (append-nil s.given), course.ended)))
+            (part-empty (read_by s) to) stands.begins goes
+            (omega (arith, sums.0), sums.1, λ d. omega (arith, sums.2 d));
       }
 
 -- ---- to a match
@@ -237,11 +198,12 @@ told-some m x (n ∷ ns) last at tells some quiet =
     (told-first_occurs m.kind m (slice_range x last at) (n ∷ ns) n tells refl)
 
 -- a match was found among the bytes that are held
-pub found-held : (s : StreamProgress Picks) (b o : Occurrence) (to : ℕ) → IsOnCourse s → s.from ≤ o.start
+pub found-held : {s : StreamProgress Picks} {b : Occurrence} (o : Occurrence) (to : ℕ) → IsOnCourse s
+    → s.from ≤ o.start
     → (s.built.dictionary.kind ≡ Standard → s.at < o.end) → s.last ≤ to → to ≤ length (read_by s)
     → Occurs (whole s.built.dictionary (slice_range (read_by s) s.last to) false) b → shifted s.last b ≡ o
     → IsHeldItem s o
-found-held s b o to course held new le inside occurs is =
+found-held {s} {b} o to course held new le inside occurs is =
     let m = s.built.dictionary in
     let some = occurs-some (omega arith) course.filled occurs in
     let long = slice_range-length (read_by s) s.last le inside in
@@ -305,30 +267,15 @@ pub search-decided : (s : StreamProgress Picks) (Reaches : List ℕ → StateID 
     → s.looked + looks ≤ 2 * (o.end + read_again s.built.dictionary 0 (length s.given + 1))
     → o.end ≤ s.looked + looks
     → (IsTrue s.built.deterministic → s.looked + looks ≤ o.end + read_again s.built.dictionary 0 (length s.given + 1))
-    → SearchesOn Reaches s start
-    (record {
-      progress = record { sid = start; from = s.from; at = o.end; last = o.end; best = None; closed = s.closed };
-      found = Some o;
-    }) y z
+    → SearchesOn Reaches s start (searched_anew start (kept_by s sid best) o) y z
 search-decided s Reaches start sid best o looks y z stands countable held open_ pick done bound some one =
-    let m = s.built.dictionary in
     let course = stands.course in
     let behind : s.last ≤ o.start = held.behind in
     let from = held.held refl in
     let filled = held.some in
     let within = held.within in
-    let again = given-more m s.given o in
-    let empty = part-empty (read_by s) o.end in
-    let t : StreamProgress Picks = after_search s
-    (record {
-      progress = record { sid = start; from = s.from; at = o.end; last = o.end; best = None; closed = s.closed };
-      found = Some o;
-    }) looks in
-    let begins : Reaches (slice_range (read_by s) o.end o.end) start =
-    subst (λ l. Reaches l start) (sym empty) stands.begins in
-    let nothing = nothing-in_empty m (slice_range (read_by s) o.end o.end) course.filled empty in
-    let live = live-some in
-    let alive = alive-none m (slice_range (read_by s) o.end o.end) live.0 nothing live.1 in
+    let again = given-more s.built.dictionary s.given o in
+    let t : StreamProgress Picks = after_search s (searched_anew start (kept_by s sid best) o) looks in
     record {
       looks = looks;
       done = done;
@@ -351,14 +298,11 @@ search-decided s Reaches start sid best o looks y z stands countable held open_ 
         countable,
         open_,
       );
-      stands = stands-from Reaches t start start None None alive.0 course.unclosed course.filled (omega arith) within
-          (omega (arith, end_of-push s.given o)) (omega arith) (omega arith) course.kept.2 course.short
-          course.paid.scanned
-          course.paid.moved stands.begins begins
-          refl nothing (λ standard. refl) alive.1
-          (goes-match s o (s.looked + looks) stands.goes pick)
-          (λ one_live is. let none = live-empty (read_by s) o.end one_live in
-          (omega arith, some, λ d. let e = one d in omega arith));
+      stands = stands-anew Reaches start
+          (goes-walking course (s.given ++ o ∷ []) o.end o.end (s.looked + looks) (omega arith) (omega arith) within
+          (omega (arith, end_of-push s.given o)))
+          (part-empty (read_by s) o.end) stands.begins (goes-match s o (s.looked + looks) stands.goes pick)
+          (omega (arith, bound, again), some, λ d. omega (arith, one d, again));
     }
 
 -- What reading on to a match shows.
@@ -379,12 +323,11 @@ module _ (s : StreamProgress Picks) (Reaches : Anchored → List ℕ → StateID
 
   -- the place lies within the bytes read
   inside : there ≤ length (read_by s)
-  inside = let rest = length-drop s.at (read_by s) in let within = stops.within in let le = stands.course.ordered.1 in
-      omega arith
+  inside = inside-on stands (stops-over stops)
 
   -- the state was reached by these bytes
   there-reads : Reaches No since_then stop.sid
-  there-reads = reads-on s Reaches sid stop y z stands.course.ordered.0 stands.reads (stops-over stops)
+  there-reads = reads-on stands (stops-over stops)
 
   -- at least one byte was read
   some-read : 0 < stop.taken
@@ -392,7 +335,7 @@ module _ (s : StreamProgress Picks) (Reaches : Anchored → List ℕ → StateID
       (λ (lt : 0 < stop.taken). lt)
       (λ (le : stop.taken ≤ 0).
       let same : there ≡ s.at = omega (arith, le) in
-      let nothing = none-quiet s (Reaches No) start sid stands in
+      let nothing = none-quiet stands in
       absurd (told-some s.built.dictionary (read_by s) (matches stop.sid) s.last there
       (tells since_then stop.sid there-reads) (stops.there refl)
       (subst (λ n. IsBest s.built.dictionary.kind (whole s.built.dictionary (slice_range (read_by s) s.last n) false)
@@ -409,43 +352,21 @@ module _ (s : StreamProgress Picks) (Reaches : Anchored → List ℕ → StateID
       best-met s.built.dictionary since_then (matches stop.sid) s.last there None o (omega arith) (stops.there refl)
       (best-told s.built.dictionary (read_by s) (matches stop.sid) s.last s.at there None ordered
       (omega (arith, some-read)) within (λ standard. refl)
-      (tells-on s Reaches matches sid stop true y z tells ordered stands.reads stops)
-      (tells since_then stop.sid there-reads) (none-quiet s (Reaches No) start sid stands))
+      (tells-on s tells ordered stands.reads stops)
+      (tells since_then stop.sid there-reads) (none-quiet stands))
       is
 
   -- how often it looked
   abbrev met-looks : ℕ
   met-looks = z.looked.value - y.looked.value
 
-  -- these looks are paid for
-  met-paid : (live : Option ℕ) → IsLive s.built.dictionary false since_then live
-      → (s.looked + met-looks + live_len since_then live
-      ≤ 2 * (there + read_again s.built.dictionary 0 (length s.given))) × (there ≤ s.looked + met-looks)
-      × (IsTrue s.built.deterministic → s.looked + met-looks ≤ there + read_again s.built.dictionary 0 (length s.given))
-  met-paid live alive =
-      let before = live-some in
-      let sums = stands.lookups before.0 before.1 in
-      paid-on s.built.deterministic s.looked (live_len (since_last s) before.0) s.at
-      (read_again s.built.dictionary 0 (length s.given)) stop.taken (live_len since_then live) y z sums.0 sums.1 sums.2
-      (cost-on s Reaches sid stop y z before.0 live stands.course.ordered.0 stands.reads (stops-over stops) before.1
-      alive)
-
   -- the looks are all that was done
   pub met-done : Done met-looks 0 0 y z
-  met-done =
-      let before = live-some in
-      let after = live-some in
-      looks-done s.built.deterministic stop.taken _ _ y z
-      (cost-on s Reaches sid stop y z before.0 after.0 stands.course.ordered.0 stands.reads (stops-over stops) before.1
-      after.1)
+  met-done = done-on stands (stops-over stops)
 
   -- Under the standard kind the match is decided.
   pub search-some : s.built.dictionary.kind ≡ Standard → CanBeCounted (read_by s)
-      → SearchesOn (Reaches No) s start
-      (record {
-        progress = record { sid = start; from = s.from; at = o.end; last = o.end; best = None; closed = s.closed };
-        found = Some o;
-      }) y z
+      → SearchesOn (Reaches No) s start (searched_anew start (kept_by s sid None) o) y z
   search-some standard countable =
       let m = s.built.dictionary in
       let x = read_by s in
@@ -457,7 +378,7 @@ module _ (s : StreamProgress Picks) (Reaches : Anchored → List ℕ → StateID
       let read = some-read in
       let ends = best.3 in
       let after = live-some in
-      let sums = met-paid after.0 after.1 in
+      let sums = paid-on stands (stops-over stops) after.0 after.1 in
       let none = again-standard m (length s.given) standard in
       let none_more = again-standard m (length s.given + 1) standard in
       let bound = occurs-bound m best.1.0 in
@@ -467,7 +388,7 @@ module _ (s : StreamProgress Picks) (Reaches : Anchored → List ℕ → StateID
       subst (λ k. IsBest k (whole m (since_then ++ tail) false) (Some best.0)) (sym standard)
       (standard-final m tail (subst (λ k. IsBest k (whole m since_then false) (Some best.0)) standard best.1)) in
       search-decided s (Reaches No) start sid None o met-looks y z stands countable
-      (found-held s best.0 o there course (omega arith) (λ e. omega arith) (omega arith) within best.1.0 best.2)
+      (found-held o there course (omega arith) (λ e. omega arith) (omega arith) within best.1.0 best.2)
       (λ given. let searched = given.searched in omega arith)
       (λ more follows. subst (λ q. IsPick m.kind (whole m (x ++ more) false) s.last (Some s.last) (Some q)) best.2
       (pick-since m x more s.last there best.0 (omega arith) within course.filled stays))
@@ -483,26 +404,24 @@ module _ (s : StreamProgress Picks) (Reaches : Anchored → List ℕ → StateID
       let ordered = course.ordered.0 in
       let within = inside in
       let kept = course.kept in
-      stands-from (Reaches No) (waits s there met-looks) start stop.sid (Some o) (Some best.0) live course.unclosed
-      course.filled (omega arith) within course.ended (omega arith) (omega arith) kept.2 course.short
-      course.paid.scanned course.paid.moved stands.begins there-reads
-      (ap Some (sym best.2)) best.1 (λ standard. absurd (leftmost standard)) alive stands.goes
-      (λ one is_one. met-paid one is_one)
+      stands-from (Reaches No) start stop.sid (Some o) (Some best.0) live
+      (goes-walking course s.given there s.last (s.looked + met-looks) (omega arith) (omega arith) within course.ended)
+      stands.begins there-reads (ap Some (sym best.2)) best.1 (λ standard. absurd (leftmost standard)) alive stands.goes
+      (paid-on stands (stops-over stops))
 
 -- ---- in terms of the fields that a search keeps
 
 -- the fields that a search keeps are those of its progress
 pub progress-same : (s : StreamProgress Picks) (p : Progress) → p.closed ≡ s.closed → p.from ≡ s.from → p.at ≡ s.at
-    → p.last ≡ s.last
-    → record { sid = p.sid; from = s.from; at = s.at; last = s.last; best = p.best; closed = s.closed } ≡ p
+    → p.last ≡ s.last → kept_by s p.sid p.best ≡ p
 progress-same s p c f a l =
     λ i. record { sid = p.sid; from = sym f i; at = sym a i; last = sym l i; best = p.best; closed = sym c i }
 
 -- where the search stands, if no match is waiting
-stands-none : (b : Built) (s : StreamProgress Picks) (Reaches : List ℕ → StateID → Type 0) (start : StateID)
-    (p : Progress) (held : List ℕ) → IsHeldAt b Reaches s start p held → p.best ≡ None
+stands-none : {b : Built} {s : StreamProgress Picks} {Reaches : List ℕ → StateID → Type 0} {start : StateID}
+    {p : Progress} {held : List ℕ} → IsHeldAt b Reaches s start p held → p.best ≡ None
     → StandsInState Reaches s start p.sid None
-stands-none b s Reaches start p held is none = subst (λ r. StandsInState Reaches s start p.sid r) none is.stands
+stands-none {s} {Reaches} {start} {p} is none = subst (λ r. StandsInState Reaches s start p.sid r) none is.stands
 
 module _ (b : Built) (s : StreamProgress Picks) (Reaches : Anchored → List ℕ → StateID → Type 0)
     (matches : StateID → List ℕ) (start : StateID) (p : Progress) (held : List ℕ) (stop : Advance) (matched : Bool)
@@ -525,7 +444,7 @@ module _ (b : Built) (s : StreamProgress Picks) (Reaches : Anchored → List ℕ
       (subst (λ l. StopsAtMatch b Reaches matches p.sid l stop matched y z) rest stops)
 
   pub stands-here : StandsInState (Reaches No) s start p.sid None
-  stands-here = stands-none b s (Reaches No) start p held is open_
+  stands-here = stands-none is open_
 
   -- the bytes since the search last began
   abbrev searched-text : List ℕ
@@ -533,7 +452,7 @@ module _ (b : Built) (s : StreamProgress Picks) (Reaches : Anchored → List ℕ
 
   -- these bytes lead to the state
   pub searched-reads : Reaches No searched-text stop.sid
-  searched-reads = reads-on s Reaches p.sid stop y z is.stands.course.ordered.0 is.stands.reads (stops-over stops-here)
+  searched-reads = reads-on is.stands (stops-over stops-here)
 
   -- the state was reached
   pub searched-state : IsState Reaches stop.sid
@@ -552,33 +471,12 @@ module _ (b : Built) (s : StreamProgress Picks) (Reaches : Anchored → List ℕ
   -- nothing was found, and something is still live
   pub searches-none : matched ≡ false → ((text : List ℕ) → Reaches No text stop.sid → ¬ NothingIsLive b.dictionary text)
       → SearchesOn (Reaches No) s start
-      (record {
-        progress =
-            record {
-              sid = stop.sid;
-              from = p.from;
-              at = p.at + stop.taken;
-              last = p.last;
-              best = None;
-              closed = p.closed;
-            };
-        found = None;
-      }) y z
+      (record { progress = record p { sid = stop.sid; at = p.at + stop.taken; best = None }; found = None }) y z
   searches-none none some =
       let live = some searched-text searched-reads in
       subst (λ q. SearchesOn (Reaches No) s start
-      (record {
-        progress =
-            record {
-              sid = stop.sid;
-              from = q.from;
-              at = q.at + stop.taken;
-              last = q.last;
-              best = None;
-              closed = q.closed;
-            };
-        found = None;
-      }) y z) (progress-same s p is.closed is.from is.at is.last)
+      (record { progress = record q { sid = stop.sid; at = q.at + stop.taken; best = None }; found = None }) y z)
+      (progress-same s p is.closed is.from is.at is.last)
       (search-none s Reaches matches start p.sid stop y z tells-here stands-here
       (subst (λ m. StopsAtMatch s.built Reaches matches p.sid (drop s.at (read_by s)) stop m y z) none stops-here)
       (subst (λ d. ¬ NothingIsLive d.dictionary searched-text) (sym is.built) live))
@@ -587,30 +485,14 @@ module _ (b : Built) (s : StreamProgress Picks) (Reaches : Anchored → List ℕ
   pub searches-anew : matched ≡ false → ((text : List ℕ) → Reaches No text stop.sid → NothingIsLive b.dictionary text)
       → SearchesOn (Reaches No) s start
       (record {
-        progress =
-            record {
-              sid = start;
-              from = p.from;
-              at = p.at + stop.taken;
-              last = p.at + stop.taken;
-              best = None;
-              closed = p.closed;
-            };
+        progress = record p { sid = start; at = p.at + stop.taken; last = p.at + stop.taken; best = None };
         found = None;
       }) y z
   searches-anew none dead =
       let live = dead searched-text searched-reads in
       subst (λ q. SearchesOn (Reaches No) s start
       (record {
-        progress =
-            record {
-              sid = start;
-              from = q.from;
-              at = q.at + stop.taken;
-              last = q.at + stop.taken;
-              best = None;
-              closed = q.closed;
-            };
+        progress = record q { sid = start; at = q.at + stop.taken; last = q.at + stop.taken; best = None };
         found = None;
       }) y z) (progress-same s p is.closed is.from is.at is.last)
       (search-anew s Reaches matches start p.sid stop y z tells-here stands-here

@@ -4,9 +4,9 @@ use Rattle.std.proofs.lemmas.List.{drop-drop}
 use Rattle.std.proofs.Math.Seq.{take-add}
 use Rattle.ac_input.specs.Occurrence.{Occurrence}
 use Rattle.ac_input.proofs.lemmas.BeginningLemmas.{slice_range-append}
-use Rattle.ac_automaton.specs.Replace.{LieInOrder}
+use Rattle.ac_automaton.specs.InMemory.Replace.{LieInOrder}
 use Rattle.ac_automaton.specs.Stream.{Occurrences, Picks, Sequence}
-use Rattle.ac_automaton.specs.Stream.StreamPump.{Handling, IsSinkChain, bytes_between}
+use Rattle.ac_automaton.specs.Stream.Pump.{Handling, IsSinkChain, bytes_between}
 use Rattle.ac_automaton.proofs.lemmas.CursorLemmas.{part-empty}
 
 -- ---- the bytes between two places
@@ -46,10 +46,10 @@ pub record IsLawful {Z : Type 0} (h : Handling Z) : Type 0 where
   pub precedes : (z mid last : Z) (bytes before matched : List ℕ) (o : Occurrence) → h.takes z bytes mid
       → h.passes mid before o matched last → h.passes z (bytes ++ before) o matched last
 
--- the first of some items begins at a place or later; where there is none, another place comes then
-abbrev pub BeginsBy : ℕ → List Occurrence → ℕ → Type 0
-BeginsBy place [] to = place ≤ to
-BeginsBy place (o ∷ os) to = place ≤ o.start
+-- where the first of some items begins, or else where the text ends
+abbrev pub begin_of : List Occurrence → ℕ → ℕ
+begin_of [] to = to
+begin_of (o ∷ os) to = o.start
 
 module _ {Z : Type 0} {h : Handling Z} (lawful : IsLawful h) (q : Sequence) where
   -- a chain of no items at a place
@@ -58,7 +58,7 @@ module _ {Z : Type 0} {h : Handling Z} (lawful : IsLawful h) (q : Sequence) wher
 
   -- one chain after another
   pub chain-then : (patterns : ℕ) (x : List ℕ) (at mid to : ℕ) (os more : List Occurrence) (z y last : Z)
-      → (q ≡ Picks → LieInOrder patterns mid at os × (at ≤ mid) × BeginsBy mid more to)
+      → (q ≡ Picks → LieInOrder patterns mid at os × (at ≤ mid) × (mid ≤ begin_of more to))
       → IsSinkChain h q x at os mid z y → IsSinkChain h q x mid more to y last
       → IsSinkChain h q x at (os ++ more) to z last
   chain-then patterns x at mid to [] [] z y last order one two =

@@ -9,19 +9,18 @@ use Rattle.ac_input.specs.Dictionary.{live_len}
 use Rattle.ac_input.specs.Occurrence.{Occurrence}
 use Rattle.ac_input.specs.Steps.{Added, AreNone}
 use Rattle.ac_automaton.specs.Ahead.{HasForgotten, IsPaid, IsReadOnce, StaysReadOnce, bytes_ahead, left_notes, less_ahead}
-use Rattle.ac_automaton.specs.FindAhead.{IsAheadOf}
-use Rattle.ac_automaton.specs.Devices.Buffer.{Filled, Held, nothing_held, rolled, taken_into}
-use Rattle.ac_automaton.specs.Stream.{FindsHeld, IsOnCourse, IsSearched, Sequence, StreamCounts, StreamProgress, fresh_progress, may_wait, read_by}
-use Rattle.ac_automaton.specs.Stream.StreamSearch.{IsStreamSearch, SearchesOn, after_search, progress_at, since_last, some_of}
-use Rattle.ac_automaton.specs.Stream.StreamWalk.{IsAheadBy, StandsAfter, WalksOn}
+use Rattle.ac_automaton.specs.InMemory.Find.Ahead.{IsAheadOf}
+use Rattle.ac_automaton.specs.Stream.Devices.Buffer.{Filled, Held, nothing_held, rolled, taken_into}
+use Rattle.ac_automaton.specs.Stream.{AreAllGiven, ReadsNothing, FindsHeld, IsOnCourse, IsSearched, Sequence, StreamCounts, StreamProgress, fresh_progress, may_wait, read_by}
+use Rattle.ac_automaton.specs.Stream.Search.{IsStreamSearch, Searched, SearchesOn, after_search, progress_at, since_last, some_of}
+use Rattle.ac_automaton.specs.Stream.Search.Walk.{IsAheadBy, StandsAfter, WalksOn}
 use Rattle.ac_automaton.specs.declared.ahead.Ahead.{Ahead}
 use Rattle.ac_automaton.specs.declared.automaton.Automaton.{Ghosts}
-use Rattle.ac_automaton.specs.declared.stream.search.Searched.{Searched}
 use Rattle.ac_automaton.specs.declared.stream.search.StreamSearch.TheInside.{Inside}
-use Rattle.ac_automaton.specs.declared.watched.Watched.{Watched}
+use Rattle.ac_automaton.specs.declared.stream.devices.watched.Watched.{Watched}
 use Rattle.ac_automaton.proofs.ahead.AheadLemmas.{ahead-forgotten, ahead-none, ahead-within, less-added}
 use Rattle.ac_automaton.proofs.stream.StreamBudgetLemmas.{IsAheadOfStream, budget-ahead}
-use Rattle.ac_automaton.proofs.stream.StreamSearchLemmas.{IsSettled, added-done, closed-right, come_by, fresh-view, next-stream, next-view, settled_by}
+use Rattle.ac_automaton.proofs.stream.StreamSearchLemmas.{IsSettled, added-done, closed-right, come_by, fresh-view, next-stream, next-view, settled_by, recounted}
 
 -- ---- what is kept
 
@@ -59,20 +58,9 @@ module _ {S : Type 0} (A : Ghosts S) (i : Inside S) (is : IsSettled A i) where
             let w = ahead-within standard (omega (arith, long, behind, inside)) notes in
             (omega (arith, w.0, long, behind, inside), w.1);
       } in
-      record {
-        standard = course.standard;
-        passed = course.passed;
-        unclosed = course.unclosed;
-        filled = course.filled;
-        ordered = course.ordered;
-        kept = course.kept;
-        short = course.short;
-        begun = course.begun;
-        ended = course.ended;
-        decided = course.decided;
-        paid = budget-ahead s (live_len (since_last s) live) (bytes_ahead i.ahead) i.sums.looked.value inside
-            (stands.lookups live stands.alive) course.paid.scanned course.paid.moved ahead (omega (arith, made));
-      }
+      recounted course
+      (budget-ahead s (live_len (since_last s) live) (bytes_ahead i.ahead) i.sums.looked.value inside
+      (stands.lookups live stands.alive) course.paid.scanned course.paid.moved ahead (omega (arith, made)))
 
   -- so all that it keeps is right
   pub kept-from : IsAheadOf A i.automaton (Some i.start) i.buffer.bytes (i.progress.at - i.progress.from) i.progress.sid
@@ -98,18 +86,18 @@ fresh_inside a start buffer ahead count pieces sums =
     }
 
 -- it is right
-pub fresh-kept : {S : Type 0} (A : Ghosts S) (a : S) (start : StateID) (n : ℕ) (buffer : Held) (ahead : Ahead)
-    (count : Count) (pieces : Pieces) (sums : Steps)
+pub fresh-kept : {S : Type 0} (A : Ghosts S) (a : S) {start : StateID} (n : ℕ) {buffer : Held} (ahead : Ahead)
+    (count : Count) (pieces : Pieces) {sums : Steps}
     → IsStreamSearch (A.Reaches a No) (fresh_progress (A.built a)) start start None count.value buffer false
     → pieces.items ≡ [] → count.value ≡ 0 → buffer ≡ nothing_held (max n 1) → AreNone sums
     → ahead.end ≤ length ahead.notes → left_notes ahead ≡ [] → bytes_ahead ahead ≡ 0
     → IsKept A (fresh_inside a start buffer ahead count pieces sums)
-fresh-kept A a start n buffer ahead count pieces sums right empty zero_given held none room left nothing =
+fresh-kept A a {start} n {buffer} ahead count pieces {sums} right empty zero_given held none room left nothing =
     let b = A.built a in
     let settled : AreNone (less_ahead sums ahead) = let looked = none.looked in
     record { looked = omega arith; scanned = none.scanned; moved = none.moved } in
     let view =
-    fresh-view b pieces.items count.value start n buffer (less_ahead sums ahead) empty zero_given held settled in
+    fresh-view b pieces.items count.value start n buffer empty zero_given held settled in
     kept-from A (fresh_inside a start buffer ahead count pieces sums)
     (subst (λ t. IsStreamSearch (A.Reaches a No) t start start None count.value buffer false) (sym view) right)
     (ahead-none room left (λ standard. omega (arith, nothing)))
@@ -126,7 +114,7 @@ closed-kept A i closed is kept =
     kept-from A (record i { progress = record i.progress { closed = closed } })
     (subst (λ c. IsStreamSearch (A.Reaches i.automaton No) (record s { closed = c }) i.start i.progress.sid
     i.progress.best i.given.value i.buffer i.over) (sym is)
-    (closed-right (A.Reaches i.automaton No) s i.start i.progress.sid i.progress.best i.given.value i.buffer i.over
+    (closed-right
     kept.1))
     kept.2 kept.3 kept.4
 
@@ -139,9 +127,9 @@ less-same sums before after same =
     ap (λ n. record sums { looked = record sums.looked { value = sums.looked.value - n } }) (sym same)
 
 -- after a read the buffer holds at least as many bytes
-pub filled-longer : {R : Type 0} (remaining : R → Option (List ℕ)) (old new : Held) (before after : Watched R) (n : ℕ)
+pub filled-longer : {R : Type 0} {remaining : R → Option (List ℕ)} {old new : Held} {before after : Watched R} {n : ℕ}
     → Filled remaining old new before after n → length old.bytes ≤ length new.bytes
-filled-longer remaining old new before after n filled =
+filled-longer {old} filled =
     let long = ap (λ h. length h.bytes) filled.held in
     let both = length-append old.bytes filled.piece in
     omega arith
@@ -196,46 +184,43 @@ module _ {S : Type 0} (A : Ghosts S) (i : Inside S) (all : List (List ℕ)) (fro
 -- what a call finds doesn't depend on what was counted
 pub finds-counted : {q : Sequence} (s t : StreamProgress q) (x y : ℕ) (found : Option Occurrence) → FindsHeld s found t
     → FindsHeld (record s { looked = x }) found (record t { looked = y })
-finds-counted s t x y None finds =
-    let none = finds.0 in (
-      record {
-        on = none.on;
-        last = none.last;
-        closed = none.closed;
-        built = none.built;
-        pieces = none.pieces;
-        from = none.from;
-      },
-      finds.1,
-      λ few. let all = finds.2 few in
-          record { searched = all.searched; all = all.all; open_ = all.open_; anew = all.anew },
-    )
-finds-counted s t x y (Some o) finds =
-    let none = finds.0 in
-    let held = finds.4 in (
-      record {
-        on = none.on;
-        last = none.last;
-        closed = none.closed;
-        built = none.built;
-        pieces = none.pieces;
-        from = none.from;
-      },
-      finds.1,
-      finds.2,
-      finds.3,
-      record {
-        pattern = held.pattern;
-        held = held.held;
-        behind = held.behind;
-        some = held.some;
-        new = held.new;
-        past = held.past;
-        within = held.within;
-      },
-      finds.5,
-      λ all. finds.6 (record { searched = all.searched; all = all.all; open_ = all.open_; anew = all.anew }),
-    )
+finds-counted {q} s t x y found finds = by found finds
+  where
+    nothing : ReadsNothing s t → ReadsNothing (record s { looked = x }) (record t { looked = y })
+    nothing none =
+        record {
+          on = none.on;
+          last = none.last;
+          closed = none.closed;
+          built = none.built;
+          pieces = none.pieces;
+          from = none.from;
+        }
+
+    given : (u : StreamProgress q) (n : ℕ) → AreAllGiven u → AreAllGiven (record u { looked = n })
+    given u n all = record { searched = all.searched; all = all.all; open_ = all.open_; anew = all.anew }
+
+    by : (found : Option Occurrence) → FindsHeld s found t
+        → FindsHeld (record s { looked = x }) found (record t { looked = y })
+    by None finds = (nothing finds.0, finds.1, λ few. given t y (finds.2 few))
+    by (Some o) finds =
+        let held = finds.4 in (
+          nothing finds.0,
+          finds.1,
+          finds.2,
+          finds.3,
+          record {
+            pattern = held.pattern;
+            held = held.held;
+            behind = held.behind;
+            some = held.some;
+            new = held.new;
+            past = held.past;
+            within = held.within;
+          },
+          finds.5,
+          λ all. finds.6 (given (record s { looked = x }) s.looked all),
+        )
 
 -- what the search keeps after a search over the held bytes
 abbrev pub searched_to : {S : Type 0} → Inside S → Searched → Count → Ahead → Steps → Inside S
@@ -278,9 +263,9 @@ module _ {S : Type 0} (A : Ghosts S) (i : Inside S) (r : Searched) (number : Cou
 
   -- how far it has come, what was read ahead of it left aside
   view : settled_by A then ≡ after_search (settled_by A i) r on.looks
-  view = next-view (A.built i.automaton) i.pieces.items i.given.value i.progress i.buffer (less_ahead i.sums i.ahead) r
-      on.looks (less_ahead more ahead) number.value kept.1.number on.stands.course.decided on.closed on.from numbered
-      (added-done on.looks fresh walk.0 (less_ahead i.sums i.ahead) (less_ahead more ahead) none on.done pays.0)
+  view = next-view (A.built i.automaton) i.pieces.items i.given.value i.progress i.buffer r number.value kept.1.number
+      on.stands.course.decided on.closed on.from numbered
+      (added-done (less_ahead i.sums i.ahead) (less_ahead more ahead) none on.done pays.0)
 
   -- what it keeps then is right
   pub next-kept : IsKept A then
@@ -292,8 +277,7 @@ module _ {S : Type 0} (A : Ghosts S) (i : Inside S) (r : Searched) (number : Cou
       kept-from A then
       (subst (λ t. IsStreamSearch (A.Reaches i.automaton No) t i.start r.progress.sid r.progress.best number.value
       i.buffer i.over) (sym view)
-      (next-stream (A.Reaches i.automaton No) (settled_by A i) i.start i.progress.sid i.progress.best i.given.value
-      i.buffer i.over r fresh walk.0 number.value kept.1 on numbered))
+      (next-stream number.value kept.1 on numbered))
       (subst (λ l. IsAheadOf A i.automaton (Some i.start) l (r.progress.at - r.progress.from) r.progress.sid ahead)
       bytes notes)
       (omega (arith, is, from, long)) pays.1

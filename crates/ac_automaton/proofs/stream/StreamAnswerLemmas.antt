@@ -7,18 +7,18 @@ use Rattle.ac_input.specs.declared.steps.Steps.{Steps}
 use Rattle.ac_input.specs.Occurrence.{Occurrence}
 use Rattle.ac_input.specs.Work.{shortest}
 use Rattle.ac_automaton.specs.Automaton.{Built}
-use Rattle.ac_automaton.specs.Devices.Moved.{NoneTouched}
+use Rattle.ac_automaton.specs.Stream.Devices.Moved.{NoneTouched}
 use Rattle.ac_automaton.specs.Stream.{CanStream, IsFront, IsStreamRefusal, Picks, items_of}
 use Rattle.ac_automaton.specs.Stream.SinkLaws.{IsPiecewise}
-use Rattle.ac_automaton.specs.Stream.StreamPump.{HasComeToCut, Pumps, PumpsMatches}
-use Rattle.ac_automaton.specs.Stream.StreamReplace.{CostsStream, IsBegun, ReplacesStream, replaced_in}
-use Rattle.ac_automaton.specs.Stream.StreamTexts.{Texts, replacing, sending, text_between}
+use Rattle.ac_automaton.specs.Stream.Pump.{HasComeToCut, Pumps, PumpsMatches}
+use Rattle.ac_automaton.specs.Stream.Replace.{CostsStream, IsBegun, ReplacesStream, replaced_in}
+use Rattle.ac_automaton.specs.Stream.Texts.{Texts, replacing, sending, text_between}
 use Rattle.ac_automaton.specs.declared.error.StreamError.{StreamError}
 use Rattle.ac_automaton.specs.declared.error.StreamError.TheVariants.{Config, Read, Write, WriteZero, Memory, Position}
 use Rattle.ac_automaton.specs.declared.stream.StreamKinds.{StreamKinds}
 use Rattle.ac_automaton.specs.declared.stream.StreamKinds.TheVariants.{AnyKind, OnlyStandard}
-use Rattle.ac_automaton.specs.declared.watched.Watched.{Watched}
-use Rattle.ac_automaton.proofs.devices.MovedLemmas.{given-none, taken-none}
+use Rattle.ac_automaton.specs.declared.stream.devices.watched.Watched.{Watched}
+use Rattle.ac_automaton.proofs.stream.devices.MovedLemmas.{given-none, taken-none}
 use Rattle.ac_automaton.proofs.stream.TextSinkLemmas.{pumped-begun, pumped-writes, replaced-front, replaced-whole}
 
 -- nothing was moved

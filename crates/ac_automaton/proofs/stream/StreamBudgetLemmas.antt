@@ -5,9 +5,9 @@ use Rattle.ac_input.specs.declared.search.MatchKind.TheVariants.{Standard, Leftm
 use Rattle.ac_input.specs.Work.{longest, lookups_per_byte}
 use Rattle.ac_automaton.specs.Ahead.{most_ahead}
 use Rattle.ac_automaton.specs.Stream.{IsWithinStreamBudget, StreamProgress, again_for, read_by, Picks}
-use Rattle.ac_automaton.specs.Stream.StreamSearch.{passed_in_all}
+use Rattle.ac_automaton.specs.Stream.Search.{passed_in_all}
 use Rattle.ac_automaton.proofs.stream.SequenceLemmas.{picks≢occurrences}
-use Rattle.ac_automaton.proofs.iter.WalkAheadLemmas.{more-looks}
+use Rattle.ac_automaton.proofs.in_memory.iter.WalkAheadLemmas.{more-looks}
 
 -- looks that are paid for byte by byte are within the bound for each byte
 pub budget-from : (deterministic : Bool) (looked live at : ℕ) → looked + live ≤ 2 * at

@@ -16,9 +16,9 @@ StreamCounts-none s steps = (
 )
 
 -- nothing was counted in between
-pub StreamCounts-nothing : {q : Sequence} (s t : StreamProgress q) (steps : Steps) → CountsNothing s t
+pub StreamCounts-nothing : {q : Sequence} {s t : StreamProgress q} (steps : Steps) → CountsNothing s t
     → StreamCounts s t steps steps
-StreamCounts-nothing s t steps none = (
+StreamCounts-nothing steps none = (
   0,
   0,
   0,

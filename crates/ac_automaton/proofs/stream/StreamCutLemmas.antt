@@ -17,7 +17,7 @@ use Rattle.ac_input.proofs.lemmas.LiveLemmas.{kind_cases, leftmost-no_later, sta
 use Rattle.ac_input.proofs.lemmas.WalkLemmas.{walk_of-walk, walk-unique}
 use Rattle.ac_input.proofs.lemmas.BeginningLemmas.{longer-occurs, occurs-longer}
 use Rattle.ac_automaton.specs.Automaton.{Built}
-use Rattle.ac_automaton.specs.Replace.{LieInOrder, matches_in}
+use Rattle.ac_automaton.specs.InMemory.Replace.{LieInOrder, matches_in}
 use Rattle.ac_input.proofs.lemmas.UnusedLemmas.{best-is_pick, occurs-some, pick-is_best}
 
 -- no occurrence ends where the best one begins, or before

@@ -13,14 +13,14 @@ use Rattle.ac_input.specs.declared.search.MatchKind.TheVariants.{Standard, Leftm
 use Rattle.ac_input.specs.Dictionary.{IsLive}
 use Rattle.ac_input.specs.Occurrence.{Occurrence}
 use Rattle.ac_input.proofs.lemmas.LiveLemmas.{kind_cases}
-use Rattle.ac_automaton.specs.Stream.{AreAllGiven, CanBeCounted, EachIsDecided, FindsHeld, IsHeldItem, NothingIsLive, Occurrences, Picks, ReadsMore, ReadsNothing, Sequence, StreamCounts, StreamProgress, closed_by, end_of, items_of, may_wait, read_by, room_of}
-use Rattle.ac_automaton.specs.Devices.Moved.{AreFilled, AreWhole, but_last}
-use Rattle.ac_automaton.specs.Stream.StreamIter.{HadGiven, HasGained, IsReadForItem, IsStopped, NextGives, StaysStopped, TurnGives, TurnReads, read_before}
+use Rattle.ac_automaton.specs.Stream.{AreAllGiven, CanBeCounted, EachIsDecided, FindsHeld, HasRead, IsHeldItem, NothingIsLive, Occurrences, Picks, ReadsMore, ReadsNothing, Sequence, StreamCounts, StreamProgress, closed_by, end_of, items_of, may_wait, read_by, room_of}
+use Rattle.ac_automaton.specs.Stream.Devices.Moved.{AreFilled, AreWhole, but_last}
+use Rattle.ac_automaton.specs.Stream.Iter.{HadGiven, HasGained, IsReadForItem, IsStopped, NextGives, StaysStopped, TurnGives, TurnReads, read_before}
 use Rattle.ac_automaton.specs.declared.error.StreamError.{StreamError}
 use Rattle.ac_automaton.specs.declared.error.StreamError.TheVariants.{Config, Read, Write, WriteZero, Memory, Position}
 use Rattle.ac_automaton.specs.declared.stream.Turn.TheVariants.{Found, More, Ended, Over, Failed}
-use Rattle.ac_automaton.specs.declared.watched.Watched.{Watched}
-use Rattle.ac_automaton.proofs.devices.MovedLemmas.{AreFilled-push, given-none, given-push, is_empty-none}
+use Rattle.ac_automaton.specs.declared.stream.devices.watched.Watched.{Watched}
+use Rattle.ac_automaton.proofs.stream.devices.MovedLemmas.{AreFilled-push, given-none, given-push, is_empty-none}
 use Rattle.ac_automaton.proofs.stream.StreamCountLemmas.{StreamCounts-then}
 
 -- ---- one turn
@@ -42,34 +42,29 @@ pub turn-failed : {R : Type 0} {q : Sequence} (remaining : R → Option (List �
     (before after : Watched R) (error : StreamError) → before.ended ≡ false → u.closed ≡ false → FindsHeld s None u
     → CanBeCounted (read_by u) → ReadsMore remaining u t before after (Err error)
     → TurnGives remaining s t before after (Failed error)
-turn-failed remaining s u t before after (Config error) open_ unclosed finds few read = read
-turn-failed remaining s u t before after (Read error) open_ unclosed finds few read =
-    record {
-      mid = u;
-      few = few;
-      nothing = finds.0;
-      given = finds.1;
-      unclosed = unclosed;
-      all = all-given-then s u finds few;
-      read = read;
-    }
-turn-failed remaining s u t before after (Write error) open_ unclosed finds few read = read
-turn-failed remaining s u t before after WriteZero open_ unclosed finds few read = read
-turn-failed remaining s u t before after Memory open_ unclosed finds few read = read
-turn-failed remaining s u t before after Position open_ unclosed finds few read = (
-  read.0,
-  record {
-    mid = u;
-    few = few;
-    nothing = finds.0;
-    given = finds.1;
-    unclosed = unclosed;
-    all = all-given-then s u finds few;
-    read = read.1;
-  },
-  brought-some u t read.0 few read.1.pieces read.2,
-  read.2,
-)
+turn-failed {R} {q} remaining s u t before after error open_ unclosed finds few read = by error read
+  where
+    reads : (piece : List ℕ) (failed : ℕ) → HasRead remaining u t before after piece failed
+        → TurnReads remaining s t before after piece failed
+    reads piece failed read =
+        record {
+          mid = u;
+          few = few;
+          nothing = finds.0;
+          given = finds.1;
+          unclosed = unclosed;
+          all = all-given-then s u finds few;
+          read = read;
+        }
+
+    by : (error : StreamError) → ReadsMore remaining u t before after (Err error)
+        → TurnGives remaining s t before after (Failed error)
+    by (Config error) read = read
+    by (Read error) read = reads [] 1 read
+    by (Write error) read = read
+    by WriteZero read = read
+    by Memory read = read
+    by Position read = (read.0, reads read.0 0 read.1, brought-some u t read.0 few read.1.pieces read.2, read.2)
 
 -- ---- what was gained
 
@@ -85,11 +80,11 @@ gained-none remaining s before = record {
 }
 
 -- where nothing is read, nothing more is gained
-pub gained-same : {R : Type 0} {q : Sequence} (remaining : R → Option (List ℕ)) (s t u : StreamProgress q)
-    (before after : Watched R) (gained : List (List ℕ)) (failed : ℕ)
+pub gained-same : {R : Type 0} {q : Sequence} {remaining : R → Option (List ℕ)} {s t u : StreamProgress q}
+    {before after : Watched R} {gained : List (List ℕ)} {failed : ℕ}
     → HasGained remaining s t before after gained failed → ReadsNothing t u
     → HasGained remaining s u before after gained failed
-gained-same remaining s t u before after gained failed has nothing = record {
+gained-same has nothing = record {
   built = nothing.built ∙ has.built;
   pieces = nothing.pieces ∙ has.pieces;
   last = let a = has.last in let b = nothing.last in omega arith;
@@ -98,11 +93,11 @@ gained-same remaining s t u before after gained failed has nothing = record {
 }
 
 -- a turn that reads gains one piece more
-pub gained-more : {R : Type 0} {q : Sequence} (remaining : R → Option (List ℕ)) (s t u : StreamProgress q)
-    (before mid after : Watched R) (gained : List (List ℕ)) (piece : List ℕ) (failed : ℕ)
+pub gained-more : {R : Type 0} {q : Sequence} {remaining : R → Option (List ℕ)} {s t u : StreamProgress q}
+    {before mid after : Watched R} {gained : List (List ℕ)} {piece : List ℕ} {failed : ℕ}
     → HasGained remaining s t before mid gained 0 → TurnReads remaining t u mid after piece failed
     → HasGained remaining s u before after (gained ++ piece ∷ []) failed
-gained-more {R} {q} remaining s t u before mid after gained piece failed has turn =
+gained-more {R} {q} {s} {gained} {piece} has turn =
     let read = turn.read in
     let built : turn.mid.built ≡ s.built = turn.nothing.built ∙ has.built in
     record {
@@ -157,11 +152,12 @@ more-some [] x = λ e. let d : x ∷ [] ≡ [] = e in cc
 more-some (y ∷ ys) x = λ e. let d : y ∷ (ys ++ x ∷ []) ≡ [] = e in cc
 
 -- where a turn reads, the reader was open at first and places could be counted
-open-first : {R : Type 0} {q : Sequence} (remaining : R → Option (List ℕ)) (s t u : StreamProgress q)
-    (before mid after : Watched R) (x y : Steps) (piece : List ℕ) (failed : ℕ) → HasTurned remaining s t before mid x y
+open-first : {R : Type 0} {q : Sequence} {remaining : R → Option (List ℕ)} {s t u : StreamProgress q}
+    {before mid after : Watched R} {x y : Steps} {piece : List ℕ} {failed : ℕ}
+    → HasTurned remaining s t before mid x y
     → TurnReads remaining t u mid after piece failed
     → (before.ended ≡ false) × CanBeCounted (read_by s) × (s.closed ≡ false)
-open-first {R} remaining s t u before mid after x y piece failed has turn = ⊎_elim
+open-first {R} has turn = ⊎_elim
     (λ (none : has.gained ≡ []).
     let same = has.first none in (
       ap (λ r. r.ended) (sym same.1) ∙ turn.read.read.turns.0,
@@ -178,15 +174,15 @@ but_last-push (p ∷ []) piece = refl
 but_last-push (p ∷ (q ∷ ps)) piece = ap (λ t. p ∷ t) (but_last-push (q ∷ ps) piece)
 
 -- the bytes of all pieces but the last are those read before this turn
-before-last : {R : Type 0} {q : Sequence} (remaining : R → Option (List ℕ)) (t u : StreamProgress q)
-    (mid after : Watched R) (piece : List ℕ) (failed : ℕ)
-    → (turn : TurnReads remaining t u mid after piece failed) → read_before u ≡ read_by turn.mid
-before-last remaining t u mid after piece failed turn =
+before-last : {R : Type 0} {q : Sequence} {remaining : R → Option (List ℕ)} {t u : StreamProgress q}
+    {mid after : Watched R} {piece : List ℕ} {failed : ℕ} → (turn : TurnReads remaining t u mid after piece failed)
+    → read_before u ≡ read_by turn.mid
+before-last {piece} turn =
     ap (λ l. concat (but_last l)) turn.read.pieces ∙ ap concat (but_last-push turn.mid.pieces piece)
 
 -- what came before one more read
-module _ {R : Type 0} {q : Sequence} (remaining : R → Option (List ℕ)) (s t u : StreamProgress q)
-    (before mid after : Watched R) (x y : Steps) (piece : List ℕ) (failed : ℕ)
+module _ {R : Type 0} {q : Sequence} {remaining : R → Option (List ℕ)} {s t u : StreamProgress q}
+    {before mid after : Watched R} {x y : Steps} {piece : List ℕ} {failed : ℕ}
     (has : HasTurned remaining s t before mid x y) (turn : TurnReads remaining t u mid after piece failed) where
   turned-built : turn.mid.built ≡ s.built
   turned-built = turn.nothing.built ∙ has.has.built
@@ -195,7 +191,7 @@ module _ {R : Type 0} {q : Sequence} (remaining : R → Option (List ℕ)) (s t 
   turned-given = turn.given ∙ has.given
 
   turned-before : read_before u ≡ read_by turn.mid
-  turned-before = before-last remaining t u mid after piece failed turn
+  turned-before = before-last turn
 
   -- under standard all items of what was read before the turn had been returned
   pub turned-had : HadGiven s u
@@ -239,22 +235,22 @@ module _ {R : Type 0} {q : Sequence} (remaining : R → Option (List ℕ)) (s t 
   turned-filled = turned-reads has.how
 
 -- some turns and one more that read some bytes
-pub turned-more : {R : Type 0} {q : Sequence} (remaining : R → Option (List ℕ)) (s t u : StreamProgress q)
-    (before mid after : Watched R) (x y z : Steps) → HasTurned remaining s t before mid x y
+pub turned-more : {R : Type 0} {q : Sequence} {remaining : R → Option (List ℕ)} {s t u : StreamProgress q}
+    {before mid after : Watched R} {x y z : Steps} → HasTurned remaining s t before mid x y
     → TurnGives remaining t u mid after More → StreamCounts t u y z → HasTurned remaining s u before after x z
-turned-more remaining s t u before mid after x y z has turn counts =
+turned-more {s} {t} {u} {x} {y} {z} has turn counts =
     let read = turn.1.read in
     let piece = turn.0 in
     record {
       gained = has.gained ++ piece ∷ [];
-      has = gained-more remaining s t u before mid after has.gained piece 0 has.has turn.1;
+      has = gained-more has.has turn.1;
       how = GoesOnReading
-          (AreFilled-push has.gained (turned-filled remaining s t u before mid after x y piece 0 has turn.1) turn.2)
+          (AreFilled-push has.gained (turned-filled has turn.1) turn.2)
           (λ some. (λ e. turn.2 (is_empty-none piece (sym read.read.turns.1 ∙ e)), read.closed ∙ turn.1.unclosed));
       given = read.given ∙ turn.1.given ∙ has.given;
-      fresh = λ some. turned-fresh remaining s t u before mid after x y piece 0 has turn.1 turn.3;
+      fresh = λ some. turned-fresh has turn.1 turn.3;
       first = λ none. absurd (more-some has.gained piece none);
-      unended = λ some. open-first remaining s t u before mid after x y piece 0 has turn.1;
+      unended = λ some. open-first has turn.1;
       on = λ standard. let a = has.on standard in
           let b = turn.1.nothing.on (subst (λ b. b.dictionary.kind ≡ Standard) (sym has.has.built) standard) in
           let e = read.at in omega arith;
@@ -262,9 +258,9 @@ turned-more remaining s t u before mid after x y z has turn counts =
     }
 
 -- after an empty piece all matches of what was read are still returned
-all-given-still : {R : Type 0} {q : Sequence} (remaining : R → Option (List ℕ)) (t u : StreamProgress q)
-    (mid after : Watched R) (failed : ℕ) → TurnReads remaining t u mid after [] failed → AreAllGiven u
-all-given-still {R} {q} remaining t u mid after failed turn =
+all-given-still : {R : Type 0} {q : Sequence} {remaining : R → Option (List ℕ)} {t u : StreamProgress q}
+    {mid after : Watched R} {failed : ℕ} → TurnReads remaining t u mid after [] failed → AreAllGiven u
+all-given-still {R} {q} {u} turn =
     let read = turn.read in
     let same : read_by u ≡ read_by turn.mid = ap concat read.pieces ∙ concat-append turn.mid.pieces ([] ∷ [])
     ∙ append-nil (read_by turn.mid) in
@@ -300,10 +296,10 @@ closed-leftmost LeftmostFirst leftmost = refl
 closed-leftmost LeftmostLongest leftmost = refl
 
 -- some turns and one more that ended the input
-pub turned-ended : {R : Type 0} {q : Sequence} (remaining : R → Option (List ℕ)) (s t u : StreamProgress q)
-    (before mid after : Watched R) (x y z : Steps) → HasTurned remaining s t before mid x y
+pub turned-ended : {R : Type 0} {q : Sequence} {remaining : R → Option (List ℕ)} {s t u : StreamProgress q}
+    {before mid after : Watched R} {x y z : Steps} → HasTurned remaining s t before mid x y
     → TurnGives remaining t u mid after Ended → StreamCounts t u y z → HasTurned remaining s u before after x z
-turned-ended {R} {q} remaining s t u before mid after x y z has turn counts =
+turned-ended {R} {q} {remaining} {s} {t} {before} {after} {x} {y} {z} has turn counts =
     subst (λ v. StreamCounts t v y z → HasTurned remaining s v before after x z) (sym turn.2) by counts
   where
     v : StreamProgress q
@@ -312,7 +308,7 @@ turned-ended {R} {q} remaining s t u before mid after x y z has turn counts =
     by : StreamCounts t (closed_by v) y z → HasTurned remaining s (closed_by v) before after x z
     by counted =
         let read = turn.1.read in
-        let gains = gained-more remaining s t v before mid after has.gained [] 0 has.has turn.1 in
+        let gains = gained-more has.has turn.1 in
         let same : read_by v ≡ read_by turn.1.mid = ap concat read.pieces ∙ concat-append turn.1.mid.pieces ([] ∷ [])
         ∙ append-nil (read_by turn.1.mid) in
         record {
@@ -324,14 +320,14 @@ turned-ended {R} {q} remaining s t u before mid after x y z has turn counts =
             short = gains.short;
             read = gains.read;
           };
-          how = HasEnded (has.gained, turned-filled remaining s t v before mid after x y [] 0 has turn.1, refl)
+          how = HasEnded (has.gained, turned-filled has turn.1, refl)
               read.read.turns.1 (read.read.at_end refl ([], tt, refl))
-              (λ standard. given-closed v standard (all-given-still remaining t v mid after 0 turn.1))
+              (λ standard. given-closed v standard (all-given-still turn.1))
               (λ leftmost. closed-leftmost v.built.dictionary.kind leftmost);
           given = read.given ∙ turn.1.given ∙ has.given;
           fresh = λ some.
               let just =
-              turned-fresh remaining s t v before mid after x y [] 0 has turn.1
+              turned-fresh has turn.1
               (subst CanBeCounted (sym same) turn.1.few) in
               record {
                 all = just.all;
@@ -341,7 +337,7 @@ turned-ended {R} {q} remaining s t u before mid after x y z has turn counts =
                 open_ = just.open_;
               };
           first = λ none. absurd (more-some has.gained [] none);
-          unended = λ some. open-first remaining s t v before mid after x y [] 0 has turn.1;
+          unended = λ some. open-first has turn.1;
           on = λ standard. let a = has.on standard in
               let b = turn.1.nothing.on (subst (λ b. b.dictionary.kind ≡ Standard) (sym has.has.built) standard) in
               let e = read.at in omega arith;
@@ -351,21 +347,21 @@ turned-ended {R} {q} remaining s t u before mid after x y z has turn counts =
 -- ---- items
 
 -- where the reader goes on, the search is closed if it was closed before
-closed-still : {R : Type 0} {q : Sequence} (remaining : R → Option (List ℕ)) (s t : StreamProgress q)
-    (before after : Watched R) (x y : Steps) → (has : HasTurned remaining s t before after x y)
+closed-still : {R : Type 0} {q : Sequence} {remaining : R → Option (List ℕ)} {s t : StreamProgress q}
+    {before after : Watched R} {x y : Steps} → (has : HasTurned remaining s t before after x y)
     → (has.gained ≢ [] → (¬ IsTrue after.ended) × (t.closed ≡ false)) → t.closed ≡ s.closed
-closed-still remaining s t before after x y has goes = ⊎_elim
+closed-still has goes = ⊎_elim
     (λ (none : has.gained ≡ []). ap (λ z. z.closed) (has.first none).0)
     (λ (some : has.gained ≢ []). (goes some).1 ∙ sym (has.unended some).2)
     (none-or-some has.gained)
 
 -- the pieces that were read for a match
-read-for : {R : Type 0} {q : Sequence} (remaining : R → Option (List ℕ)) (s t u : StreamProgress q)
-    (before after : Watched R) (x y : Steps) (o : Occurrence) → (has : HasTurned remaining s t before after x y)
+read-for : {R : Type 0} {q : Sequence} {remaining : R → Option (List ℕ)} {s t u : StreamProgress q}
+    {before after : Watched R} {x y : Steps} {o : Occurrence} → (has : HasTurned remaining s t before after x y)
     → HowItStands remaining s t after has.gained → FindsHeld t (Some o) u → IsReadForItem s u has.gained
-read-for remaining s t u before after x y o has (GoesOnReading filled goes) finds =
-    inl (filled, finds.0.closed ∙ closed-still remaining s t before after x y has goes)
-read-for {R} remaining s t u before after x y o has (HasEnded whole ended at_end given closed) finds = ⊎_elim
+read-for has (GoesOnReading filled goes) finds =
+    inl (filled, finds.0.closed ∙ closed-still has goes)
+read-for {R} {t} has (HasEnded whole ended at_end given closed) finds = ⊎_elim
     (λ (standard : t.built.dictionary.kind ≡ Standard). absurd (finds.6 (given standard)))
     (λ (leftmost : t.built.dictionary.kind ≢ Standard).
     inr (
@@ -383,15 +379,15 @@ ends-later Picks t o held standard all = held.new refl standard
 ends-later Occurrences t o held standard all = held.past refl all
 
 -- a turn that found an item returns it
-pub turned-found : {R : Type 0} {q : Sequence} (remaining : R → Option (List ℕ)) (s t u : StreamProgress q)
-    (before mid after : Watched R) (x y : Steps) (o : Occurrence)
-    → HasTurned remaining s t before mid x y → TurnGives remaining t u mid after (Found o)
+pub turned-found : {R : Type 0} {q : Sequence} {remaining : R → Option (List ℕ)} {s t u : StreamProgress q}
+    {before mid after : Watched R} {x y : Steps} {o : Occurrence} → HasTurned remaining s t before mid x y
+    → TurnGives remaining t u mid after (Found o)
     → NextGives remaining s u before after (Some (Ok o))
-turned-found {R} {q} remaining s t u before mid after x y o has turn = record {
+turned-found {R} {q} {remaining} {s} {t} {u} {before} {o} has turn = record {
   gained = has.gained;
   has = subst (λ r. HasGained remaining s u before r has.gained 0) (sym turn.1)
-      (gained-same remaining s t u before mid has.gained 0 has.has finds.0);
-  read = read-for remaining s t u before mid x y o has has.how finds;
+      (gained-same has.has finds.0);
+  read = read-for has has.how finds;
   given = finds.1 ∙ ap (λ l. l ++ o ∷ []) has.given;
   come = (finds.2, finds.3);
   pattern = subst (λ b. o.pattern < length b.dictionary.patterns) has.has.built held.pattern;
@@ -428,13 +424,13 @@ turned-found {R} {q} remaining s t u before mid after x y o has turn = record {
     same = ap (λ l. concat (but_last l)) finds.0.pieces
 
 -- the pieces that were read where no item is left
-read-to_end : {R : Type 0} {q : Sequence} (remaining : R → Option (List ℕ)) (s t u : StreamProgress q)
-    (before mid : Watched R) (x y : Steps) → (has : HasTurned remaining s t before mid x y)
+read-to_end : {R : Type 0} {q : Sequence} {remaining : R → Option (List ℕ)} {s t u : StreamProgress q}
+    {before mid : Watched R} {x y : Steps} → (has : HasTurned remaining s t before mid x y)
     → HowItStands remaining s t mid has.gained → ReadsNothing t u → IsStopped u mid
     → ((has.gained ≡ []) × (u.closed ≡ s.closed))
     ⊎ (AreWhole has.gained × AreAllGiven u × EachIsDecided u × IsAtEnd (remaining mid.inner))
-read-to_end {R} remaining s t u before mid x y has (GoesOnReading filled goes) nothing stopped = ⊎_elim
-    (λ (none : has.gained ≡ []). inl (none, nothing.closed ∙ closed-still remaining s t before mid x y has goes))
+read-to_end {R} {u} {mid} has (GoesOnReading filled goes) nothing stopped = ⊎_elim
+    (λ (none : has.gained ≡ []). inl (none, nothing.closed ∙ closed-still has goes))
     (λ (some : has.gained ≢ []).
     absurd (⊎_elim
     (λ (over : ((mid.ended ≡ true) ⊎ (u.closed ≡ true)) × AreAllGiven u).
@@ -444,7 +440,7 @@ read-to_end {R} remaining s t u before mid x y has (GoesOnReading filled goes) n
     many (subst (λ l. CanBeCounted (concat l)) (sym nothing.pieces) (has.fresh some).countable))
     stopped))
     (none-or-some has.gained)
-read-to_end {R} remaining s t u before mid x y has (HasEnded whole ended at_end given closed) nothing stopped = ⊎_elim
+read-to_end {R} {t} {u} {mid} has (HasEnded whole ended at_end given closed) nothing stopped = ⊎_elim
     (λ (over : ((mid.ended ≡ true) ⊎ (u.closed ≡ true)) × AreAllGiven u). inr (whole, over.1, each, at_end))
     (λ (many : ¬ CanBeCounted (read_by u)).
     absurd (many (subst (λ l. CanBeCounted (concat l)) (sym nothing.pieces) (has.fresh some).countable)))
@@ -462,43 +458,44 @@ read-to_end {R} remaining s t u before mid x y has (HasEnded whole ended at_end 
         (kind_cases t.built.dictionary.kind)
 
 -- a turn at the end returns no item
-pub turned-over : {R : Type 0} {q : Sequence} (remaining : R → Option (List ℕ)) (s t u : StreamProgress q)
-    (before mid after : Watched R) (x y : Steps) → HasTurned remaining s t before mid x y
+pub turned-over : {R : Type 0} {q : Sequence} {remaining : R → Option (List ℕ)} {s t u : StreamProgress q}
+    {before mid after : Watched R} {x y : Steps} → HasTurned remaining s t before mid x y
     → TurnGives remaining t u mid after Over → NextGives remaining s u before after None
-turned-over {R} remaining s t u before mid after x y has turn = record {
+turned-over {R} {remaining} {s} {u} {before} has turn = record {
   gained = has.gained;
   has = subst (λ r. HasGained remaining s u before r has.gained 0) (sym turn.2)
-      (gained-same remaining s t u before mid has.gained 0 has.has turn.0);
+      (gained-same has.has turn.0);
   read = subst
       (λ r. ((has.gained ≡ []) × (u.closed ≡ s.closed))
       ⊎ (AreWhole has.gained × AreAllGiven u × EachIsDecided u × IsAtEnd (remaining r.inner))) (sym turn.2)
-      (read-to_end remaining s t u before mid x y has has.how turn.0 (subst (λ r. IsStopped u r) turn.2 turn.3));
+      (read-to_end has has.how turn.0 (subst (λ r. IsStopped u r) turn.2 turn.3));
   given = turn.1 ∙ has.given;
   stopped = turn.3;
 }
 
 -- a turn whose read failed returns the error
-pub turned-failed : {R : Type 0} {q : Sequence} (remaining : R → Option (List ℕ)) (s t u : StreamProgress q)
-    (before mid after : Watched R) (x y : Steps) (error : StreamError) → HasTurned remaining s t before mid x y
+pub turned-failed : {R : Type 0} {q : Sequence} {remaining : R → Option (List ℕ)} {s t : StreamProgress q}
+    (u : StreamProgress q) {before mid : Watched R} (after : Watched R) {x y : Steps} (error : StreamError)
+    → HasTurned remaining s t before mid x y
     → TurnGives remaining t u mid after (Failed error) → NextGives remaining s u before after (Some (Err error))
-turned-failed remaining s t u before mid after x y (Config error) has turn = turn
-turned-failed remaining s t u before mid after x y (Read error) has turn = record {
+turned-failed u after (Config error) has turn = turn
+turned-failed u after (Read error) has turn = record {
   filled = has.gained;
-  has = gained-more remaining s t u before mid after has.gained [] 1 has.has turn;
-  read = turned-filled remaining s t u before mid after x y [] 1 has turn;
+  has = gained-more has.has turn;
+  read = turned-filled has turn;
   given = turn.read.given ∙ turn.given ∙ has.given;
   ended = turn.read.read.turns.1;
-  all = all-given-still remaining t u mid after 1 turn;
+  all = all-given-still turn;
 }
-turned-failed remaining s t u before mid after x y (Write error) has turn = turn
-turned-failed remaining s t u before mid after x y WriteZero has turn = turn
-turned-failed remaining s t u before mid after x y Memory has turn = turn
-turned-failed remaining s t u before mid after x y Position has turn = record {
+turned-failed u after (Write error) has turn = turn
+turned-failed u after WriteZero has turn = turn
+turned-failed u after Memory has turn = turn
+turned-failed u after Position has turn = record {
   gained = has.gained ++ turn.0 ∷ [];
-  has = gained-more remaining s t u before mid after has.gained turn.0 0 has.has turn.1;
-  read = AreFilled-push has.gained (turned-filled remaining s t u before mid after x y turn.0 0 has turn.1) turn.2;
+  has = gained-more has.has turn.1;
+  read = AreFilled-push has.gained (turned-filled has turn.1) turn.2;
   given = turn.1.read.given ∙ turn.1.given ∙ has.given;
-  all = turned-had remaining s t u before mid after x y turn.0 0 has turn.1;
+  all = turned-had has turn.1;
   many = turn.3;
 }
 
@@ -520,10 +517,10 @@ more-fewer read later false true lt few = omega arith
 more-fewer read later false false lt few = omega arith
 
 -- fewer turns are left after one that read some bytes
-pub turn-smaller : {R : Type 0} {q : Sequence} (remaining : R → Option (List ℕ)) (t u : StreamProgress q)
-    (mid after : Watched R) → TurnGives remaining t u mid after More
+pub turn-smaller : {R : Type 0} {q : Sequence} {remaining : R → Option (List ℕ)} {t u : StreamProgress q}
+    {mid after : Watched R} → TurnGives remaining t u mid after More
     → turns_left (length (read_by u)) after.ended < turns_left (length (read_by t)) mid.ended
-turn-smaller remaining t u mid after turn =
+turn-smaller {t} {u} {mid} {after} turn =
     let all : read_by u ≡ read_by t ++ (turn.0 ++ []) = ap concat turn.1.read.pieces
     ∙ ap (λ l. concat (l ++ turn.0 ∷ [])) turn.1.nothing.pieces ∙ concat-append t.pieces (turn.0 ∷ []) in
     let long = ap length all in
@@ -533,10 +530,10 @@ turn-smaller remaining t u mid after turn =
     more-fewer (length (read_by t)) (length (read_by u)) mid.ended after.ended (omega arith) turn.3
 
 -- fewer turns are left after one that ended the input
-pub ended-smaller : {R : Type 0} {q : Sequence} (remaining : R → Option (List ℕ)) (t u : StreamProgress q)
-    (mid after : Watched R) → TurnGives remaining t u mid after Ended
+pub ended-smaller : {R : Type 0} {q : Sequence} {remaining : R → Option (List ℕ)} {t u : StreamProgress q}
+    {mid after : Watched R} → TurnGives remaining t u mid after Ended
     → turns_left (length (read_by u)) after.ended < turns_left (length (read_by t)) mid.ended
-ended-smaller remaining t u mid after turn =
+ended-smaller {t} {u} turn =
     let read = turn.1.read in
     let same : read_by u ≡ read_by t = ap (λ v. read_by v) turn.2 ∙ ap concat read.pieces
     ∙ concat-append turn.1.mid.pieces ([] ∷ []) ∙ append-nil (read_by turn.1.mid) ∙ ap concat turn.1.nothing.pieces in
@@ -571,39 +568,41 @@ none-found s u before o stopped finds = ⊎_elim
     stopped
 
 -- a turn of a search that has stopped returns no match
-pub stopped-found : {R : Type 0} {q : Sequence} (remaining : R → Option (List ℕ)) (s t u : StreamProgress q)
-    (before mid after : Watched R) (x y : Steps) (o : Occurrence) → HasTurned remaining s t before mid x y
+pub stopped-found : {R : Type 0} {q : Sequence} {remaining : R → Option (List ℕ)} {s t u : StreamProgress q}
+    {before mid after : Watched R} {x y : Steps} {o : Occurrence} → HasTurned remaining s t before mid x y
     → TurnGives remaining t u mid after (Found o) → ¬ IsStopped s before
-stopped-found remaining s t u before mid after x y o has turn stopped =
+stopped-found {s} {u} {before} {o} has turn stopped =
     let same = has.first (none-gained s before has.gained stopped has.unended) in
     none-found s u before o stopped (subst (λ z. FindsHeld z (Some o) u) same.0 turn.0)
 
 -- a search that has stopped makes no read
-stopped-read : {R : Type 0} {q : Sequence} (remaining : R → Option (List ℕ)) (s t u : StreamProgress q)
-    (before mid after : Watched R) (x y : Steps) (piece : List ℕ) (failed : ℕ) → HasTurned remaining s t before mid x y
+stopped-read : {R : Type 0} {q : Sequence} {remaining : R → Option (List ℕ)} {s t u : StreamProgress q}
+    {before mid after : Watched R} {x y : Steps} {piece : List ℕ} {failed : ℕ}
+    → HasTurned remaining s t before mid x y
     → TurnReads remaining t u mid after piece failed → ¬ IsStopped s before
-stopped-read remaining s t u before mid after x y piece failed has turn stopped =
-    let first = open-first remaining s t u before mid after x y piece failed has turn in
+stopped-read {s} {before} {piece} has turn stopped =
+    let first = open-first has turn in
     more-some [] piece (none-gained s before (piece ∷ []) stopped (λ some. first))
 
 -- a turn of a search that has stopped returns no error
-pub stopped-failed : {R : Type 0} {q : Sequence} (remaining : R → Option (List ℕ)) (s t u : StreamProgress q)
-    (before mid after : Watched R) (x y : Steps) (error : StreamError) → HasTurned remaining s t before mid x y
+pub stopped-failed : {R : Type 0} {q : Sequence} {remaining : R → Option (List ℕ)} {s t : StreamProgress q}
+    (u : StreamProgress q) {before mid : Watched R} (after : Watched R) {x y : Steps} (error : StreamError)
+    → HasTurned remaining s t before mid x y
     → TurnGives remaining t u mid after (Failed error) → ¬ IsStopped s before
-stopped-failed remaining s t u before mid after x y (Config error) has turn = absurd turn
-stopped-failed remaining s t u before mid after x y (Read error) has turn =
-    stopped-read remaining s t u before mid after x y [] 1 has turn
-stopped-failed remaining s t u before mid after x y (Write error) has turn = absurd turn
-stopped-failed remaining s t u before mid after x y WriteZero has turn = absurd turn
-stopped-failed remaining s t u before mid after x y Memory has turn = absurd turn
-stopped-failed remaining s t u before mid after x y Position has turn =
-    stopped-read remaining s t u before mid after x y turn.0 0 has turn.1
+stopped-failed u after (Config error) has turn = absurd turn
+stopped-failed u after (Read error) has turn =
+    stopped-read has turn
+stopped-failed u after (Write error) has turn = absurd turn
+stopped-failed u after WriteZero has turn = absurd turn
+stopped-failed u after Memory has turn = absurd turn
+stopped-failed u after Position has turn =
+    stopped-read has turn.1
 
 -- a turn of a search that has stopped returns no item, and leaves everything unchanged
-pub stopped-over : {R : Type 0} {q : Sequence} (remaining : R → Option (List ℕ)) (s t u : StreamProgress q)
-    (before mid after : Watched R) (x y : Steps) → HasTurned remaining s t before mid x y
+pub stopped-over : {R : Type 0} {q : Sequence} {remaining : R → Option (List ℕ)} {s t u : StreamProgress q}
+    {before mid after : Watched R} {x y : Steps} → HasTurned remaining s t before mid x y
     → TurnGives remaining t u mid after Over → StaysStopped s u before after None
-stopped-over {R} remaining s t u before mid after x y has over = λ stopped.
+stopped-over {R} {s} {before} has over = λ stopped.
     let same = has.first (none-gained s before has.gained stopped has.unended) in (
       refl,
       over.0.pieces ∙ ap (λ z. z.pieces) same.0,

@@ -10,16 +10,16 @@ use Rattle.ac_input.specs.Number.{usize_max}
 use Rattle.ac_input.specs.Input.{whole_of}
 use Rattle.ac_input.specs.Occurrence.{Occurrence}
 use Rattle.ac_automaton.specs.Automaton.{Built}
-use Rattle.ac_automaton.specs.Devices.Moved.{AreFilled, AreInTurn}
-use Rattle.ac_automaton.specs.Overlapping.OverlappingIter.{fresh_run}
+use Rattle.ac_automaton.specs.Stream.Devices.Moved.{AreFilled, AreInTurn}
+use Rattle.ac_automaton.specs.InMemory.Overlapping.OverlappingIter.{fresh_run}
 use Rattle.ac_automaton.specs.Stream.{CanBeCounted, FindsHeld, IsOnCourse, Occurrences, Picks, Sequence, StreamProgress, items_of, read_by}
-use Rattle.ac_automaton.specs.Stream.StreamIter.{GivesItem, HasGained, IsReadForItem, IsStopped, NextGives, PassesPlaces, ReturnsNext, StaysStopped, items_left, matches_left, most_left, occurrences_left}
+use Rattle.ac_automaton.specs.Stream.Iter.{GivesItem, HasGained, IsReadForItem, IsStopped, NextGives, PassesPlaces, ReturnsNext, StaysStopped, items_left, matches_left, most_left, occurrences_left}
 use Rattle.ac_automaton.specs.declared.error.StreamError.{StreamError}
 use Rattle.ac_automaton.specs.declared.error.StreamError.TheVariants.{Config, Read, Write, WriteZero, Memory, Position}
 use Rattle.ac_automaton.specs.declared.stream.StreamIter.{StreamIter}
-use Rattle.ac_automaton.specs.declared.watched.Watched.{Watched}
-use Rattle.ac_automaton.proofs.iter.ItemsLemmas.{listing-few}
-use Rattle.ac_automaton.proofs.devices.MovedLemmas.{turns-filled}
+use Rattle.ac_automaton.specs.declared.stream.devices.watched.Watched.{Watched}
+use Rattle.ac_automaton.proofs.in_memory.iter.ItemsLemmas.{listing-few}
+use Rattle.ac_automaton.proofs.stream.devices.MovedLemmas.{turns-filled}
 
 -- ---- over numbers
 
@@ -53,11 +53,11 @@ many-none read searched false many = grind (arith, nat_tests)
 -- ---- over what was read
 
 -- the bytes read are those read before and those gained
-read-gained : {R : Type 0} {q : Sequence} (remaining : R → Option (List ℕ)) (s t : StreamProgress q)
-    (before after : Watched R) (gained : List (List ℕ)) (failed : ℕ)
+read-gained : {R : Type 0} {q : Sequence} {remaining : R → Option (List ℕ)} {s t : StreamProgress q}
+    {before after : Watched R} {gained : List (List ℕ)} {failed : ℕ}
     → HasGained remaining s t before after gained failed
     → length (read_by t) ≡ length (read_by s) + length (concat gained)
-read-gained remaining s t before after gained failed has =
+read-gained {s} {gained} has =
     ap (λ l. length (concat l)) has.pieces ∙ ap length (concat-append s.pieces gained)
     ∙ length-append (read_by s) (concat gained)
 
@@ -97,7 +97,7 @@ module _ {R : Type 0} {q : Sequence} (remaining : R → Option (List ℕ)) (s t 
 
   passed-open : before.ended ≡ false
   passed-open = some-open before.ended after.ended passes.gained passes.has.read.turns (λ nothing.
-      let long = read-gained remaining s t before after passes.gained 0 passes.has in
+      let long = read-gained passes.has in
       let e = ap (λ l. length (concat l)) nothing in
       let many = passed-many in
       omega arith)
@@ -105,12 +105,12 @@ module _ {R : Type 0} {q : Sequence} (remaining : R → Option (List ℕ)) (s t 
 -- ---- matches
 
 -- a match leaves fewer
-match-leaves : {R : Type 0} (remaining : R → Option (List ℕ)) (s t : StreamProgress Picks) (before after : Watched R)
-    (o : Occurrence) → ReturnsNext remaining s t before after o → IsOnCourse t
+match-leaves : {R : Type 0} {remaining : R → Option (List ℕ)} {s t : StreamProgress Picks} {before after : Watched R}
+    {o : Occurrence} → ReturnsNext remaining s t before after o → IsOnCourse t
     → items_left Picks t after.ended < items_left Picks s before.ended
-match-leaves remaining s t before after o next course =
+match-leaves {s} {t} {before} {after} {o} next course =
     let has = next.has in
-    let long = read-gained remaining s t before after next.gained 0 has in
+    let long = read-gained has in
     let last : t.last ≡ o.end = next.come.0 in
     let order = course.ordered in
     let behind : s.last ≤ o.start = next.behind in
@@ -183,11 +183,11 @@ abbrev pub most_of : StreamProgress Occurrences → ℕ
 most_of u = (length u.built.dictionary.patterns) * 18446744073709551616
 
 -- an occurrence leaves fewer
-found-leaves : {R : Type 0} (remaining : R → Option (List ℕ)) (s t : StreamProgress Occurrences)
-    (before after : Watched R) (o : Occurrence) → ReturnsNext remaining s t before after o → IsOnCourse t
+found-leaves : {R : Type 0} {remaining : R → Option (List ℕ)} {s t : StreamProgress Occurrences}
+    {before after : Watched R} {o : Occurrence} → ReturnsNext remaining s t before after o → IsOnCourse t
     → items_left Occurrences t after.ended < items_left Occurrences s before.ended
-found-leaves remaining s t before after o next course =
-    let long = read-gained remaining s t before after next.gained 0 next.has in
+found-leaves {s} {t} {before} {after} {o} next course =
+    let long = read-gained next.has in
     let one = length-append s.given (o ∷ []) in
     let given = ap length next.given in
     let begun = course.begun in
@@ -220,11 +220,12 @@ found-leaves remaining s t before after o next course =
     still (g ∷ gs) turns pieces built ended = absurd (false≢true (sym turns.0 ∙ ended))
 
 -- an error leaves fewer
-failed-leaves : {R : Type 0} (remaining : R → Option (List ℕ)) (s t : StreamProgress Occurrences)
-    (before after : Watched R) (error : StreamError) → NextGives remaining s t before after (Some (Err error))
+failed-leaves : {R : Type 0} (remaining : R → Option (List ℕ)) (s : StreamProgress Occurrences)
+    {t : StreamProgress Occurrences} (before after : Watched R) (error : StreamError)
+    → NextGives remaining s t before after (Some (Err error))
     → ¬ IsStopped s before → IsOnCourse t → items_left Occurrences t after.ended < items_left Occurrences s before.ended
-failed-leaves remaining s t before after (Config error) next goes course = absurd next
-failed-leaves remaining s t before after (Read error) next goes course =
+failed-leaves remaining s before after (Config error) next goes course = absurd next
+failed-leaves remaining s {t} before after (Read error) next goes course =
     let open_ : before.ended ≡ false = open-before before.ended after.ended next.filled [] next.has.read.turns in
     let some =
     occurrence-open (length (read_by s)) (listed s) (length s.given) (most_of s) (few-before s before goes) in
@@ -234,10 +235,10 @@ failed-leaves remaining s t before after (Read error) next goes course =
     let left = ap (items_left Occurrences s) open_ in
     let left_then = ap (items_left Occurrences t) next.ended in
     omega (arith, some, none, left, left_then)
-failed-leaves remaining s t before after (Write error) next goes course = absurd next
-failed-leaves remaining s t before after WriteZero next goes course = absurd next
-failed-leaves remaining s t before after Memory next goes course = absurd next
-failed-leaves remaining s t before after Position next goes course =
+failed-leaves remaining s before after (Write error) next goes course = absurd next
+failed-leaves remaining s before after WriteZero next goes course = absurd next
+failed-leaves remaining s before after Memory next goes course = absurd next
+failed-leaves remaining s {t} before after Position next goes course =
     let few = few-before s before goes in
     let some = occurrence-open (length (read_by s)) (listed s) (length s.given) (most_of s) few in
     let none = occurrence-many (length (read_by t)) (listed t) (length t.given) (most_of t) after.ended
@@ -248,20 +249,21 @@ failed-leaves remaining s t before after Position next goes course =
 -- ---- items
 
 -- an item leaves fewer
-item-leaves : {R : Type 0} (q : Sequence) (remaining : R → Option (List ℕ)) (s t : StreamProgress q)
-    (before after : Watched R) (o : Occurrence) → ReturnsNext remaining s t before after o → IsOnCourse t
+item-leaves : {R : Type 0} (q : Sequence) {remaining : R → Option (List ℕ)} {s t : StreamProgress q}
+    {before after : Watched R} {o : Occurrence} → ReturnsNext remaining s t before after o → IsOnCourse t
     → items_left q t after.ended < items_left q s before.ended
-item-leaves Picks remaining s t before after o next course = match-leaves remaining s t before after o next course
-item-leaves Occurrences remaining s t before after o next course = found-leaves remaining s t before after o next course
+item-leaves Picks next course = match-leaves next course
+item-leaves Occurrences next course = found-leaves next course
 
 -- an error leaves fewer
-stop-leaves : {R : Type 0} (q : Sequence) (remaining : R → Option (List ℕ)) (s t : StreamProgress q)
-    (before after : Watched R) (error : StreamError) → NextGives remaining s t before after (Some (Err error))
+stop-leaves : {R : Type 0} (q : Sequence) (remaining : R → Option (List ℕ)) (s : StreamProgress q)
+    {t : StreamProgress q} (before after : Watched R) (error : StreamError)
+    → NextGives remaining s t before after (Some (Err error))
     → ¬ IsStopped s before → IsOnCourse t → items_left q t after.ended < items_left q s before.ended
-stop-leaves Picks remaining s t before after error next goes course =
+stop-leaves Picks remaining s {t} before after error next goes course =
     error-leaves remaining s t before after error next goes
-stop-leaves Occurrences remaining s t before after error next goes course =
-    failed-leaves remaining s t before after error next goes course
+stop-leaves Occurrences remaining s before after error next goes course =
+    failed-leaves remaining s before after error next goes course
 
 -- each call that returns an item leaves fewer
 pub items-fewer : {S R : Type 0} {q : Sequence} (progress : S → StreamProgress q) (remaining : R → Option (List ℕ))
@@ -274,7 +276,7 @@ items-fewer {S} {R} {q} progress remaining i j (Some (Ok o)) gives course =
       on = λ _. (
         tt,
         tt,
-        item-leaves q remaining (progress i.stream) (progress j.stream) i.reader.now j.reader.now o gives.0 course,
+        item-leaves q gives.0 course,
       );
       keeps = tt;
       rests = λ _. tt;
@@ -285,7 +287,7 @@ items-fewer {S} {R} {q} progress remaining i j (Some (Err error)) gives course =
       on = λ _. (
         tt,
         tt,
-        stop-leaves q remaining (progress i.stream) (progress j.stream) i.reader.now j.reader.now error gives.0 goes
+        stop-leaves q remaining (progress i.stream) i.reader.now j.reader.now error gives.0 goes
             course,
       );
       keeps = tt;

@@ -1,10 +1,9 @@
 -- What the text since the last match determines about the matches of a stream, whatever is still read.
-use Rattle.std.proofs.Common.{◌≡◌, ◌≢◌, ⊎_elim, inl, inr, ℕ, ◌+◌, ◌-◌, ◌<◌, ◌≤◌, max, true, false, List, [], ◌∷◌, ◌++◌, length, drop, Option, None, Some, Contains, slice_range, sym, ap, subst, refl, ◌∙◌, arith, length-append, length-drop, append_assoc, append-nil}
+use Rattle.std.proofs.Common.{◌≡◌, ◌≢◌, ⊎_elim, ℕ, ◌+◌, ◌-◌, ◌<◌, ◌≤◌, max, true, false, List, [], ◌∷◌, ◌++◌, length, drop, Option, None, Some, Contains, slice_range, sym, ap, subst, refl, ◌∙◌, arith, length-append, length-drop, append_assoc, append-nil}
 use Rattle.std.specs.List.{All, AllByRecursion}
 use Rattle.std.proofs.lemmas.Bool.{cases_lt}
 use Rattle.std.proofs.lemmas.List.{drop-drop, take_rest}
 use Rattle.std.proofs.lemmas.List.Elements.{All-contains_itself, recursion_from_All}
-use Rattle.ac_input.specs.declared.search.Anchored.TheVariants.{No}
 use Rattle.ac_input.specs.declared.search.MatchKind.{MatchKind}
 use Rattle.ac_input.specs.declared.search.MatchKind.TheVariants.{Standard}
 use Rattle.ac_input.specs.Best.{IsBest}
@@ -12,20 +11,18 @@ use Rattle.ac_input.specs.Computed.{walk_after}
 use Rattle.ac_input.specs.Dictionary.{Dictionary, IsLive, whole}
 use Rattle.ac_input.specs.Laws.LiveLaws.{shifted}
 use Rattle.ac_input.specs.Occurrence.{Search, Occurrence, Occurs, starting_at}
-use Rattle.ac_input.specs.Tells.{Tells, TellsUnanchored}
 use Rattle.ac_input.specs.Walk.{IsPick, Here, Further, IsWalk}
 use Rattle.ac_input.specs.Work.{longest, shortest}
 use Rattle.ac_input.proofs.lemmas.BeginningLemmas.{slice_range-append}
-use Rattle.ac_input.proofs.lemmas.ContainsLemmas.{Contains-nil}
-use Rattle.ac_input.proofs.lemmas.LiveLemmas.{kind_cases, leftmost-no_later, occurs-front}
+use Rattle.ac_input.proofs.lemmas.LiveLemmas.{kind_cases, leftmost-no_later}
 use Rattle.ac_input.proofs.lemmas.OrderLemmas.{slice_range-length}
 use Rattle.ac_input.proofs.lemmas.ShiftLemmas.{back_by, occurs-shifted}
 use Rattle.ac_input.proofs.lemmas.SpanLemmas.{best-of_rest, occurs-in_whole_of_span, occurs-later}
 use Rattle.ac_input.proofs.lemmas.StateLemmas.{alive-shifted, new-behind, occurs-behind}
 use Rattle.ac_input.proofs.lemmas.WalkLemmas.{occurs-earlier, occurs-whole, pick-within, walk_after-walk, walk_of-walk, walk-computed, walk-occurs}
 use Rattle.ac_automaton.specs.Automaton.{Built}
-use Rattle.ac_automaton.specs.Replace.{matches_in}
-use Rattle.ac_automaton.specs.Stream.StreamSearch.{ContinuesWalk, since_last}
+use Rattle.ac_automaton.specs.InMemory.Replace.{matches_in}
+use Rattle.ac_automaton.specs.Stream.Search.{ContinuesWalk, since_last}
 use Rattle.ac_automaton.specs.Stream.{StreamProgress, IsDecided, NothingIsLive, cut_of, end_of, read_by, Picks}
 use Rattle.ac_automaton.proofs.lemmas.CursorLemmas.{slice_range-split}
 use Rattle.ac_automaton.proofs.lemmas.WalkLemmas.{begins-bound, occurs-bound}
@@ -34,18 +31,18 @@ use Rattle.ac_input.proofs.lemmas.UnusedLemmas.{best-fresh, pick-is_best}
 -- ---- picks
 
 -- where no pattern is empty, a pick doesn't depend on where the match before it ended
-pub pick-any : (kind : MatchKind) (s : Search) (at : ℕ) (one other : Option ℕ) (r : Option Occurrence)
+pub pick-any : {kind : MatchKind} {s : Search} {at : ℕ} {one : Option ℕ} (other : Option ℕ) {r : Option Occurrence}
     → s.end ≤ length s.haystack → 1 ≤ shortest s.patterns → IsPick kind s at one r → IsPick kind s at other r
-pick-any kind s at one other r inside some (Here h n) =
+pick-any {kind} {s} {at} other {r} inside some (Here h n) =
     Here h (best-fresh kind (starting_at s at) other r inside some h)
-pick-any kind s at one other r inside some (Further b h rep k) =
+pick-any {kind} {s} {at} {one} other inside some (Further b h rep k) =
     absurd (best-fresh kind (starting_at s at) one b inside some h rep)
 
 -- where no pattern is empty, a walk doesn't depend on where the match before it ended
 pub walk-any : (kind : MatchKind) (s : Search) (at : ℕ) (one other : Option ℕ) (os : List Occurrence)
     → s.end ≤ length s.haystack → 1 ≤ shortest s.patterns → IsWalk kind s at one os → IsWalk kind s at other os
-walk-any kind s at one other [] inside some h = pick-any kind s at one other None inside some h
-walk-any kind s at one other (o ∷ os) inside some h = (pick-any kind s at one other (Some o) inside some h.0, h.1)
+walk-any kind s at one other [] inside some h = pick-any other inside some h
+walk-any kind s at one other (o ∷ os) inside some h = (pick-any other inside some h.0, h.1)
 
 -- the rest of a longer text is a part of the text and what follows it
 rest-split : (x more : List ℕ) (last at : ℕ) → last ≤ at → at ≤ length x
@@ -89,10 +86,10 @@ pick-none m x last h quiet =
 -- ---- what comes later
 
 -- an occurrence after the last match ends after the bytes that were searched
-ends-behind : (m : Dictionary) (x more : List ℕ) (last at : ℕ) (o : Occurrence) → last ≤ at → at ≤ length x
+ends-behind : (m : Dictionary) (x more : List ℕ) (last at : ℕ) {o : Occurrence} → last ≤ at → at ≤ length x
     → IsBest Standard (whole m (slice_range x last at) false) None
     → Occurs (starting_at (whole m (x ++ more) false) last) o → at < o.end
-ends-behind m x more last at o g h quiet occurs = ⊎_elim
+ends-behind m x more last at {o} g h quiet occurs = ⊎_elim
     (λ (lt : at < o.end). lt)
     (λ (le : o.end ≤ at).
     let long = length-append x more in
@@ -103,11 +100,11 @@ ends-behind m x more last at o g h quiet occurs = ⊎_elim
     (cases_lt at o.end)
 
 -- an occurrence after the last match begins at the cut or after it
-pub begins-behind : (m : Dictionary) (x more : List ℕ) (last at : ℕ) (o : Occurrence) → last ≤ at → at ≤ length x
+pub begins-behind : (m : Dictionary) (x more : List ℕ) (last at : ℕ) {o : Occurrence} → last ≤ at → at ≤ length x
     → IsBest Standard (whole m (slice_range x last at) false) None
     → Occurs (starting_at (whole m (x ++ more) false) last) o → max last (at - max (longest m.patterns) 1) ≤ o.start
-begins-behind m x more last at o g h quiet occurs =
-    let ends = ends-behind m x more last at o g h quiet occurs in
+begins-behind m x more last at g h quiet occurs =
+    let ends = ends-behind m x more last at g h quiet occurs in
     let bound = occurs-bound m (occurs-whole (omega arith) (λ t. absurd (let e : false ≡ true = t in cc)) occurs) in
     let w = occurs.within.0 in
     omega arith
@@ -136,14 +133,14 @@ begins-live m x more last at live o leftmost g h alive occurs =
 -- ---- to begin anew
 
 -- Where no byte since the search last began is live, a later occurrence begins after these bytes.
-begins-after : (m : Dictionary) (x more : List ℕ) (last at : ℕ) (o : Occurrence) → last ≤ at → at ≤ length x
+begins-after : (m : Dictionary) (x more : List ℕ) (last at : ℕ) {o : Occurrence} → last ≤ at → at ≤ length x
     → IsBest m.kind (whole m (slice_range x last at) false) None → NothingIsLive m (slice_range x last at)
     → Occurs (starting_at (whole m (x ++ more) false) last) o → at ≤ o.start
-begins-after m x more last at o g h quiet live occurs =
+begins-after m x more last at {o} g h quiet live occurs =
     let y = x ++ more in
     let long = length-append x more in
     let len = slice_range-length x last g h in
-    let ends = ends-behind m x more last at o g h quiet occurs in
+    let ends = ends-behind m x more last at g h quiet occurs in
     let w = occurs.within in
     let first : last ≤ o.start = w.0 in
     let tail = rest-split x more last at g h in
@@ -155,11 +152,11 @@ begins-after m x more last at o g h quiet live occurs =
     omega arith
 
 -- a later occurrence is found by a search from there
-occurs-after : (m : Dictionary) (x more : List ℕ) (last at : ℕ) (o : Occurrence) → last ≤ at → at ≤ length x
+occurs-after : (m : Dictionary) (x more : List ℕ) (last at : ℕ) {o : Occurrence} → last ≤ at → at ≤ length x
     → IsBest m.kind (whole m (slice_range x last at) false) None → NothingIsLive m (slice_range x last at)
     → Occurs (starting_at (whole m (x ++ more) false) last) o → Occurs (starting_at (whole m (x ++ more) false) at) o
-occurs-after m x more last at o g h quiet live occurs = record {
-  within = (begins-after m x more last at o g h quiet live occurs, occurs.within.1, occurs.within.2);
+occurs-after m x more last at g h quiet live occurs = record {
+  within = (begins-after m x more last at g h quiet live occurs, occurs.within.1, occurs.within.2);
   same = occurs.same;
   anchor = λ t. absurd (let e : false ≡ true = t in cc);
 }
@@ -170,23 +167,23 @@ best-anew : (m : Dictionary) (x more : List ℕ) (last at : ℕ) (r : Option Occ
     → IsBest m.kind (starting_at (whole m (x ++ more) false) at) r
     → IsBest m.kind (starting_at (whole m (x ++ more) false) last) r
 best-anew m x more last at None g h quiet live best =
-    λ o occurs. best o (occurs-after m x more last at o g h quiet live occurs)
+    λ o occurs. best o (occurs-after m x more last at g h quiet live occurs)
 best-anew m x more last at (Some b) g h quiet live best = (
   occurs-earlier (whole m (x ++ more) false) g (λ t. absurd (let e : false ≡ true = t in cc)) best.0,
-  λ o occurs. best.1 o (occurs-after m x more last at o g h quiet live occurs),
+  λ o occurs. best.1 o (occurs-after m x more last at g h quiet live occurs),
 )
 
 -- the pick from there is the pick from where the search last began
-pick-anew : (m : Dictionary) (x more : List ℕ) (last at : ℕ) (r : Option Occurrence) → 1 ≤ shortest m.patterns
+pick-anew : (m : Dictionary) (x more : List ℕ) (last : ℕ) {at : ℕ} {r : Option Occurrence} → 1 ≤ shortest m.patterns
     → last ≤ at → at ≤ length x → IsBest m.kind (whole m (slice_range x last at) false) None
     → NothingIsLive m (slice_range x last at) → IsPick m.kind (whole m (x ++ more) false) at (Some at) r
     → IsPick m.kind (whole m (x ++ more) false) last (Some last) r
-pick-anew m x more last at r some g h quiet live (Here best n) =
+pick-anew m x more last {at} {r} some g h quiet live (Here best n) =
     let long = length-append x more in
     let earlier = best-anew m x more last at r g h quiet live best in
     Here earlier
     (best-fresh m.kind (starting_at (whole m (x ++ more) false) last) (Some last) r (omega arith) some earlier)
-pick-anew m x more last at r some g h quiet live (Further b best rep k) =
+pick-anew m x more last {at} some g h quiet live (Further b best rep k) =
     let long = length-append x more in
     absurd (best-fresh m.kind (starting_at (whole m (x ++ more) false) at) (Some at) b (omega arith) some best rep)
 
@@ -202,8 +199,8 @@ goes-anew s some g h quiet live goes = λ more rest follows walk. goes more rest
     back : (more : List ℕ) (rest : List Occurrence)
         → IsWalk m.kind (whole m (read_by s ++ more) false) s.at (Some s.at) rest
         → IsWalk m.kind (whole m (read_by s ++ more) false) s.last (Some s.last) rest
-    back more [] walk = pick-anew m (read_by s) more s.last s.at None some g h quiet live walk
-    back more (o ∷ os) walk = (pick-anew m (read_by s) more s.last s.at (Some o) some g h quiet live walk.0, walk.1)
+    back more [] walk = pick-anew m (read_by s) more s.last some g h quiet live walk
+    back more (o ∷ os) walk = (pick-anew m (read_by s) more s.last some g h quiet live walk.0, walk.1)
 
 -- some matches and one more end where the last one ends
 pub end_of-push : (os : List Occurrence) (o : Occurrence) → end_of (os ++ o ∷ []) ≡ o.end
@@ -254,7 +251,7 @@ decided-from s found live g h told quiet alive goes = λ more follows.
     let walk = walk_after-walk m.kind w s.last (Some s.last) (omega arith) in
     let begins : (o : Occurrence) → Occurs (starting_at w s.last) o → cut_of s ≤ o.start = λ o occurs. ⊎_elim
     (λ (standard : m.kind ≡ Standard).
-    begins-behind m (read_by s) more s.last s.at o g h
+    begins-behind m (read_by s) more s.last s.at g h
     (subst (λ r. IsBest m.kind (whole m (since_last s) false) r) (quiet standard) told) occurs)
     (λ (leftmost : m.kind ≢ Standard). begins-live m (read_by s) more s.last s.at live o leftmost g h alive occurs)
     (kind_cases m.kind) in (
@@ -305,36 +302,6 @@ not-all s o goes pick all =
 
 -- ---- the lists of states
 
--- where the list of a state is empty, no occurrence ends where its text ends
-pub nothing-ends : (m : Dictionary) (text : List ℕ) (o : Occurrence) → m.kind ≡ Standard → Tells m No text []
-    → Occurs (whole m text false) o → o.end ≡ length text → ⊥
-nothing-ends m text o standard tells h e =
-    let all : TellsUnanchored Standard m text [] = subst (λ k. TellsUnanchored k m text []) standard tells in
-    Contains-nil ((all.1 o).1 (h, e))
-
--- Where the lists of the states on the way are empty, no occurrence ends before the place that they lead to.
-pub none-ends_before : (m : Dictionary) (x : List ℕ) (last at to : ℕ) (o : Occurrence) → m.kind ≡ Standard → last ≤ at
-    → at ≤ to → to ≤ length x
-    → IsBest Standard (whole m (slice_range x last at) false) None
-    → ((k : ℕ) → at < k → k < to → Tells m No (slice_range x last k) [])
-    → Occurs (whole m (slice_range x last to) false) o → ¬ (last + o.end < to)
-none-ends_before m x last at to o standard g h inside quiet tells occurs lt =
-    let k : ℕ = last + o.end in
-    let w = occurs.within in
-    ⊎_elim
-    (λ (le : k ≤ at).
-    let long = slice_range-length x last {b = at} g (omega arith) in
-    let split = slice_range-split x last at to g h in
-    quiet o (occurs-front m {anchored = false} {text = slice_range x last at} (slice_range x at to) {o = o}
-    (omega arith) (subst (λ l. Occurs (whole m l false) o) split occurs)))
-    (λ (past : at < k).
-    let long = slice_range-length x last {b = k} (omega arith) (omega arith) in
-    let split = slice_range-split x last k to (omega arith) (omega arith) in
-    nothing-ends m (slice_range x last k) o standard (tells k past lt)
-    (occurs-front m {anchored = false} {text = slice_range x last k} (slice_range x k to) {o = o} (omega arith)
-    (subst (λ l. Occurs (whole m l false) o) split occurs)) (omega arith))
-    (⊎_elim (λ (past : at < k). inr past) (λ (le : k ≤ at). inl le) (cases_lt at k))
-
 -- ---- what lies between the last match and where the search began anew
 
 -- where the walk stands after some picks
@@ -371,23 +338,23 @@ stands-within kind w at last (o ∷ os) rest le walk =
 
 -- Under a leftmost kind, where all later matches begin at a place or after it, so does every later occurrence.
 rest-behind : (kind : MatchKind) (w : Search) (at : ℕ) (last : Option ℕ) (rest : List Occurrence) (place : ℕ)
-    (o : Occurrence) → kind ≢ Standard → w.end ≤ length w.haystack → 1 ≤ shortest w.patterns
+    {o : Occurrence} → kind ≢ Standard → w.end ≤ length w.haystack → 1 ≤ shortest w.patterns
     → IsWalk kind w at last rest → AllByRecursion (λ q. place ≤ q.start) rest
     → Occurs (starting_at w at) o → place ≤ o.start
-rest-behind kind w at last [] place o leftmost inside some walk begin occurs =
+rest-behind kind w at last [] place {o} leftmost inside some walk begin occurs =
     absurd (pick-is_best inside some walk o occurs)
-rest-behind kind w at last (q ∷ qs) place o leftmost inside some walk begin occurs =
+rest-behind kind w at last (q ∷ qs) place {o} leftmost inside some walk begin occurs =
     let best = pick-is_best inside some walk.0 in
     let no_later = leftmost-no_later kind q o leftmost (best.1 o occurs) in
     let first : place ≤ q.start = begin.0 in
     omega arith
 
 -- Under a leftmost kind, an occurrence after the last match returned begins where the search last began anew, or later.
-pub nothing-between : (s : StreamProgress Picks) (o : Occurrence) → IsDecided s
+pub nothing-between : (s : StreamProgress Picks) {o : Occurrence} → IsDecided s
     → 1 ≤ shortest s.built.dictionary.patterns → end_of s.given ≤ length (read_by s)
     → s.built.dictionary.kind ≢ Standard → Occurs (whole s.built.dictionary (drop (end_of s.given) (read_by s)) false) o
     → s.last - end_of s.given ≤ o.start
-nothing-between s o decided some within leftmost occurs =
+nothing-between s {o} decided some within leftmost occurs =
     let m = s.built.dictionary in
     let x = read_by s in
     let w = whole m x false in
@@ -400,7 +367,7 @@ nothing-between s o decided some within leftmost occurs =
     let inner = occurs-shifted m within occurs in
     let here : Occurs (starting_at w (end_of s.given)) (shifted (end_of s.given) o) =
     (occurs-later refl (omega arith)).0 (inner, omega arith) in
-    let late = rest-behind m.kind w (end_of s.given) rest.0 more.0 (cut_of s) (shifted (end_of s.given) o) leftmost
+    let late = rest-behind m.kind w (end_of s.given) rest.0 more.0 (cut_of s) leftmost
     (omega arith) some there begin here in
     omega arith
 
@@ -427,7 +394,7 @@ module _ (s : StreamProgress Picks) (live : ℕ) (decided : IsDecided s) (some :
   between : s.built.dictionary.kind ≢ Standard → (o : Occurrence)
       → Occurs (whole s.built.dictionary (drop (end_of s.given) (read_by s)) false) o
       → s.last - end_of s.given ≤ o.start
-  between leftmost o occurs = nothing-between s o decided some (omega (arith, behind, within)) leftmost occurs
+  between leftmost o occurs = nothing-between s decided some (omega (arith, behind, within)) leftmost occurs
 
   -- where the text after the search last began anew isn't dead, the text after the last match isn't
   pub given-open : ¬ IsLive s.built.dictionary false (drop (end_of s.given) (read_by s)) None

@@ -26,11 +26,11 @@ use Rattle.ac_input.proofs.lemmas.OrderLemmas.{occurs-end}
 use Rattle.ac_input.proofs.lemmas.RisingLemmas.{IsRising-append, less_by_end, IsRising-once, IsRising-tail}
 use Rattle.ac_automaton.specs.Ahead.{most_ahead}
 use Rattle.ac_automaton.specs.Automaton.{AdvancesToMatch, Built, IsReadCost, has_some}
-use Rattle.ac_automaton.specs.Devices.Buffer.{least_room}
-use Rattle.ac_automaton.specs.Devices.Moved.{AllFit}
+use Rattle.ac_automaton.specs.Stream.Devices.Buffer.{least_room}
+use Rattle.ac_automaton.specs.Stream.Devices.Moved.{AllFit}
 use Rattle.ac_automaton.specs.Stream.{AreAllGiven, FindsHeld, IsDecided, IsOnCourse, Occurrences, ReadsNothing, StreamProgress, again_for, cut_of, end_of, items_of, read_by, read_in_all}
-use Rattle.ac_automaton.specs.Stream.StreamListingSearch.{HasReadHeld, IsListedAt, ListsOn, StandsInList, after_listed, listed_to, searched_by}
-use Rattle.ac_automaton.specs.Stream.StreamSearch.{some_of}
+use Rattle.ac_automaton.specs.Stream.Overlapping.Search.{HasReadHeld, IsListedAt, ListsOn, StandsInList, after_listed, listed_to, searched_by}
+use Rattle.ac_automaton.specs.Stream.Search.{some_of}
 use Rattle.ac_automaton.specs.declared.automaton.Advance.{Advance}
 use Rattle.ac_automaton.specs.declared.stream.overlapping.search.ListPlace.{ListPlace}
 use Rattle.ac_automaton.specs.declared.stream.overlapping.search.Listed.{Listed}
@@ -38,7 +38,7 @@ use Rattle.ac_automaton.proofs.stream.SequenceLemmas.{occurrences≢picks}
 use Rattle.ac_input.proofs.lemmas.LiveLemmas.{dead-best}
 use Rattle.ac_input.proofs.lemmas.SomeLemmas.{live-some}
 use Rattle.ac_input.proofs.lemmas.UnusedLemmas.{occurs-some}
-use Rattle.ac_automaton.proofs.find.TakenLemmas.{drop-at}
+use Rattle.ac_automaton.proofs.in_memory.find.TakenLemmas.{drop-at}
 
 -- ---- the listing of a text that grows
 
@@ -242,8 +242,8 @@ pub record IsListingCourse (s : StreamProgress Occurrences) : Type 0 where
   pub moved : s.moved ≡ 0
 
 -- it holds wherever such a search is on its course
-pub listing-course_of : (s : StreamProgress Occurrences) → IsOnCourse s → IsListingCourse s
-listing-course_of s course = record {
+pub listing-course_of : {s : StreamProgress Occurrences} → IsOnCourse s → IsListingCourse s
+listing-course_of course = record {
   standard = course.standard refl;
   filled = course.filled;
   unclosed = course.unclosed (course.standard refl);
@@ -333,15 +333,15 @@ module _ (s : StreamProgress Occurrences) (is : IsListingCourse s) (rest : List 
       }
 
 -- Where a search stands: its course, and the rest of its state's list.
-pub stands-listing : (Reaches : List ℕ → StateID → Type 0) (matches : StateID → List ℕ) (s : StreamProgress Occurrences)
-    (place : ListPlace)
-    → IsListingCourse s → place.at ≡ s.at → place.from ≡ s.from → Reaches (searched_by s) place.sid
+pub stands-listing : (Reaches : List ℕ → StateID → Type 0) (matches : StateID → List ℕ)
+    {s : StreamProgress Occurrences} (place : ListPlace) → IsListingCourse s → place.at ≡ s.at → place.from ≡ s.from
+    → Reaches (searched_by s) place.sid
     → place.len ≡ length (matches place.sid) → place.len ≤ usize_max
     → listing s.built.dictionary (searched_by s)
     ≡ s.given ++ map (ending s.built.dictionary (searched_by s)) (drop place.index (matches place.sid))
     → PaysForSearched s
     → StandsInList Reaches matches s place
-stands-listing Reaches matches s place is at from reads len few left lookups = record {
+stands-listing Reaches matches {s} place is at from reads len few left lookups = record {
   course = listing-on s is (map (ending s.built.dictionary (searched_by s)) (drop place.index (matches place.sid))) left
       (ending-end s.built.dictionary (searched_by s) (drop place.index (matches place.sid))) lookups;
   at = at;
@@ -376,9 +376,9 @@ not-all s o rest standard left all =
     (all.all (inl standard) ∙ ap (items_of Occurrences s.built.dictionary) (sym (all-searched s all.searched)) ∙ left)
 
 -- a search that went on by so many looks, within what was read
-goes-listing : (s : StreamProgress Occurrences) → IsListingCourse s → (given : List Occurrence) (at looks : ℕ)
+goes-listing : {s : StreamProgress Occurrences} → IsListingCourse s → (given : List Occurrence) (at looks : ℕ)
     → s.at ≤ at → at ≤ length (read_by s) → IsListingCourse (record (listed_to s at looks) { given = given })
-goes-listing s is given at looks on within = record {
+goes-listing is given at looks on within = record {
   standard = is.standard;
   filled = is.filled;
   unclosed = is.unclosed;
@@ -392,9 +392,9 @@ goes-listing s is given at looks on within = record {
 }
 
 -- it has read nothing
-stays-listing : (s : StreamProgress Occurrences) → IsListingCourse s → (given : List Occurrence) (at looks : ℕ)
+stays-listing : {s : StreamProgress Occurrences} → IsListingCourse s → (given : List Occurrence) (at looks : ℕ)
     → s.at ≤ at → ReadsNothing s (record (listed_to s at looks) { given = given })
-stays-listing s is given at looks on =
+stays-listing is given at looks on =
     record {
       on = λ _. on;
       last = let passed = is.passed in
@@ -406,14 +406,14 @@ stays-listing s is given at looks on =
     }
 
 -- the next entry of a state's list, as the next occurrence
-pub gives-next : (Reaches : List ℕ → StateID → Type 0) (matches : StateID → List ℕ) (b : Built)
-    (s : StreamProgress Occurrences) (place : ListPlace) (held : List ℕ) (r : Listed) (n : ℕ) (y : Steps)
+pub gives-next : {Reaches : List ℕ → StateID → Type 0} {matches : StateID → List ℕ} {b : Built}
+    {s : StreamProgress Occurrences} {place : ListPlace} {held : List ℕ} (r : Listed) (n : ℕ) (y : Steps)
     → ((text : List ℕ) (sid : StateID) → Reaches text sid → Tells b.dictionary No text (matches sid))
     → IsListedAt b Reaches matches s place held
     → r.found ≡ Some (ending_at b.dictionary place.at n) → r.place ≡ record place { index = place.index + 1 }
     → slice_get (matches place.sid) place.index ≡ Some n → n < length b.dictionary.patterns
     → ListsOn Reaches matches s place r y y
-gives-next Reaches matches b s place held r n y tells is found goes entry known =
+gives-next {Reaches} {matches} {b} {s} {place} {held} r n y tells is found goes entry known =
     let stands = is.stands in
     let course = stands.course in
     let text : List ℕ = searched_by s in
@@ -443,8 +443,8 @@ gives-next Reaches matches b s place held r n y tells is found goes entry known 
     let ns_same : matches r.place.sid ≡ ns = ap matches sid in
     let from : r.place.from ≡ place.from = ap (λ p. p.from) goes in
     let there : StandsInList Reaches matches t r.place =
-    stands-listing Reaches matches t r.place
-    (goes-listing s (listing-course_of s course) (s.given ++ o ∷ []) r.place.at 0 (omega arith)
+    stands-listing Reaches matches r.place
+    (goes-listing (listing-course_of course) (s.given ++ o ∷ []) r.place.at 0 (omega arith)
     (let within = course.ordered.1 in omega arith)) refl (from ∙ stands.from)
     (subst (Reaches (searched_by t)) (sym sid) (subst (λ l. Reaches l place.sid) (sym text_same) stands.reads))
     (ap (λ p. p.len) goes ∙ stands.len ∙ ap length (sym ns_same))
@@ -468,7 +468,7 @@ gives-next Reaches matches b s place held r n y tells is found goes entry known 
       from = from;
       finds = subst (λ u. FindsHeld s r.found u) (sym after)
           (subst (λ f. FindsHeld s f t) (sym same) (
-            stays-listing s (listing-course_of s course) (s.given ++ o ∷ []) r.place.at 0 (omega (arith, at)),
+            stays-listing (listing-course_of course) (s.given ++ o ∷ []) r.place.at 0 (omega (arith, at)),
             refl,
             ends,
             ends,
@@ -592,8 +592,8 @@ reads-on Reaches matches b s place held stop len y z tells is given some goes co
       done = record { looked = looked; scanned = omega (arith, done.scanned); moved = omega (arith, done.moved) };
       from = refl;
       on = omega (arith, at);
-      stands = stands-listing (Reaches No) matches t there
-          (goes-listing s (listing-course_of s course) s.given there.at looks (omega (arith, at))
+      stands = stands-listing (Reaches No) matches there
+          (goes-listing (listing-course_of course) s.given there.at looks (omega (arith, at))
           (omega (arith, at, fits, rest_long, course.ordered.1)))
           refl stands.from (subst (λ l. Reaches No l stop.sid) (sym then) reads) numbered few
           (subst (λ b. listing b.dictionary (take there.at x)
@@ -624,11 +624,11 @@ reads-on Reaches matches b s place held stop len y z tells is given some goes co
 -- ---- the next occurrence
 
 -- where a search stands after reading on
-pub listed-there : (Reaches : List ℕ → StateID → Type 0) (matches : StateID → List ℕ) (b : Built)
-    (s : StreamProgress Occurrences) (place there : ListPlace) (held : List ℕ) (y z : Steps)
+pub listed-there : {Reaches : List ℕ → StateID → Type 0} {matches : StateID → List ℕ} {b : Built}
+    {s : StreamProgress Occurrences} {place there : ListPlace} {held : List ℕ} {y z : Steps}
     → IsListedAt b Reaches matches s place held → (on : HasReadHeld Reaches matches s place there y z)
     → IsListedAt b Reaches matches (listed_to s there.at on.looks) there held
-listed-there Reaches matches b s place there held y z is on = record {
+listed-there {s} is on = record {
   built = is.built;
   stands = on.stands;
   bytes = is.bytes ∙ ap (λ k. drop k (read_by s)) (sym on.from);
@@ -658,7 +658,7 @@ lists-none Reaches matches s place there y z on_course on none =
       done = on.done;
       from = on.from;
       finds = (
-        stays-listing s (listing-course_of s on_course) (s.given ++ []) there.at on.looks on.on,
+        stays-listing (listing-course_of on_course) (s.given ++ []) there.at on.looks on.on,
         given,
         λ few. record {
           searched = end;
@@ -671,11 +671,11 @@ lists-none Reaches matches s place there y z on_course on none =
     }
 
 -- the search reads on, and its next occurrence is the first that ends there
-pub lists-there : (Reaches : List ℕ → StateID → Type 0) (matches : StateID → List ℕ) (s : StreamProgress Occurrences)
-    (place there : ListPlace) (r : Listed) (o : Occurrence) (y z : Steps)
-    → IsOnCourse s → (on : HasReadHeld Reaches matches s place there y z) → there.index < there.len → r.found ≡ Some o
+pub lists-there : {Reaches : List ℕ → StateID → Type 0} {matches : StateID → List ℕ} {s : StreamProgress Occurrences}
+    {place there : ListPlace} {r : Listed} (o : Occurrence) {y z : Steps} → IsOnCourse s
+    → (on : HasReadHeld Reaches matches s place there y z) → there.index < there.len → r.found ≡ Some o
     → ListsOn Reaches matches (listed_to s there.at on.looks) there r z z → ListsOn Reaches matches s place r y z
-lists-there Reaches matches s place there r o y z on_course on more found gives =
+lists-there {Reaches} {matches} {s} {there} {r} o on_course on more found gives =
     let u : StreamProgress Occurrences = (listed_to s there.at on.looks) in
     let none : gives.looks ≡ 0 = let d = gives.done.looked in omega arith in
     let looked : s.looked + on.looks + gives.looks ≡ s.looked + on.looks = omega (arith, none) in
@@ -690,7 +690,7 @@ lists-there Reaches matches s place there r o y z on_course on more found gives 
       done = on.done;
       from = gives.from ∙ on.from;
       finds = subst (λ f. FindsHeld s f (after_listed s r on.looks)) (sym found) (
-        stays-listing s (listing-course_of s on_course) (s.given ++ some_of r.found) r.place.at on.looks
+        stays-listing (listing-course_of on_course) (s.given ++ some_of r.found) r.place.at on.looks
             (let e = finds.3 in omega (arith, on.on, behind, e)),
         finds.1,
         finds.2,

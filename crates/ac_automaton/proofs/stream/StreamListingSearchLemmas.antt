@@ -14,37 +14,42 @@ use Rattle.ac_input.specs.Dictionary.{IsLive, live_len}
 use Rattle.ac_input.specs.Occurrence.{Occurrence}
 use Rattle.ac_input.specs.Steps.{Added, AreNone, Done}
 use Rattle.ac_input.specs.Tells.{Tells, ending}
-use Rattle.ac_automaton.specs.Ahead.{HasForgotten, IsAhead, IsPaid, bytes_ahead, less_ahead}
+use Rattle.ac_automaton.specs.Ahead.{HasForgotten, IsPaid, bytes_ahead, less_ahead}
 use Rattle.ac_automaton.specs.Automaton.{Built}
-use Rattle.ac_automaton.specs.Devices.Buffer.{least_room}
-use Rattle.ac_automaton.specs.Devices.Moved.{HasGiven}
-use Rattle.ac_automaton.specs.Stream.{CanBeCounted, CanStream, FindsHeld, HasRead, IsOnCourse, Occurrences, StreamCounts, StreamProgress, fresh_progress, items_of, read_by}
-use Rattle.ac_automaton.specs.Stream.StreamListingSearch.{IsListingSearch, ListsOn, after_listed, listing_at, searched_by}
-use Rattle.std.specs.Prelude.{map}
-use Rattle.ac_automaton.specs.Stream.StreamSearch.{some_of}
+use Rattle.ac_automaton.specs.Stream.Devices.Buffer.{least_room}
+use Rattle.ac_automaton.specs.Stream.Devices.Moved.{HasGiven}
+use Rattle.ac_automaton.specs.Stream.{CanBeCounted, CanStream, FindsHeld, HasRead, IsOnCourse, IsSearched, Occurrences, StreamCounts, StreamProgress, fresh_progress, items_of, read_by}
+use Rattle.ac_automaton.specs.Stream.Overlapping.Search.{IsListingSearch, ListsOn, after_listed, listing_at, searched_by}
+use Rattle.std.specs.Prelude.{map, vec_len}
+use Rattle.std.specs.Global.{Vec}
+use Rattle.ac_input.specs.declared.history.Count.{Count}
+use Rattle.ac_automaton.specs.Stream.Overlapping.Walk.{IsAheadFor}
+use Rattle.ac_automaton.specs.declared.automaton.Automaton.{Ghosts}
+use Rattle.ac_automaton.specs.declared.stream.overlapping.search.ListingSearch.TheInside.{Inside}
+use Rattle.ac_automaton.specs.Stream.Search.{some_of}
 use Rattle.ac_automaton.specs.declared.ahead.Ahead.{Ahead}
 use Rattle.ac_automaton.specs.declared.stream.overlapping.search.ListPlace.{ListPlace}
 use Rattle.ac_automaton.specs.declared.stream.overlapping.search.Listed.{Listed}
-use Rattle.ac_automaton.specs.declared.watched.Watched.{Watched}
+use Rattle.ac_automaton.specs.declared.stream.devices.watched.Watched.{Watched}
 use Rattle.ac_automaton.specs.declared.stream.StreamKinds.TheVariants.{OnlyStandard}
 use Rattle.ac_automaton.proofs.ahead.AheadLemmas.{ahead-forgotten, ahead-within, less-added}
 use Rattle.ac_automaton.proofs.stream.StreamListingLemmas.{all-paid, budget, listing-first, stands-listing}
 use Rattle.ac_automaton.proofs.stream.StreamAheadLemmas.{finds-counted}
-use Rattle.ac_automaton.proofs.stream.StreamSearchLemmas.{added-done}
+use Rattle.ac_automaton.proofs.stream.StreamSearchLemmas.{added-done, recounted}
 use Rattle.ac_input.proofs.lemmas.SomeLemmas.{live-some}
 
 -- ---- the next occurrence
 
 -- how far the search has come after a call, from what it keeps then
-pub listed-view : (b : Built) (pieces : List (List ℕ)) (count : ℕ) (place : ListPlace) (sums : Steps) (r : Listed)
-    (looks : ℕ) (more : Steps) (number : ℕ)
+pub listed-view : (b : Built) (pieces : List (List ℕ)) (count : ℕ) (place : ListPlace) {sums : Steps} (r : Listed)
+    {looks : ℕ} {more : Steps} (number : ℕ)
     → length (take count (items_of Occurrences b.dictionary (concat pieces))) ≡ count
     → IsOnCourse (after_listed (listing_at b pieces count place sums) r looks)
     → number ≡ count + length (some_of r.found)
     → Done looks 0 0 sums more
     → r.place.from ≡ place.from
     → listing_at b pieces number r.place more ≡ after_listed (listing_at b pieces count place sums) r looks
-listed-view b pieces count place sums r looks more number is course numbered done from =
+listed-view b pieces count place {sums} r {more} number is course numbered done from =
     let all : List Occurrence = items_of Occurrences b.dictionary (concat pieces) in
     let given : List Occurrence = take count all in
     let both = length-append given (some_of r.found) in
@@ -68,13 +73,13 @@ listed-view b pieces count place sums r looks more number is course numbered don
     }
 
 -- what the search keeps after a call is right
-pub listed-right : (Reaches : List ℕ → StateID → Type 0) (matches : StateID → List ℕ) (s : StreamProgress Occurrences)
-    (place : ListPlace) (count room : ℕ) (held : List ℕ) (filled : ℕ) (over : Bool) (r : Listed) (x y : Steps)
-    (number : ℕ)
-    → IsListingSearch Reaches matches s place count room held filled over → (on : ListsOn Reaches matches s place r x y)
+pub listed-right : {Reaches : List ℕ → StateID → Type 0} {matches : StateID → List ℕ} {s : StreamProgress Occurrences}
+    {place : ListPlace} {count room : ℕ} {held : List ℕ} {filled : ℕ} {over : Bool} {r : Listed} {x y : Steps}
+    (number : ℕ) → IsListingSearch Reaches matches s place count room held filled over
+    → (on : ListsOn Reaches matches s place r x y)
     → number ≡ count + length (some_of r.found)
     → IsListingSearch Reaches matches (after_listed s r on.looks) r.place number room held filled over
-listed-right Reaches matches s place count room held filled over r x y number is on numbered = record {
+listed-right {s} {r} number is on numbered = record {
   stands = on.stands;
   number = let both = length-append s.given (some_of r.found) in omega (arith, both, is.number, numbered);
   long = is.long;
@@ -91,9 +96,10 @@ abbrev pub first_place : StateID → ℕ → ListPlace
 first_place start len = record { sid = start; from = 0; at = 0; index = 0; len = len }
 
 -- how far a search that has read nothing has come, from what it keeps
-pub fresh-listing-view : (b : Built) (pieces : List (List ℕ)) (count : ℕ) (start : StateID) (len : ℕ) (sums : Steps)
-    → pieces ≡ [] → count ≡ 0 → AreNone sums → listing_at b pieces count (first_place start len) sums ≡ fresh_progress b
-fresh-listing-view b pieces count start len sums none zero_given no_sums = λ i. record {
+pub fresh-listing-view : (b : Built) (pieces : List (List ℕ)) (count : ℕ) (start : StateID) (len : ℕ) {sums : Steps}
+    → pieces ≡ [] → count ≡ 0 → AreNone sums
+    → listing_at b pieces count (first_place start len) sums ≡ fresh_progress b
+fresh-listing-view b pieces count start len none zero_given no_sums = λ i. record {
   built = b;
   pieces = none i;
   closed = false;
@@ -118,7 +124,7 @@ pub fresh-listing-right : (b : Built) (supports : Anchored → Type 0) (Reaches 
     → len ≡ length (matches start) → len ≤ usize_max → count ≡ 0 → room ≡ least_room
     → IsListingSearch Reaches matches (fresh_progress b) (first_place start len) count room [] 0 false
 fresh-listing-right b supports Reaches matches start len count room can begins tells numbered few none long = record {
-  stands = stands-listing Reaches matches (fresh_progress b) (first_place start len)
+  stands = stands-listing Reaches matches (first_place start len)
       (record {
         standard = can.1;
         filled = can.2;
@@ -183,16 +189,16 @@ reading-view b pieces after count place sums piece number course is =
     }
 
 -- What the search keeps after a read is right, and `over` is true exactly where there are more bytes than places.
-pub reading-right : (Reaches : List ℕ → StateID → Type 0) (matches : StateID → List ℕ) (s : StreamProgress Occurrences)
-    (place : ListPlace) (count room : ℕ) (held : List ℕ) (filled : ℕ) (was over : Bool) (room_after : ℕ)
-    (piece now : List ℕ) (n : ℕ)
+pub reading-right : {Reaches : List ℕ → StateID → Type 0} {matches : StateID → List ℕ}
+    {s : StreamProgress Occurrences} {place : ListPlace} {count room : ℕ} {held : List ℕ} {filled : ℕ} {was : Bool}
+    (over : Bool) (room_after : ℕ) (piece now : List ℕ) (n : ℕ)
     → IsListingSearch Reaches matches s place count room held filled was → s.at ≡ length (read_by s)
     → length piece ≡ n → n ≤ room → now ≡ piece → room_after ≡ room
-    → (over ≡ false → CanBeCounted (read_by s ++ piece)) → (over ≡ true → ¬ CanBeCounted (read_by s ++ piece))
+    → (over ≡ false → CanBeCounted (read_by s ++ piece)) × (over ≡ true → ¬ CanBeCounted (read_by s ++ piece))
     → IsListingSearch Reaches matches (after_reading s piece) (record place { from = place.at }) count room_after now n
     over
-reading-right Reaches matches s place count room held filled was over room_after piece now n is searched long fits
-    holds same few many =
+reading-right {Reaches} {matches} {s} {place} {room} {filled} over room_after piece now n is searched long fits
+    holds same test =
     let stands = is.stands in
     let course = stands.course in
     let t : StreamProgress Occurrences = after_reading s piece in
@@ -205,7 +211,7 @@ reading-right Reaches matches s place count room held filled was over room_after
     let m = s.built.dictionary in
     let start : place.at ≡ length (read_by s) = stands.at ∙ searched in
     record {
-      stands = stands-listing Reaches matches t there
+      stands = stands-listing Reaches matches there
           (record {
             standard = course.standard refl;
             filled = course.filled;
@@ -230,8 +236,8 @@ reading-right Reaches matches s place count room held filled was over room_after
       bytes = holds
           ∙ sym (ap (λ k. drop k (read_by t)) start ∙ ap (drop (length (read_by s))) more
           ∙ drop-append_seam (read_by s) piece);
-      countable = λ e. subst CanBeCounted (sym more) (few e);
-      uncountable = λ e. subst (λ l. ¬ CanBeCounted l) (sym more) (many e);
+      countable = λ e. subst CanBeCounted (sym more) (test.0 e);
+      uncountable = λ e. subst (λ l. ¬ CanBeCounted l) (sym more) (test.1 e);
     }
 
 -- the test for more bytes than places
@@ -248,106 +254,101 @@ reading-test x piece at n fits is long =
 -- ---- with what was read ahead
 
 -- a search that has counted nothing has counted nothing for the bytes searched
-pub less-none : (sums : Steps) (ahead : Ahead) → AreNone sums → AreNone (less_ahead sums ahead)
-less-none sums ahead none = record { looked = omega (arith, none.looked); scanned = none.scanned; moved = none.moved }
+pub less-none : {sums : Steps} (ahead : Ahead) → AreNone sums → AreNone (less_ahead sums ahead)
+less-none ahead none = record { looked = omega (arith, none.looked); scanned = none.scanned; moved = none.moved }
+
+-- how far a search has come, from what it keeps
+abbrev pub listed_by : {S : Type 0} → Ghosts S → Inside S → StreamProgress Occurrences
+listed_by A i = listing_at (A.built i.automaton.now) i.pieces.items i.given.value i.place i.sums
+
+-- what the search keeps is right, what was read ahead of it left aside
+abbrev pub IsListingSettled : {S : Type 0} → Ghosts S → Inside S → Type 0
+IsListingSettled A i =
+    IsListingSearch (A.Reaches i.automaton.now No) (A.matches i.automaton.now)
+    (listed_by A (record i { sums = less_ahead i.sums i.ahead })) i.place i.given.value (vec_len i.bytes)
+    (take i.filled i.bytes.items) i.filled i.over
+
+-- what a search keeps is right: how far it has come, with what was read ahead of it
+abbrev pub IsListingKept : {S : Type 0} → Ghosts S → Inside S → Type 0
+IsListingKept A i =
+    IsOnCourse (listed_by A i) × IsListingSettled A i
+    × IsAheadFor A i.automaton.now (take i.filled i.bytes.items) i.place i.ahead
+    × (bytes_ahead i.ahead ≤ i.sums.looked.value)
 
 -- what a search has counted for the bytes searched, and for those read ahead, is within its budget
-pub listing-course : (Reaches : List ℕ → StateID → Type 0) (matches : StateID → List ℕ) (b : Built)
-    (pieces : List (List ℕ)) (count : ℕ) (place : ListPlace) (room : ℕ) (held : List ℕ) (filled : ℕ) (over : Bool)
-    (sums : Steps) (ahead : Ahead)
-    → IsListingSearch Reaches matches (listing_at b pieces count place (less_ahead sums ahead)) place count room held
-    filled over
-    → IsAhead b Reaches matches None held (place.at - place.from) place.sid ahead
-    → bytes_ahead ahead ≤ sums.looked.value
-    → IsOnCourse (listing_at b pieces count place sums)
-listing-course Reaches matches b pieces count place room held filled over sums ahead is known made =
+listing-kept : {S : Type 0} (A : Ghosts S) (i : Inside S)
+    → IsListingSettled A i
+    → IsAheadFor A i.automaton.now (take i.filled i.bytes.items) i.place i.ahead
+    → bytes_ahead i.ahead ≤ i.sums.looked.value
+    → IsListingKept A i
+listing-kept A i is known made =
+    let s = listed_by A i in
+    let place = i.place in
     let stands = is.stands in
     let course = stands.course in
-    let all : List ℕ = concat pieces in
     let live = live-some in
     let paid = stands.lookups live.0 live.1 in
-    let long : length held ≡ length all - place.from = ap length is.bytes ∙ length-drop place.from all in
+    let long : length (take i.filled i.bytes.items) ≡ length (read_by s) - place.from = ap length is.bytes
+    ∙ length-drop place.from (read_by s) in
     let ordered = course.ordered in
     let from = course.kept.1 in
     let within = ahead-within (course.standard refl) (omega (arith, long, ordered.1, from)) known in
-    let few = budget b.deterministic sums.looked.value (sums.looked.value - bytes_ahead ahead) (bytes_ahead ahead)
-    (live_len (take place.at all) live.0) place.at (length all) (omega arith) paid.0 paid.2
-    (omega (arith, long, ordered.1, from, within.0)) within.1 in
-    record {
-      standard = course.standard;
-      passed = course.passed;
-      unclosed = course.unclosed;
-      filled = course.filled;
-      ordered = ordered;
-      kept = course.kept;
-      short = course.short;
-      begun = course.begun;
-      ended = course.ended;
-      decided = course.decided;
-      paid = record {
-        some = let some = paid.1 in omega (arith, some);
-        looked = all-paid (listing_at b pieces count place sums) (course.standard refl) few.0;
-        near = λ _. few.1;
-        scanned = course.paid.scanned;
-        moved = course.paid.moved;
-        unmoved = course.paid.unmoved;
-      };
-    }
-
--- after a call, what the search keeps is right
-listed-on : (Reaches : List ℕ → StateID → Type 0) (matches : StateID → List ℕ) (b : Built) (pieces : List (List ℕ))
-    (count : ℕ) (place : ListPlace) (room : ℕ) (held : List ℕ) (filled : ℕ) (over : Bool)
-    (sums more fresh taken : Steps) (r : Listed) (number : ℕ)
-    → IsListingSearch Reaches matches (listing_at b pieces count place sums) place count room held filled over
-    → ListsOn Reaches matches (listing_at b pieces count place sums) place r fresh taken
-    → number ≡ count + length (some_of r.found) → AreNone fresh → Added taken sums more
-    → IsListingSearch Reaches matches (listing_at b pieces number r.place more) r.place number room held filled over
-    × FindsHeld (listing_at b pieces count place sums) r.found (listing_at b pieces number r.place more)
-listed-on Reaches matches b pieces count place room held filled over sums more fresh taken r number is on numbered none
-    summed =
-    let s : StreamProgress Occurrences = listing_at b pieces count place sums in
-    let done = added-done on.looks fresh taken sums more none on.done summed in
-    let view = listed-view b pieces count place sums r on.looks more number is.number on.stands.course numbered done
-    on.from in (
-      subst (λ t. IsListingSearch Reaches matches t r.place number room held filled over) (sym view)
-          (listed-right Reaches matches s place count room held filled over r fresh taken number is on numbered),
-      subst (λ t. FindsHeld s r.found t) (sym view) on.finds,
+    let few = budget s.built.deterministic s.looked (s.looked - bytes_ahead i.ahead) (bytes_ahead i.ahead)
+    (live_len (take place.at (read_by s)) live.0) place.at (length (read_by s)) (omega arith) paid.0 paid.2
+    (omega (arith, long, ordered.1, from, within.0)) within.1 in (
+      recounted course
+          (record {
+            some = omega (arith, paid.1);
+            looked = all-paid s (course.standard refl) few.0;
+            near = λ _. few.1;
+            scanned = course.paid.scanned;
+            moved = course.paid.moved;
+            unmoved = course.paid.unmoved;
+          }),
+      is,
+      known,
+      made,
     )
 
--- After a call that went on: what the search keeps is right, and it returned the next occurrence or none, at this cost.
-pub record HasListed (Reaches : List ℕ → StateID → Type 0) (matches : StateID → List ℕ) (b : Built)
-    (pieces : List (List ℕ)) (count : ℕ) (place : ListPlace) (r : Listed) (number room : ℕ) (held : List ℕ) (filled : ℕ)
-    (over : Bool) (sums more before after : Steps) (ahead : Ahead) : Type 0 where
-  pub right : IsListingSearch Reaches matches (listing_at b pieces number r.place (less_ahead more ahead)) r.place
-      number room held filled over
-  pub finds : FindsHeld (listing_at b pieces count place sums) r.found (listing_at b pieces number r.place more)
-  pub counts : StreamCounts (listing_at b pieces count place sums) (listing_at b pieces number r.place more) before
-      after
-  pub course : IsOnCourse (listing_at b pieces number r.place more)
-  pub made : bytes_ahead ahead ≤ more.looked.value
+-- what a search keeps after a call with this result
+abbrev pub listed_to_inside : {S : Type 0} → Inside S → Listed → Count → Steps → Ahead → Inside S
+listed_to_inside i r given sums ahead = record i { place = r.place; given = given; sums = sums; ahead = ahead }
 
-pub listed-ahead : (Reaches : List ℕ → StateID → Type 0) (matches : StateID → List ℕ) (b : Built)
-    (pieces : List (List ℕ)) (count : ℕ) (place : ListPlace) (room : ℕ) (held : List ℕ) (filled : ℕ) (over : Bool)
-    (sums more fresh taken before after : Steps) (r : Listed) (number : ℕ) (was now : Ahead)
-    → IsListingSearch Reaches matches (listing_at b pieces count place (less_ahead sums was)) place count room held
-    filled over → bytes_ahead was ≤ sums.looked.value
-    → IsPaid was now taken
-    (λ paid. ListsOn Reaches matches (listing_at b pieces count place (less_ahead sums was)) place r fresh paid)
-    → IsAhead b Reaches matches None held (r.place.at - r.place.from) r.place.sid now
-    → number ≡ count + length (some_of r.found) → AreNone fresh → Added taken before after → Added taken sums more
-    → HasListed Reaches matches b pieces count place r number room held filled over sums more before after now
-listed-ahead Reaches matches b pieces count place room held filled over sums more fresh taken before after r number was
-    now is made paid known numbered none added summed =
+-- After a call that went on: what the search keeps is right, and it returned the next occurrence or none, at this cost.
+pub record HasListed {S : Type 0} (A : Ghosts S) (i j : Inside S) (found : Option Occurrence)
+    (before after : Steps) : Type 0 where
+  pub kept : IsListingKept A j
+  pub finds : FindsHeld (listed_by A i) found (listed_by A j)
+  pub counts : StreamCounts (listed_by A i) (listed_by A j) before after
+
+pub listed-ahead : {S : Type 0} (A : Ghosts S) (i : Inside S) (r : Listed) (given : Count) (now : Ahead)
+    (more : Steps) {fresh : Steps} (taken before after : Steps) → IsListingKept A i
+    → IsPaid i.ahead now taken
+    (λ paid. ListsOn (A.Reaches i.automaton.now No) (A.matches i.automaton.now)
+    (listed_by A (record i { sums = less_ahead i.sums i.ahead })) i.place r fresh paid)
+    → IsAheadFor A i.automaton.now (take i.filled i.bytes.items) r.place now
+    → given.value ≡ i.given.value + length (some_of r.found)
+    → AreNone fresh → Added taken before after → Added taken i.sums more
+    → HasListed A i (listed_to_inside i r given more now) r.found before after
+listed-ahead A i r given now more {fresh} taken before after is paid known numbered none added summed =
+    let j = listed_to_inside i r given more now in
+    let a = i.automaton.now in
+    let settled = is.1 in
     let on = paid.2 in
-    let settled = paid.1 in
-    let less = less-added none settled summed made in
-    let listed = listed-on Reaches matches b pieces count place room held filled over (less_ahead sums was)
-    (less_ahead more now) fresh paid.0 r number is on numbered none less.0 in
+    let less = less-added none paid.1 summed is.3 in
+    let s : StreamProgress Occurrences = listed_by A (record i { sums = less_ahead i.sums i.ahead }) in
+    let t : StreamProgress Occurrences = listed_by A (record j { sums = less_ahead more now }) in
+    let done = added-done (less_ahead i.sums i.ahead) (less_ahead more now) none on.done less.0 in
+    let view : t ≡ after_listed s r on.looks =
+    listed-view (A.built a) i.pieces.items i.given.value i.place r given.value settled.number on.stands.course numbered
+    done on.from in
+    let right = subst (λ u. IsListingSearch (A.Reaches a No) (A.matches a) u r.place given.value (vec_len i.bytes)
+    (take i.filled i.bytes.items) i.filled i.over) (sym view)
+    (listed-right given.value settled on numbered) in
     record {
-      right = listed.0;
-      finds = finds-counted (listing_at b pieces count place (less_ahead sums was))
-          (listing_at b pieces number r.place (less_ahead more now)) sums.looked.value more.looked.value r.found
-          listed.1;
+      kept = listing-kept A j right known less.1;
+      finds = finds-counted s t i.sums.looked.value more.looked.value r.found
+          (subst (λ u. FindsHeld s r.found u) (sym view) on.finds);
       counts = (
         taken.looked.value,
         taken.scanned.value,
@@ -357,29 +358,7 @@ listed-ahead Reaches matches b pieces count place room held filled over sums mor
         summed.scanned,
         summed.moved,
       );
-      course =
-          listing-course Reaches matches b pieces number r.place room held filled over more now listed.0 known less.1;
-      made = less.1;
     }
-
--- after a read, what the search keeps is right
-reading-kept : (Reaches : List ℕ → StateID → Type 0) (matches : StateID → List ℕ) (b : Built)
-    (pieces all : List (List ℕ)) (count : ℕ) (place : ListPlace) (room : ℕ) (held : List ℕ) (filled : ℕ)
-    (was over : Bool) (sums : Steps) (piece now : List ℕ) (n room_after : ℕ)
-    → IsListingSearch Reaches matches (listing_at b pieces count place sums) place count room held filled was
-    → place.at ≡ length (concat pieces)
-    → length piece ≡ n → n ≤ room → now ≡ piece → all ≡ pieces ++ piece ∷ [] → room_after ≡ room
-    → (over ≡ false → CanBeCounted (concat pieces ++ piece)) → (over ≡ true → ¬ CanBeCounted (concat pieces ++ piece))
-    → IsListingSearch Reaches matches (listing_at b all count (record place { from = place.at }) sums)
-    (record place { from = place.at }) count room_after now n over
-reading-kept Reaches matches b pieces all count place room held filled was over sums piece now n room_after is searched
-    long fits holds joined same few many =
-    let s : StreamProgress Occurrences = listing_at b pieces count place sums in
-    let there : ListPlace = record place { from = place.at } in
-    let view = reading-view b pieces all count place sums piece is.number is.stands.course joined in
-    subst (λ t. IsListingSearch Reaches matches t there count room_after now n over) (sym view)
-    (reading-right Reaches matches s place count room held filled was over room_after piece now n is searched long fits
-    holds same few many)
 
 -- where all was searched, the search stands at the end of the bytes of the last read
 at-end : (pieces : List (List ℕ)) (place : ListPlace) (held : List ℕ) → held ≡ drop place.from (concat pieces)
@@ -387,50 +366,66 @@ at-end : (pieces : List (List ℕ)) (place : ListPlace) (held : List ℕ) → he
 at-end pieces place held is searched = let long = ap length is ∙ length-drop place.from (concat pieces) in
     omega (arith, long, searched)
 
--- After a read: what the search keeps is right, and the read returned this piece.
-pub record HasReading {R : Type 0} (remaining : R → Option (List ℕ)) (Reaches : List ℕ → StateID → Type 0)
-    (matches : StateID → List ℕ) (b : Built) (pieces all : List (List ℕ)) (count : ℕ) (place : ListPlace) (room : ℕ)
-    (now : List ℕ) (n : ℕ) (over : Bool) (sums : Steps) (ahead : Ahead) (before after : Watched R) (piece : List ℕ)
-    (failed : ℕ) : Type 0 where
-  pub right : IsListingSearch Reaches matches
-      (listing_at b all count (record place { from = place.at }) (less_ahead sums ahead))
-      (record place { from = place.at }) count room now n over
-  pub read : HasRead remaining (listing_at b pieces count place sums)
-      (listing_at b all count (record place { from = place.at }) sums) before after piece failed
-  pub course : IsOnCourse (listing_at b all count (record place { from = place.at }) sums)
-  pub known : IsAhead b Reaches matches None now (place.at - place.at) place.sid ahead
-  pub made : bytes_ahead ahead ≤ sums.looked.value
+-- what a search keeps after a read of the first bytes of its buffer
+abbrev pub read_to : {S : Type 0} → Inside S → List (List ℕ) → Vec ℕ → ℕ → Bool → Ahead → Inside S
+read_to i all bytes filled over ahead =
+    record i {
+      pieces = record i.pieces { items = all };
+      place = record i.place { from = i.place.at };
+      bytes = bytes;
+      filled = filled;
+      over = over;
+      ahead = ahead;
+    }
 
-pub reading-on : {R : Type 0} (remaining : R → Option (List ℕ)) (Reaches : List ℕ → StateID → Type 0)
-    (matches : StateID → List ℕ) (b : Built) (pieces all : List (List ℕ)) (count : ℕ) (place : ListPlace) (room : ℕ)
-    (held : List ℕ) (filled : ℕ) (was over : Bool) (sums : Steps) (ahead left : Ahead) (before after : Watched R)
-    (piece now : List ℕ) (failed n room_after : ℕ)
-    → IsListingSearch Reaches matches (listing_at b pieces count place (less_ahead sums ahead)) place count room held
-    filled was
-    → IsOnCourse (listing_at b pieces count place sums)
-    → IsAhead b Reaches matches None held (place.at - place.from) place.sid ahead
-    → bytes_ahead ahead ≤ sums.looked.value → HasForgotten ahead 0 left
-    → place.at ≡ length (concat pieces)
-    → HasGiven remaining before after (piece ∷ []) failed → length piece ≡ n → n ≤ room → now ≡ piece
-    → all ≡ pieces ++ piece ∷ [] → room_after ≡ room
-    → (over ≡ false → CanBeCounted (concat pieces ++ piece)) → (over ≡ true → ¬ CanBeCounted (concat pieces ++ piece))
-    → HasReading remaining Reaches matches b pieces all count place room_after now n over sums left before after piece
-    failed
-reading-on remaining Reaches matches b pieces all count place room held filled was over sums ahead left before after
-    piece now failed n room_after is course known made forgotten searched gave long fits holds joined same few many =
-    let there : ListPlace = record place { from = place.at } in
-    let view = reading-view b pieces all count place sums piece is.number course joined in
-    let kept = reading-kept Reaches matches b pieces all count place room held filled was over (less_ahead sums ahead)
-    piece now n room_after is searched long fits holds joined same few many in
-    let end = at-end pieces place held is.bytes searched in
-    let none = ahead-forgotten (λ standard. end) known forgotten in
-    let all_made : bytes_ahead left ≤ sums.looked.value = let e = forgotten.ahead in omega (arith, e, made) in
+-- After a read: what the search keeps is right, and the read returned this piece.
+pub record HasReading {S R : Type 0} (A : Ghosts S) (remaining : R → Option (List ℕ)) (i j : Inside S)
+    (before after : Watched R) (piece : List ℕ) (failed : ℕ) : Type 0 where
+  pub kept : IsListingKept A j
+  pub read : HasRead remaining (listed_by A i) (listed_by A j) before after piece failed
+
+pub reading-on : {S R : Type 0} (A : Ghosts S) {remaining : R → Option (List ℕ)} (i : Inside S)
+    {before after : Watched R} (all : List (List ℕ)) (bytes : Vec ℕ) (n : ℕ) (over : Bool) {left : Ahead} {failed : ℕ}
+    → IsListingKept A i
+    → IsSearched (listed_by A i)
+    → HasForgotten i.ahead 0 left
+    → HasGiven remaining before after (take n bytes.items ∷ []) failed
+    → length (take n bytes.items) ≡ n → n ≤ vec_len i.bytes
+    → all ≡ i.pieces.items ++ take n bytes.items ∷ [] → vec_len bytes ≡ vec_len i.bytes
+    → (over ≡ false → CanBeCounted (concat i.pieces.items ++ take n bytes.items))
+    × (over ≡ true → ¬ CanBeCounted (concat i.pieces.items ++ take n bytes.items))
+    → HasReading A remaining i (read_to i all bytes n over left) before after (take n bytes.items) failed
+reading-on A i all bytes n over {left} is searched forgotten gave long fits joined same
+    test =
+    let a = i.automaton.now in
+    let b = A.built a in
+    let pieces = i.pieces.items in
+    let piece : List ℕ = take n bytes.items in
+    let j = read_to i all bytes n over left in
+    let less = less_ahead i.sums i.ahead in
+    let settled = is.1 in
+    let view = reading-view b pieces all i.given.value i.place i.sums piece settled.number is.0 joined in
+    let view_less = reading-view b pieces all i.given.value i.place less piece settled.number settled.stands.course
+    joined in
+    let kept : IsListingSearch (A.Reaches a No) (A.matches a) (listed_by A (record j { sums = less })) j.place
+    i.given.value (vec_len bytes) piece n over =
+    subst (λ t. IsListingSearch (A.Reaches a No) (A.matches a) t j.place i.given.value (vec_len bytes) piece n over)
+    (sym view_less)
+    (reading-right over (vec_len bytes) piece piece n settled searched
+    long fits refl same test) in
+    let end = at-end pieces i.place (take i.filled i.bytes.items) settled.bytes searched in
+    let none = ahead-forgotten (λ standard. end) is.2 forgotten in
     let right =
-    subst (λ k. IsListingSearch Reaches matches
-    (listing_at b all count there (record sums { looked = record sums.looked { value = sums.looked.value - k } })) there
-    count room_after now n over) (sym forgotten.ahead) kept in
+    subst (λ k. IsListingSearch (A.Reaches a No) (A.matches a)
+    (listed_by A (record j {
+      sums = record i.sums {
+        looked = record i.sums.looked
+            { value = i.sums.looked.value - k };
+      };
+    }))
+    j.place i.given.value (vec_len bytes) piece n over) (sym forgotten.ahead) kept in
     record {
-      right = right;
+      kept = listing-kept A j right none (omega (arith, forgotten.ahead, is.3));
       read = record {
         built = refl;
         pieces = joined;
@@ -439,10 +434,7 @@ reading-on remaining Reaches matches b pieces all count place room held filled w
         at = refl;
         last = refl;
         from = omega arith;
-        short = omega (arith, long, fits, is.long);
+        short = omega (arith, long, fits, settled.long);
         read = gave;
       };
-      course = listing-course Reaches matches b all count there room_after now n over sums left right none all_made;
-      known = none;
-      made = all_made;
     }

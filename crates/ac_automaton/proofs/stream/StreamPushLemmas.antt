@@ -1,16 +1,13 @@
 -- What a search of a stream takes from a piece that is pushed.
-use Rattle.std.proofs.Common.{◌≡◌, ◌≢◌, ℕ, ◌-◌, ◌<◌, ◌≤◌, min, nat_lt, Bool, false, List, [], ◌∷◌, ◌++◌, length, take, Result, Ok, Err, append-nil, sym, ap, refl, ◌∙◌, arith, length-append}
+use Rattle.std.proofs.Common.{◌≡◌, ◌≢◌, ℕ, ◌-◌, ◌<◌, ◌≤◌, min, nat_lt, Bool, false, List, [], ◌∷◌, ◌++◌, length, take, Ok, append-nil, sym, ap, refl, ◌∙◌, arith, length-append}
 use Rattle.std.proofs.lemmas.List.{length-take-le}
-use Rattle.ac_input.specs.declared.search.Anchored.TheVariants.{No}
-use Rattle.ac_automaton.specs.Ahead.{less_ahead}
-use Rattle.ac_automaton.specs.Devices.Buffer.{Held, IsRollPaid, room_for, taken_into}
+use Rattle.ac_automaton.specs.Stream.Devices.Buffer.{Held, IsRollPaid, room_for, taken_into}
 use Rattle.ac_automaton.specs.Stream.{CanBeCounted, IsOnCourse, IsSearched, StreamProgress, read_by, room_of, Picks}
-use Rattle.ac_automaton.specs.Stream.StreamPush.{TakesBytes, Pushes, TakesFront, as_piece}
+use Rattle.ac_automaton.specs.Stream.Push.{TakesBytes, Pushes, TakesFront, as_piece}
 use Rattle.ac_automaton.specs.declared.automaton.Automaton.{Ghosts}
-use Rattle.ac_automaton.specs.declared.error.StreamError.{StreamError}
-use Rattle.ac_automaton.specs.declared.error.StreamError.TheVariants.{Config, Read, Write, WriteZero, Memory, Position}
 use Rattle.ac_automaton.specs.declared.stream.search.StreamSearch.TheInside.{Inside}
-use Rattle.ac_automaton.proofs.stream.StreamSearchLemmas.{IsGrown, IsSettled, after_read, come_by, grown-long, grown-right, grown_to, read-more, settled_by}
+use Rattle.ac_automaton.proofs.stream.StreamAheadLemmas.{IsKept}
+use Rattle.ac_automaton.proofs.stream.StreamSearchLemmas.{IsGrown, IsSettled, after_read, come_by, grown-long, grown-right, grown-test, grown_to, read-more, settled_by}
 use Rattle.std.specs.Prelude.{◌+◌}
 use Rattle.ac_input.specs.Number.{usize_max}
 
@@ -25,9 +22,10 @@ as_piece-some [] some = absurd (omega arith)
 as_piece-some (byte ∷ bytes) some = refl
 
 -- where the search stands after it took some bytes
-taken-after : (s t : StreamProgress Picks) (bytes : List ℕ) → IsOnCourse s → 0 < length bytes → t ≡ after_read s bytes
+taken-after : {s : StreamProgress Picks} (t : StreamProgress Picks) (bytes : List ℕ) → IsOnCourse s → 0 < length bytes
+    → t ≡ after_read s bytes
     → TakesBytes s t bytes
-taken-after s t bytes course some is = record {
+taken-after {s} t bytes course some is = record {
   built = ap (λ u. u.built) is;
   pieces = ap (λ u. u.pieces) is ∙ ap (λ l. s.pieces ++ l) (sym (as_piece-some bytes some));
   read = ap read_by is ∙ read-more s bytes;
@@ -38,47 +36,52 @@ taken-after s t bytes course some is = record {
   from = let from = ap (λ u. u.from) is in let le = course.kept.0 in (omega arith, omega arith);
 }
 
-module _ {S : Type 0} (A : Ghosts S) (i : Inside S) (all : List (List ℕ)) (new : Held) (piece : List ℕ) (n : ℕ)
-    (over : Bool) where
-  -- After a push: what the search keeps is right, and it has taken the first bytes of the piece.
-  pub record HasPushed : Type 0 where
-    pub right : IsSettled A (grown_to i all new over)
-    pub taken : TakesBytes (come_by A i) (come_by A (grown_to i all new over)) (take n piece)
-    pub front : TakesFront (IsSearched (come_by A i)) (come_by A i) (come_by A (grown_to i all new over)) piece n
+-- After a push: what the search keeps is right, and it has taken the first bytes of the piece.
+pub record HasPushed {S : Type 0} (A : Ghosts S) (i j : Inside S) (piece : List ℕ) (n : ℕ) : Type 0 where
+  pub right : IsSettled A j
+  pub taken : TakesBytes (come_by A i) (come_by A j) (take n piece)
+  pub front : TakesFront (IsSearched (come_by A i)) (come_by A i) (come_by A j) piece n
+
+-- a buffer took as many bytes of a piece as there was room for, the first ones
+pub record HasTaken (old new : Held) (piece : List ℕ) (n : ℕ) : Type 0 where
+  pub many : n ≡ min (length piece) (old.room - length old.bytes)
+  pub took : new ≡ taken_into old (take n piece)
+  pub paid : IsRollPaid new
 
 -- a push takes the first bytes of the piece, up to the room in the buffer
-pub push-gave : {S : Type 0} (A : Ghosts S) (i : Inside S) (all : List (List ℕ)) (new : Held) (piece : List ℕ) (n : ℕ)
-    (held : List ℕ)
-    → IsOnCourse (come_by A i) → IsSettled A i → i.progress.closed ≡ false
+pub push-gave : {S : Type 0} (A : Ghosts S) (i : Inside S) (all : List (List ℕ)) {new : Held} {piece : List ℕ} {n : ℕ}
+    (held : List ℕ) → IsKept A i → i.progress.closed ≡ false
     → 0 < length piece → IsSearched (come_by A i)
     → (length (read_by (come_by A i)) < (come_by A i).from + room_of Picks (come_by A i).built)
-    → n ≡ min (length piece) (i.buffer.room - length i.buffer.bytes)
-    → new ≡ taken_into i.buffer (take n piece) → IsRollPaid new → held ≡ new.bytes
+    → HasTaken i.buffer new piece n → held ≡ new.bytes
     → all ≡ i.pieces.items ++ take n piece ∷ [] → i.progress.from ≤ usize_max
-    → HasPushed A i all new piece n (nat_lt (usize_max - i.progress.from) (length held))
-push-gave A i all new piece n held on is open_ some searched room many took paid holds more fits =
+    → HasPushed A i (grown_to i all new (nat_lt (usize_max - i.progress.from) (length held))) piece n
+push-gave A i all {new} {piece} {n} held kept open_ some searched room is holds more fits =
     let s = settled_by A i in
-    let course = is.stands.course in
+    let settled = kept.1 in
+    let course = settled.stands.course in
+    let many = is.many in
     let within : n ≤ length piece = omega arith in
     let count : length (take n piece) ≡ n = length-take-le n piece within in
     let grown : IsGrown i.buffer new (take n piece) = record {
-      bytes = ap (λ h. h.bytes) took;
-      read = ap (λ h. h.read) took;
-      keep = ap (λ h. h.keep) took;
-      moved = ap (λ h. h.moved) took;
-      paid = paid;
+      bytes = ap (λ h. h.bytes) is.took;
+      read = ap (λ h. h.read) is.took;
+      keep = ap (λ h. h.keep) is.took;
+      moved = ap (λ h. h.moved) is.took;
+      paid = is.paid;
     } in
-    let right = grown-right (A.built i.automaton) (A.Reaches i.automaton No) i.start i.pieces.items all i.given.value
-    i.progress i.buffer new (less_ahead i.sums i.ahead) i.over (take n piece) held is open_ grown holds more fits in
-    let long = grown-long s i.buffer new (take n piece) course is.holds grown in
+    let over : Bool = nat_lt (usize_max - i.progress.from) (length held) in
+    let right = grown-right A i all over settled open_ grown more
+    (grown-test A i held settled grown holds fits) in
+    let long = grown-long course settled.holds grown in
     let joined = length-append i.buffer.bytes (take n piece) in
     let bytes = ap length grown.bytes in
     let both = length-append (read_by s) (take n piece) in
-    let old_room : i.buffer.room ≡ room_of Picks s.built = is.holds.paid.room ∙ ap room_for is.holds.keep in
+    let old_room : i.buffer.room ≡ room_of Picks s.built =
+    settled.holds.paid.room ∙ ap room_for settled.holds.keep in
     let taken_some : 0 < n = omega (arith, many, some, room, long, joined, bytes, both, count, old_room) in
-    let over : Bool = nat_lt (usize_max - i.progress.from) (length held) in
-    let view = right.1 i.sums in
-    let taken = taken-after (come_by A i) (come_by A (grown_to i all new over)) (take n piece) on (omega arith) view in
+    let taken = taken-after (come_by A (grown_to i all new over)) (take n piece) kept.0 (omega arith)
+    right.1 in
     record {
       right = right.0;
       taken = taken;
@@ -86,7 +89,7 @@ push-gave A i all new piece n held on is open_ some searched room many took paid
         within = within;
         waits = λ open_. absurd (open_ searched);
         some = λ _ _. taken_some;
-        full = λ _ lt. let from = ap (λ u. u.from) view in let read = ap length taken.read in
+        full = λ _ lt. let from = ap (λ u. u.from) right.1 in let read = ap length taken.read in
             omega (arith, many, lt, from, read, long, joined, bytes, both, count, old_room);
         none = λ z. absurd (omega arith);
       };
@@ -95,8 +98,8 @@ push-gave A i all new piece n held on is open_ some searched room many took paid
 -- ---- nothing taken
 
 -- no byte was taken, and nothing changed
-pub took-none : (s : StreamProgress Picks) → IsOnCourse s → TakesBytes s s []
-took-none s course = record {
+pub took-none : {s : StreamProgress Picks} → IsOnCourse s → TakesBytes s s []
+took-none {s} course = record {
   built = refl;
   pieces = sym (append-nil s.pieces);
   read = sym (append-nil (read_by s));
@@ -108,10 +111,11 @@ took-none s course = record {
 }
 
 -- where the piece is empty or the search isn't ready, no byte is taken
-pub pushes-none : (Ready : Type 0) (s : StreamProgress Picks) (piece : List ℕ) → IsOnCourse s → CanBeCounted (read_by s)
+pub pushes-none : (Ready : Type 0) {s : StreamProgress Picks} (piece : List ℕ) → IsOnCourse s
+    → CanBeCounted (read_by s)
     → (Ready → piece ≡ []) → Pushes Ready s s piece (Ok 0)
-pushes-none Ready s piece course few none = (
-  took-none s course,
+pushes-none Ready piece course few none = (
+  took-none course,
   record {
     within = omega arith;
     waits = λ _. refl;
@@ -121,34 +125,3 @@ pushes-none Ready s piece course few none = (
   },
   few,
 )
-
--- ---- a push, by another definition of ready
-
--- a text is short enough if it is short enough with more bytes
-few-before : (s t : StreamProgress Picks) (bytes : List ℕ) → TakesBytes s t bytes → CanBeCounted (read_by t)
-    → CanBeCounted (read_by s)
-few-before s t bytes took few = let read = ap length took.read in let both = length-append (read_by s) bytes in
-    omega arith
-
--- two definitions of ready need to agree only where places can be counted
-pub pushes-ready : (P Q : Type 0) (s t : StreamProgress Picks) (piece : List ℕ) (r : Result ℕ StreamError)
-    → (CanBeCounted (read_by s) → (P → Q) × (Q → P)) → Pushes P s t piece r → Pushes Q s t piece r
-pushes-ready P Q s t piece (Ok n) agree p =
-    let both = agree (few-before s t (take n piece) p.0 p.2) in
-    let front = p.1 in (
-      p.0,
-      record {
-        within = front.within;
-        waits = λ open_. front.waits (λ ready. open_ (both.0 ready));
-        some = λ ready some. front.some (both.1 ready) some;
-        full = λ ready lt. front.full (both.1 ready) lt;
-        none = front.none;
-      },
-      p.2,
-    )
-pushes-ready P Q s t piece (Err (Config error)) agree p = p
-pushes-ready P Q s t piece (Err (Read error)) agree p = p
-pushes-ready P Q s t piece (Err (Write error)) agree p = p
-pushes-ready P Q s t piece (Err WriteZero) agree p = p
-pushes-ready P Q s t piece (Err Memory) agree p = p
-pushes-ready P Q s t piece (Err Position) agree p = p

@@ -7,16 +7,16 @@ use Rattle.std.proofs.lemmas.Bool.{false≢true}
 use Rattle.std.proofs.lemmas.List.{take_all}
 use Rattle.ac_input.specs.Occurrence.{Occurrence}
 use Rattle.ac_input.specs.Text.{replaced_from}
-use Rattle.ac_automaton.specs.Replace.{LieInOrder, matches_in}
+use Rattle.ac_automaton.specs.InMemory.Replace.{LieInOrder, matches_in}
 use Rattle.ac_automaton.specs.Stream.{AreAllGiven, CanBeCounted, FindsHeld, IsOnCourse, ReadsNothing, StreamProgress, cut_of, may_wait, read_by, IsFront, Picks}
-use Rattle.ac_automaton.specs.Stream.StreamReplace.{IsPlaced, replaced_in}
-use Rattle.ac_automaton.specs.Stream.StreamReplacer.{FindsPart, HandsOut, IsAllOut, IsHandedOut, IsMatchMet, IsPlacedAt, IsReplacing, LooksForMatch, TakesPart, ReplacerProgress, ends_there, handed_out, part_bytes, decided_to, replaced_by}
+use Rattle.ac_automaton.specs.Stream.Replace.{IsPlaced, replaced_in}
+use Rattle.ac_automaton.specs.Stream.Replacer.{FindsPart, HandsOut, IsAllOut, IsHandedOut, IsMatchMet, IsPlacedAt, IsReplacing, LooksForMatch, TakesPart, ReplacerProgress, ends_there, handed_out, part_bytes, decided_to, replaced_by}
 use Rattle.ac_automaton.specs.declared.stream.replacer.Part.{Part}
 use Rattle.ac_automaton.specs.declared.stream.replacer.Part.TheVariants.{Text, Replacement}
 use Rattle.ac_automaton.specs.declared.stream.replacer.StreamReplacer.TheInside.{Inside}
 use Rattle.ac_automaton.proofs.stream.PlacedLemmas.{cut-placed, cut-within, each-closed, front-at_cut, item-placed, match-behind, none-placed}
 use Rattle.ac_automaton.proofs.stream.StreamTextLemmas.{replaced-grows, replaced-push}
-use Rattle.ac_automaton.proofs.iter.ItemsLemmas.{lies-longer}
+use Rattle.ac_automaton.proofs.in_memory.iter.ItemsLemmas.{lies-longer}
 
 -- how far a replacement has come, from what it keeps
 abbrev pub replacer_progress_of : {S : Type 0} → Inside S → ReplacerProgress
@@ -43,10 +43,10 @@ found-replaced s t None finds = finds.1
 found-replaced s t (Some o) finds = but-last s.given t.given o finds.1
 
 -- after the next match is found, the text may be handed out from the place as before
-look-placed : (s t : StreamProgress Picks) (at : ℕ) (found : Option Occurrence) → IsPlaced s at → IsOnCourse t
+look-placed : {s t : StreamProgress Picks} {at : ℕ} (found : Option Occurrence) → IsPlaced s at → IsOnCourse t
     → FindsHeld s found t → IsPlacedAt t at found
-look-placed s t at None placed course finds = none-placed s t at placed course finds
-look-placed s t at (Some o) placed course finds =
+look-placed None placed course finds = none-placed placed course finds
+look-placed {s} {t} {at} (Some o) placed course finds =
     let same = finds.0 in
     let is = finds.4 in
     let from : t.from ≡ s.from = same.from in
@@ -91,7 +91,7 @@ module _ (r : ReplacerProgress) (t : StreamProgress Picks) (found : Option Occur
     within = let w = is.within in
         let long : length (read_by t) ≡ length (read_by r.search) = ap (λ pieces. length (concat pieces)) same.pieces in
         omega arith;
-    placed = λ _ _. look-placed r.search t r.at found stood course finds;
+    placed = λ _ _. look-placed found stood course finds;
     ended = λ over. absurd (false≢true (sym open_ ∙ over));
   }
 
@@ -120,7 +120,7 @@ none-met (Some o) is = absurd (false≢true (sym is))
 pass-lent : (s : StreamProgress Picks) (at to : ℕ) (met : Option Occurrence) (finished : Bool) → IsPlacedAt s at met
     → at < to → to ≡ decided_to s met finished → (s.from ≤ at) × (at ≤ to) × (to ≤ length (read_by s))
 pass-lent s at to None true placed lt is = (placed.held, omega arith, omega arith)
-pass-lent s at to None false placed lt is = let cut = cut-within s placed.course in
+pass-lent s at to None false placed lt is = let cut = cut-within placed.course in
     (placed.held, omega arith, omega arith)
 pass-lent s at to (Some o) finished placed lt is = let within = placed.within in let some = placed.some in
     (placed.held, omega arith, omega arith)
@@ -191,11 +191,11 @@ module _ (r : ReplacerProgress) (to : ℕ) (is : IsReplacing r) (open_ : r.over 
 -- ---- the replacement of a match
 
 -- the text up to a match's end: the text before it, and the replacement
-replace-text : (s : StreamProgress Picks) (at : ℕ) (o : Occurrence) (replacements : List (List ℕ)) → IsMatchMet s at o
+replace-text : {s : StreamProgress Picks} {at : ℕ} {o : Occurrence} (replacements : List (List ℕ)) → IsMatchMet s at o
     → o.start ≤ at
     → replaced_from 0 (take o.end (read_by s)) replacements s.given
     ≡ replaced_from 0 (take at (read_by s)) replacements (replaced_by s (Some o)) ++ get_or replacements o.pattern []
-replace-text s at o replacements met late =
+replace-text {s} {at} {o} replacements met late =
     let x = read_by s in
     let before = met.before in
     let some = met.some in
@@ -209,11 +209,11 @@ replace-text s at o replacements met late =
     (sym there)
 
 -- the replacement of the match is the next slice
-pub pass-replacement : (r : ReplacerProgress) (o : Occurrence) (end pattern : ℕ) → IsReplacing r → r.over ≡ false
+pub pass-replacement : {r : ReplacerProgress} (o : Occurrence) (end pattern : ℕ) → IsReplacing r → r.over ≡ false
     → CanBeCounted (read_by r.search) → r.met ≡ Some o → decided_to r.search r.met r.finished ≤ r.at → end ≡ o.end
     → pattern ≡ o.pattern
     → TakesPart r (record r { at = end; met = None }) (Some (Replacement pattern))
-pass-replacement r o end pattern is open_ few some late is_end is_pattern =
+pass-replacement {r} o end pattern is open_ few some late is_end is_pattern =
     let met : IsMatchMet r.search r.at o = subst (IsPlacedAt r.search r.at) some (is.placed open_ few) in
     let late_there : o.start ≤ r.at = subst (λ m. decided_to r.search m r.finished ≤ r.at) some late in
     let filled = met.some in
@@ -227,7 +227,7 @@ pass-replacement r o end pattern is open_ few some late is_end is_pattern =
       omega arith,
       λ replacements.
           ap (λ k. replaced_from 0 (take k (read_by r.search)) replacements r.search.given) is_end
-          ∙ replace-text r.search r.at o replacements met late_there
+          ∙ replace-text replacements met late_there
           ∙ ap (λ m. replaced_from 0 (take r.at (read_by r.search)) replacements (replaced_by r.search m)
           ++ get_or replacements o.pattern []) (sym some)
           ∙ ap (λ n. replaced_from 0 (take r.at (read_by r.search)) replacements (replaced_by r.search r.met)
@@ -238,10 +238,10 @@ pass-replacement r o end pattern is open_ few some late is_end is_pattern =
 
 -- Where all that is decided was handed out, the text handed out is the front of the pushed text, or all of it,
 -- replaced.
-pub all-out : (r : ReplacerProgress) (replacements : List (List ℕ))
+pub all-out : {r : ReplacerProgress} (replacements : List (List ℕ))
     → r.search.closed ≡ (r.finished && may_wait r.search.built.dictionary.kind) → IsHandedOut r
     → (r.finished ≡ false → IsPlaced r.search r.at) → IsAllOut r replacements
-all-out r replacements closed out placed =
+all-out {r} replacements closed out placed =
     let s = r.search in
     let x = read_by s in
     record {
@@ -251,7 +251,7 @@ all-out r replacements closed out placed =
           let open_ : s.closed ≡ false = closed ∙ ap (λ b. b && may_wait s.built.dictionary.kind) more in
           subst (λ m. IsFront s.built.dictionary (replaced_in s.built replacements) x
           (replaced_from 0 (take r.at x) replacements (replaced_by s m))) (sym out.met)
-          (front-at_cut s.built replacements s r.at refl (record { placed = placed more; cut = at; all = out.all })
+          (front-at_cut s.built replacements refl (record { placed = placed more; cut = at; all = out.all })
           open_);
       whole = λ ended.
           let at : r.at ≡ length x = out.at ∙ ap (decided_to s None) ended in
@@ -265,34 +265,36 @@ all-out r replacements closed out placed =
     }
 
 -- the place is where the decided text ends
-place-there : (s : StreamProgress Picks) (at : ℕ) (finished : Bool) → IsPlaced s at → at ≤ length (read_by s)
+place-there : {s : StreamProgress Picks} {at : ℕ} (finished : Bool) → IsPlaced s at → at ≤ length (read_by s)
     → decided_to s None finished ≤ at → at ≡ decided_to s None finished
-place-there s at true placed within le = omega arith
-place-there s at false placed within le = let cut = placed.cut in omega arith
+place-there true placed within le = omega arith
+place-there false placed within le = let cut = placed.cut in omega arith
 
 -- no slice is left before the place
-pub pass-none : (r : ReplacerProgress) (over : Bool) → IsReplacing r → r.over ≡ false → CanBeCounted (read_by r.search)
+pub pass-none : {r : ReplacerProgress} (over : Bool) → IsReplacing r → r.over ≡ false
+    → CanBeCounted (read_by r.search)
     → (r.met ≡ None → AreAllGiven r.search) → r.met ≡ None → decided_to r.search r.met r.finished ≤ r.at
     → (replacements : List (List ℕ)) → IsAllOut (record r { over = over }) replacements
-pass-none r over is open_ few all none le replacements =
+pass-none {r} over is open_ few all none le replacements =
     let stood : IsPlaced r.search r.at = subst (IsPlacedAt r.search r.at) none (is.placed open_ few) in
     let before = subst (λ m. decided_to r.search m r.finished ≤ r.at) none le in
-    all-out (record r { over = over }) replacements is.closed
-    (record { met = none; all = all none; at = place-there r.search r.at r.finished stood is.within before })
+    all-out replacements is.closed
+    (record { met = none; all = all none; at = place-there r.finished stood is.within before })
     (λ _. stood)
 
 -- where the text is over, all of it was handed out
-pub over-out : (r : ReplacerProgress) → IsReplacing r → r.over ≡ true → (replacements : List (List ℕ))
+pub over-out : {r : ReplacerProgress} → IsReplacing r → r.over ≡ true → (replacements : List (List ℕ))
     → IsAllOut r replacements
-over-out r is over replacements = let ended = is.ended over in
-    all-out r replacements is.closed ended.1 (λ more. absurd (false≢true (sym more ∙ ended.0)))
+over-out is over replacements = let ended = is.ended over in
+    all-out replacements is.closed ended.1 (λ more. absurd (false≢true (sym more ∙ ended.0)))
 
 -- ---- the two steps together
 
 -- where no slice is handed out, the text handed out stays the same
-hands-none : (r t u : ReplacerProgress) (replacements : List (List ℕ)) → LooksForMatch r t → u.search ≡ t.search
+hands-none : {r t : ReplacerProgress} (u : ReplacerProgress) (replacements : List (List ℕ)) → LooksForMatch r t
+    → u.search ≡ t.search
     → u.finished ≡ t.finished → u.at ≡ t.at → u.met ≡ t.met → HandsOut r u replacements []
-hands-none r t u replacements looks search finished at met = record {
+hands-none {r} u replacements looks search finished at met = record {
   same = subst (λ s. ReadsNothing r.search s) (sym search) looks.same;
   finished = finished ∙ looks.finished;
   text = (λ i. replaced_from 0 (take (at i) (read_by (search i))) replacements (replaced_by (search i) (met i)))
@@ -300,11 +302,12 @@ hands-none r t u replacements looks search finished at met = record {
 }
 
 -- finding the next match, if none was met, and then taking the next slice
-pub look-pass : (r t u : ReplacerProgress) (part : Option Part) → LooksForMatch r t → TakesPart t u part
+pub look-pass : {r t : ReplacerProgress} (u : ReplacerProgress) (part : Option Part) → LooksForMatch r t
+    → TakesPart t u part
     → FindsPart r u part
-look-pass r t u None looks p =
-    λ replacements. (hands-none r t u replacements looks p.0 p.1 p.2 p.3, λ _. p.4 replacements)
-look-pass r t u (Some part) looks p = (
+look-pass u None looks p =
+    λ replacements. (hands-none u replacements looks p.0 p.1 p.2 p.3, λ _. p.4 replacements)
+look-pass {r} {t} u (Some part) looks p = (
   λ replacements. record {
     same = subst (λ s. ReadsNothing r.search s) (sym p.0) looks.same;
     finished = p.1 ∙ looks.finished;

@@ -19,30 +19,28 @@ use Rattle.ac_input.specs.Work.{longest, shortest}
 use Rattle.ac_input.specs.Steps.{Added, AreNone, Done}
 use Rattle.ac_automaton.specs.Ahead.{less_ahead}
 use Rattle.ac_automaton.specs.Automaton.{Built}
-use Rattle.ac_automaton.specs.Devices.Buffer.{Filled, Held, IsRollPaid, room_for, nothing_held, rolled}
+use Rattle.ac_automaton.specs.Stream.Devices.Buffer.{Filled, Held, IsRollPaid, room_for, nothing_held, rolled}
 use Rattle.std.specs.Prelude.{max}
-use Rattle.ac_automaton.specs.Replace.{matches_in}
-use Rattle.ac_automaton.specs.Stream.StreamSearch.{HoldsRead, IsStreamSearch, StandsInState, since_last, SearchesOn, after_search, passed_in_all, progress_at, some_of}
-use Rattle.ac_automaton.specs.Stream.{CanBeCounted, HasRead, IsOnCourse, cut_of, StreamProgress, fresh_progress, room_of, IsDecided, read_by, closed_by, may_wait, Picks}
-use Rattle.ac_automaton.specs.Devices.Moved.{HasGiven}
-use Rattle.ac_automaton.specs.declared.watched.Watched.{Watched}
+use Rattle.ac_automaton.specs.InMemory.Replace.{matches_in}
+use Rattle.ac_automaton.specs.Stream.Search.{HoldsRead, IsStreamSearch, Searched, SearchesOn, StandsInState, after_search, passed_in_all, progress_at, since_last, some_of}
+use Rattle.ac_automaton.specs.Stream.{IsWithinStreamBudget, Sequence, CanBeCounted, HasRead, IsOnCourse, cut_of, StreamProgress, fresh_progress, room_of, IsDecided, read_by, closed_by, may_wait, Picks}
+use Rattle.ac_automaton.specs.Stream.Devices.Moved.{HasGiven}
+use Rattle.ac_automaton.specs.declared.stream.devices.watched.Watched.{Watched}
 use Rattle.ac_automaton.specs.declared.stream.search.Progress.{Progress}
 use Rattle.ac_input.specs.declared.search.Anchored.TheVariants.{No}
 use Rattle.ac_automaton.specs.declared.stream.search.StreamSearch.TheInside.{Inside}
 use Rattle.ac_automaton.specs.declared.automaton.Automaton.{Ghosts}
-use Rattle.ac_automaton.specs.declared.stream.search.Searched.{Searched}
 use Rattle.ac_automaton.proofs.stream.SearchLemmas.{wait-standard}
-use Rattle.ac_automaton.proofs.stream.SearchReadLemmas.{live-empty, stands-from, nothing-in_empty, alive-none}
+use Rattle.ac_automaton.proofs.stream.SearchReadLemmas.{stands-from, stands-anew}
 use Rattle.ac_automaton.proofs.stream.StreamLemmas.{walk-any}
 use Rattle.ac_automaton.proofs.stream.SequenceLemmas.{picks≢occurrences}
-use Rattle.ac_input.proofs.lemmas.SomeLemmas.{live-some}
 
 -- ---- counting
 
 -- what is done in fresh steps is done in the steps to which they are added
-pub added-done : (looks : ℕ) (fresh taken before after : Steps) → AreNone fresh → Done looks 0 0 fresh taken
+pub added-done : {looks : ℕ} {fresh taken : Steps} (before after : Steps) → AreNone fresh → Done looks 0 0 fresh taken
     → Added taken before after → Done looks 0 0 before after
-added-done looks fresh taken before after none done added =
+added-done before after none done added =
     let a = none.looked in
     let b = none.scanned in
     let d = none.moved in
@@ -53,6 +51,23 @@ added-done looks fresh taken before after none done added =
     let j = added.scanned in
     let k = added.moved in
     record { looked = omega arith; scanned = omega arith; moved = omega arith }
+
+-- a search is on its course with whatever was counted, if it stays within its budget
+pub recounted : {q : Sequence} {s : StreamProgress q} {looked : ℕ} → IsOnCourse s
+    → IsWithinStreamBudget (record s { looked = looked }) → IsOnCourse (record s { looked = looked })
+recounted course paid = record {
+  standard = course.standard;
+  passed = course.passed;
+  unclosed = course.unclosed;
+  filled = course.filled;
+  ordered = course.ordered;
+  kept = course.kept;
+  short = course.short;
+  begun = course.begun;
+  ended = course.ended;
+  decided = course.decided;
+  paid = paid;
+}
 
 -- ---- what was given
 
@@ -68,8 +83,8 @@ given-front s decided =
 -- ---- the next match
 
 -- how far a search has come after the next match, from what it keeps then
-pub next-view : (b : Built) (pieces : List (List ℕ)) (count : ℕ) (p : Progress) (buffer : Held) (sums : Steps)
-    (r : Searched) (looks : ℕ) (more : Steps) (number : ℕ)
+pub next-view : (b : Built) (pieces : List (List ℕ)) (count : ℕ) (p : Progress) (buffer : Held) {sums : Steps}
+    (r : Searched) {looks : ℕ} {more : Steps} (number : ℕ)
     → length (take count (matches_in b (concat pieces))) ≡ count
     → IsDecided (after_search (progress_at b pieces count p buffer sums) r looks)
     → r.progress.closed ≡ p.closed
@@ -78,7 +93,7 @@ pub next-view : (b : Built) (pieces : List (List ℕ)) (count : ℕ) (p : Progre
     → Done looks 0 0 sums more
     → progress_at b pieces number r.progress buffer more
     ≡ after_search (progress_at b pieces count p buffer sums) r looks
-next-view b pieces count p buffer sums r looks more number is decided closed from numbered done =
+next-view b pieces count p buffer {sums} r {looks} {more} number is decided closed from numbered done =
     let given : List Occurrence = take count (matches_in b (concat pieces)) in
     let long : number ≡ length (given ++ some_of r.found) = let both = length-append given (some_of r.found) in
     omega arith in
@@ -99,15 +114,21 @@ next-view b pieces count p buffer sums r looks more number is decided closed fro
       moved = buffer.moved;
     }
 
--- what the search keeps after the next match is right
-pub next-stream : (Reaches : List ℕ → StateID → Type 0) (s : StreamProgress Picks) (start sid : StateID)
-    (best : Option Occurrence) (count : ℕ) (buffer : Held) (over : Bool) (r : Searched) (x y : Steps) (number : ℕ)
-    → IsStreamSearch Reaches s start sid best count buffer over → (on : SearchesOn Reaches s start r x y)
-    → number ≡ count + length (some_of r.found)
-    → IsStreamSearch Reaches (after_search s r on.looks) start r.progress.sid r.progress.best number buffer over
-next-stream Reaches s start sid best count buffer over r x y number is on numbered = record {
-  stands = on.stands;
-  number = let both = length-append s.given (some_of r.found) in let n = is.number in omega arith;
+-- how far a search has come that has read nothing in between, and moved nothing
+abbrev read_nothing : StreamProgress Picks → Bool → List Occurrence → ℕ → ℕ → ℕ → StreamProgress Picks
+read_nothing s closed given at last looked =
+    record s { closed = closed; given = given; at = at; last = last; looked = looked }
+
+-- what it keeps is right where it stands in a state
+kept-still : {Reaches : List ℕ → StateID → Type 0} {s : StreamProgress Picks} {start sid next : StateID}
+    {best better : Option Occurrence} {count : ℕ} {buffer : Held} {over : Bool} (closed : Bool)
+    (given : List Occurrence) (at last looked number : ℕ)
+    → IsStreamSearch Reaches s start sid best count buffer over
+    → StandsInState Reaches (read_nothing s closed given at last looked) start next better → length given ≡ number
+    → IsStreamSearch Reaches (read_nothing s closed given at last looked) start next better number buffer over
+kept-still closed given at last looked number is stands numbered = record {
+  stands = stands;
+  number = numbered;
   holds = record {
     bytes = is.holds.bytes;
     keep = is.holds.keep;
@@ -119,29 +140,45 @@ next-stream Reaches s start sid best count buffer over r x y number is on number
   uncountable = is.uncountable;
 }
 
+-- what the search keeps after the next match is right
+pub next-stream : {Reaches : List ℕ → StateID → Type 0} {s : StreamProgress Picks} {start sid : StateID}
+    {best : Option Occurrence} {count : ℕ} {buffer : Held} {over : Bool} {r : Searched} {x y : Steps} (number : ℕ)
+    → IsStreamSearch Reaches s start sid best count buffer over → (on : SearchesOn Reaches s start r x y)
+    → number ≡ count + length (some_of r.found)
+    → IsStreamSearch Reaches (after_search s r on.looks) start r.progress.sid r.progress.best number buffer over
+next-stream {s} {r} number is on numbered =
+    let both = length-append s.given (some_of r.found) in
+    kept-still s.closed (s.given ++ some_of r.found) r.progress.at r.progress.last (s.looked + on.looks) number is
+    on.stands (omega (arith, both, is.number, numbered))
+
 -- ---- at first
 
 -- a search that has read nothing stands in the start state
 fresh-stands : (b : Built) (Reaches : List ℕ → StateID → Type 0) (start : StateID) → 1 ≤ shortest b.dictionary.patterns
     → Reaches [] start → StandsInState Reaches (fresh_progress b) start start None
 fresh-stands b Reaches start filled begins =
-    let nothing = nothing-in_empty b.dictionary [] filled refl in
-    let alive = alive-none b.dictionary [] (live-some).0 nothing (live-some).1 in
-    let kind = b.dictionary.kind in
-    stands-from Reaches (fresh_progress b) start start None None alive.0 (λ standard. refl) filled (omega arith)
-    (omega arith) (omega arith) (omega arith) (omega arith) (omega arith) (λ k d lt. absurd (omega arith)) refl
-    (omega arith) begins begins
-    refl nothing (λ standard. refl) alive.1
-    (λ more rest follows walk. walk-any kind (whole b.dictionary more false) 0 (Some 0) None rest (omega arith) filled
-    walk)
-    (λ one is. let none = live-empty [] 0 one in (omega arith, omega arith, λ d. omega arith))
+    stands-anew Reaches start
+    (record {
+      unclosed = λ _. refl;
+      filled = filled;
+      ordered = (omega arith, omega arith);
+      kept = (omega arith, omega arith, omega arith);
+      short = λ k d lt. absurd (omega arith);
+      ended = omega arith;
+      scanned = refl;
+      moved = omega arith;
+    })
+    refl begins
+    (λ more rest follows walk.
+    walk-any b.dictionary.kind (whole b.dictionary more false) 0 (Some 0) None rest (omega arith) filled walk)
+    (omega arith, omega arith, λ d. omega arith)
 
 -- how far a search that has read nothing has come, from what it keeps
 pub fresh-view : (b : Built) (pieces : List (List ℕ)) (count : ℕ) (start : StateID) (n : ℕ) (buffer : Held)
-    (sums : Steps) → pieces ≡ [] → count ≡ 0 → buffer ≡ nothing_held (max n 1) → AreNone sums
+    {sums : Steps} → pieces ≡ [] → count ≡ 0 → buffer ≡ nothing_held (max n 1) → AreNone sums
     → progress_at b pieces count (record { sid = start; from = 0; at = 0; last = 0; best = None; closed = false })
     buffer sums ≡ fresh_progress b
-fresh-view b pieces count start n buffer sums none zero_given empty no_sums = λ i. record {
+fresh-view b pieces count start n buffer none zero_given empty no_sums = λ i. record {
   built = b;
   pieces = none i;
   closed = false;
@@ -155,11 +192,11 @@ fresh-view b pieces count start n buffer sums none zero_given empty no_sums = λ
 }
 
 -- and what it keeps is right
-pub fresh-right : (b : Built) (Reaches : List ℕ → StateID → Type 0) (start : StateID) (n count : ℕ) (buffer : Held)
+pub fresh-right : (b : Built) (Reaches : List ℕ → StateID → Type 0) (start : StateID) (n count : ℕ) {buffer : Held}
     → 1 ≤ shortest b.dictionary.patterns → Reaches [] start → n ≡ longest b.dictionary.patterns → count ≡ 0
     → buffer ≡ nothing_held (max n 1) → IsRollPaid buffer
     → IsStreamSearch Reaches (fresh_progress b) start start None count buffer false
-fresh-right b Reaches start n count buffer filled begins long none empty paid = record {
+fresh-right b Reaches start n count filled begins long none empty paid = record {
   stands = fresh-stands b Reaches start filled begins;
   number = sym none;
   holds = record {
@@ -183,10 +220,10 @@ wait-follows LeftmostFirst closed more none follows is = follows refl
 wait-follows LeftmostLongest closed more none follows is = follows refl
 
 -- closing a search leaves it where it stands
-closed-stands : (Reaches : List ℕ → StateID → Type 0) (s : StreamProgress Picks) (start sid : StateID)
-    (best : Option Occurrence) → StandsInState Reaches s start sid best
+closed-stands : {Reaches : List ℕ → StateID → Type 0} {s : StreamProgress Picks} {start sid : StateID}
+    {best : Option Occurrence} → StandsInState Reaches s start sid best
     → StandsInState Reaches (closed_by s) start sid best
-closed-stands Reaches s start sid best stands =
+closed-stands {s} stands =
     let course = stands.course in
     let kind = s.built.dictionary.kind in
     record {
@@ -224,23 +261,13 @@ closed-stands Reaches s start sid best stands =
     }
 
 -- and what it keeps is right
-pub closed-right : (Reaches : List ℕ → StateID → Type 0) (s : StreamProgress Picks) (start sid : StateID)
-    (best : Option Occurrence) (count : ℕ) (buffer : Held) (over : Bool)
+pub closed-right : {Reaches : List ℕ → StateID → Type 0} {s : StreamProgress Picks} {start sid : StateID}
+    {best : Option Occurrence} {count : ℕ} {buffer : Held} {over : Bool}
     → IsStreamSearch Reaches s start sid best count buffer over
     → IsStreamSearch Reaches (closed_by s) start sid best count buffer over
-closed-right Reaches s start sid best count buffer over is = record {
-  stands = closed-stands Reaches s start sid best is.stands;
-  number = is.number;
-  holds = record {
-    bytes = is.holds.bytes;
-    keep = is.holds.keep;
-    read = is.holds.read;
-    moved = is.holds.moved;
-    paid = is.holds.paid;
-  };
-  countable = is.countable;
-  uncountable = is.uncountable;
-}
+closed-right {s} {count} is =
+    kept-still (may_wait s.built.dictionary.kind) s.given s.at s.last s.looked count is
+    (closed-stands is.stands) is.number
 
 -- ---- a read
 
@@ -266,11 +293,11 @@ read-on : (s : StreamProgress Picks) (piece more : List ℕ)
 read-on s piece more = ap (λ l. l ++ more) (read-more s piece) ∙ append_assoc (read_by s) piece more
 
 -- a read leaves the search in its state
-read-stands : (Reaches : List ℕ → StateID → Type 0) (s : StreamProgress Picks) (start sid : StateID)
-    (best : Option Occurrence) (piece : List ℕ) → StandsInState Reaches s start sid best → s.closed ≡ false
+read-stands : {Reaches : List ℕ → StateID → Type 0} {s : StreamProgress Picks} {start sid : StateID}
+    {best : Option Occurrence} (piece : List ℕ) → StandsInState Reaches s start sid best → s.closed ≡ false
     → length (read_by s ++ piece) ≤ s.from + room_of Picks s.built → length piece ≤ room_of Picks s.built
     → StandsInState Reaches (after_read s piece) start sid best
-read-stands Reaches s start sid best piece is open_ fits short =
+read-stands {Reaches} {s} {start} {sid} {best} piece is open_ fits short =
     let m = s.built.dictionary in
     let t = after_read s piece in
     let more = read-more s piece in
@@ -278,14 +305,20 @@ read-stands Reaches s start sid best piece is open_ fits short =
     let both = length-append (read_by s) piece in
     let course = is.course in
     let ordered = course.ordered in
-    let moved = course.paid.moved in
-    let kept = course.kept in
     let same : since_last t ≡ since_last s = ap (λ l. slice_range l s.last s.at) more
     ∙ slice_range-append (read_by s) piece ordered.0 ordered.1 in
-    stands-from Reaches t start sid best is.found is.live course.unclosed course.filled ordered.0
-    (omega (arith, ordered.1)) course.ended kept.0 kept.1 (omega arith)
-    (All-push (λ l. length l ≤ room_of Picks s.built) s.pieces piece course.short short) course.paid.scanned
-    (omega arith) is.begins
+    stands-from Reaches start sid best is.found is.live
+    (record {
+      unclosed = course.unclosed;
+      filled = course.filled;
+      ordered = (ordered.0, omega (arith, ordered.1, longer, both));
+      kept = (course.kept.0, course.kept.1, omega (arith, fits, longer));
+      short = All-push (λ l. length l ≤ room_of Picks s.built) s.pieces piece course.short short;
+      ended = course.ended;
+      scanned = course.paid.scanned;
+      moved = omega (arith, course.paid.moved, longer, both);
+    })
+    is.begins
     (subst (λ l. Reaches l sid) (sym same) is.reads)
     is.kept
     (subst (λ l. IsBest m.kind (whole m l false) is.found) (sym same) is.told)
@@ -302,9 +335,9 @@ read-stands Reaches s start sid best piece is open_ fits short =
     (is.lookups one (subst (λ l. IsLive m false l one) same alive)))
 
 -- how many bytes are held after the piece
-pub grown-long : (s : StreamProgress Picks) (old new : Held) (piece : List ℕ) → IsOnCourse s → HoldsRead s old
+pub grown-long : {s : StreamProgress Picks} {old new : Held} {piece : List ℕ} → IsOnCourse s → HoldsRead s old
     → IsGrown old new piece → length new.bytes + s.from ≡ length (read_by s ++ piece)
-grown-long s old new piece course holds grown =
+grown-long {s} {old} {piece} course holds grown =
     let bytes = ap length grown.bytes in
     let joined = length-append old.bytes piece in
     let held = ap length holds.bytes in
@@ -315,18 +348,18 @@ grown-long s old new piece course holds grown =
     omega arith
 
 -- the bytes fit the buffer
-grown-fits : (s : StreamProgress Picks) (old new : Held) (piece : List ℕ) → IsOnCourse s → HoldsRead s old
+grown-fits : {s : StreamProgress Picks} {old new : Held} {piece : List ℕ} → IsOnCourse s → HoldsRead s old
     → IsGrown old new piece → length (read_by s ++ piece) ≤ s.from + room_of Picks s.built
-grown-fits s old new piece course holds grown =
-    let long = grown-long s old new piece course holds grown in
+grown-fits {s} {new} course holds grown =
+    let long = grown-long course holds grown in
     let within = grown.paid.within in
     let room : new.room ≡ room_of Picks s.built = grown.paid.room ∙ ap room_for (grown.keep ∙ holds.keep) in
     omega arith
 
 -- no piece is longer than the buffer
-pub piece-short : (s : StreamProgress Picks) (old new : Held) (piece : List ℕ) → IsOnCourse s → HoldsRead s old
+pub piece-short : {s : StreamProgress Picks} {old new : Held} {piece : List ℕ} → IsOnCourse s → HoldsRead s old
     → IsGrown old new piece → length piece ≤ room_of Picks s.built
-piece-short s old new piece course holds grown =
+piece-short {s} {old} {new} {piece} course holds grown =
     let within = grown.paid.within in
     let room : new.room ≡ room_of Picks s.built = grown.paid.room ∙ ap room_for (grown.keep ∙ holds.keep) in
     let bytes = ap length grown.bytes in
@@ -334,12 +367,12 @@ piece-short s old new piece course holds grown =
     omega arith
 
 -- moving the held bytes to the front leaves what the search keeps right
-pub roll-right : (Reaches : List ℕ → StateID → Type 0) (s : StreamProgress Picks) (start sid : StateID)
-    (best : Option Occurrence) (count : ℕ) (old new : Held) (over : Bool) (cut : ℕ)
+pub roll-right : {Reaches : List ℕ → StateID → Type 0} {s : StreamProgress Picks} {start sid : StateID}
+    {best : Option Occurrence} {count : ℕ} {old new : Held} {over : Bool} (cut : ℕ)
     → IsStreamSearch Reaches s start sid best count old over → cut ≡ cut_of s → new ≡ rolled old (cut - s.from)
     → IsRollPaid new
     → IsStreamSearch Reaches (record s { from = cut; moved = new.moved }) start sid best count new over
-roll-right Reaches s start sid best count old new over cut is at moves paid =
+roll-right {s} {new} cut is at moves paid =
     let stands = is.stands in
     let course = stands.course in
     let before = course.kept.0 in
@@ -397,21 +430,21 @@ roll-right Reaches s start sid best count old new over cut is at moves paid =
     }
 
 -- What a search keeps after a read is right, and `over` is true exactly where there are more bytes than places.
-pub read-right : (Reaches : List ℕ → StateID → Type 0) (s : StreamProgress Picks) (start sid : StateID)
-    (best : Option Occurrence) (count : ℕ) (old new : Held) (was over : Bool) (piece : List ℕ)
+pub read-right : {Reaches : List ℕ → StateID → Type 0} {s : StreamProgress Picks} {start sid : StateID}
+    {best : Option Occurrence} {count : ℕ} {old new : Held} {was : Bool} (over : Bool) {piece : List ℕ}
     → IsStreamSearch Reaches s start sid best count old was → IsGrown old new piece
     → s.closed ≡ false
     → (over ≡ false → CanBeCounted (read_by s ++ piece)) → (over ≡ true → ¬ CanBeCounted (read_by s ++ piece))
     → IsStreamSearch Reaches (after_read s piece) start sid best count new over
-read-right Reaches s start sid best count old new was over piece is grown open_ few many =
+read-right {s} over {piece} is grown open_ few many =
     let more = read-more s piece in
     let course = is.stands.course in
     let behind = course.kept.1 in
     let inside = course.ordered.1 in
     let le : s.from ≤ length (read_by s) = omega arith in
     record {
-      stands = read-stands Reaches s start sid best piece is.stands open_
-          (grown-fits s old new piece course is.holds grown) (piece-short s old new piece course is.holds grown);
+      stands = read-stands piece is.stands open_
+          (grown-fits course is.holds grown) (piece-short course is.holds grown);
       number = is.number;
       holds = record {
         bytes = grown.bytes ∙ ap (λ l. l ++ piece) is.holds.bytes ∙ sym (drop-append-le s.from (read_by s) piece le)
@@ -427,15 +460,14 @@ read-right Reaches s start sid best count old new was over piece is grown open_ 
     }
 
 -- how far the search has come after a read, from what it keeps then
-pub read-view : (b : Built) (pieces after : List (List ℕ)) (count : ℕ) (p : Progress) (old new : Held) (sums : Steps)
-    (piece : List ℕ)
-    → length (take count (matches_in b (concat pieces))) ≡ count
+pub read-view : (b : Built) (pieces after : List (List ℕ)) (count : ℕ) (p : Progress) {old new : Held} (sums : Steps)
+    {piece : List ℕ} → length (take count (matches_in b (concat pieces))) ≡ count
     → IsDecided (progress_at b pieces count p old sums)
     → p.closed ≡ false
     → IsGrown old new piece
     → after ≡ pieces ++ piece ∷ []
     → progress_at b after count p new sums ≡ after_read (progress_at b pieces count p old sums) piece
-read-view b pieces after count p old new sums piece number decided open_ grown is =
+read-view b pieces after count p {old} sums {piece} number decided open_ grown is =
     let s : StreamProgress Picks = progress_at b pieces count p old sums in
     let rest = decided piece (λ closed. absurd (false≢true (sym open_ ∙ closed))) in
     let all : matches_in b (concat after) ≡ s.given ++ rest.0 = ap (λ l. matches_in b (concat l)) is
@@ -474,119 +506,6 @@ piece-behind held front piece n is long =
     let k : length held - n ≡ length front = omega arith in
     ap (λ i. drop i held) k ∙ ap (drop (length front)) is ∙ drop-append_seam front piece
 
--- After a failed read: what the search keeps is right, and the read returned an empty piece.
-read-failed : {R : Type 0} (remaining : R → Option (List ℕ)) (before after : Watched R) (b : Built)
-    (Reaches : List ℕ → StateID → Type 0) (start : StateID) (pieces all : List (List ℕ)) (count : ℕ) (p : Progress)
-    (old new : Held) (sums : Steps) (over : Bool)
-    → IsStreamSearch Reaches (progress_at b pieces count p old sums) start p.sid p.best count old over
-    → p.closed ≡ false
-    → new ≡ old → IsRollPaid new → all ≡ pieces ++ [] ∷ []
-    → HasGiven remaining before after ([] ∷ []) 1
-    → IsStreamSearch Reaches (progress_at b all count p new sums) start p.sid p.best count new over
-    × ((counted : Steps) → HasRead remaining (progress_at b pieces count p old counted)
-    (progress_at b all count p new counted) before after [] 1)
-read-failed {R} remaining before after b Reaches start pieces all count p old new sums over is open_ same paid more
-    failed =
-    let s : StreamProgress Picks = progress_at b pieces count p old sums in
-    let grown : IsGrown old new [] = record {
-      bytes = ap (λ h. h.bytes) same ∙ sym (append-nil old.bytes);
-      read = let e = ap (λ h. h.read) same in omega arith;
-      keep = ap (λ h. h.keep) same;
-      moved = ap (λ h. h.moved) same;
-      paid = paid;
-    } in
-    let view = λ (counted : Steps).
-    read-view b pieces all count p old new counted [] is.number is.stands.course.decided open_ grown more in
-    let none = append-nil (read_by s) in (
-      subst (λ t. IsStreamSearch Reaches t start p.sid p.best count new over) (sym (view sums))
-          (read-right Reaches s start p.sid p.best count old new over over [] is grown open_
-          (λ e. subst CanBeCounted (sym none) (is.countable e))
-          (λ e. subst (λ l. ¬ CanBeCounted l) (sym none) (is.uncountable e))),
-      λ counted. subst (λ t. HasRead remaining (progress_at b pieces count p old counted) t before after [] 1)
-          (sym (view counted))
-          (record {
-            built = refl;
-            pieces = refl;
-            closed = refl;
-            given = refl;
-            at = refl;
-            last = refl;
-            from = is.stands.course.kept.0;
-            short = omega arith;
-            read = failed;
-          }),
-    )
-
--- After a piece was taken: what the search keeps is right, and how far it has come.
-pub grown-right : (b : Built) (Reaches : List ℕ → StateID → Type 0) (start : StateID) (pieces all : List (List ℕ))
-    (count : ℕ) (p : Progress) (old new : Held) (sums : Steps) (was : Bool) (piece held : List ℕ)
-    → IsStreamSearch Reaches (progress_at b pieces count p old sums) start p.sid p.best count old was
-    → p.closed ≡ false
-    → IsGrown old new piece → held ≡ new.bytes → all ≡ pieces ++ piece ∷ [] → p.from ≤ usize_max
-    → IsStreamSearch Reaches (progress_at b all count p new sums) start p.sid p.best count new
-    (nat_lt (usize_max - p.from) (length held))
-    × ((counted : Steps) → progress_at b all count p new counted
-    ≡ after_read (progress_at b pieces count p old counted) piece)
-grown-right b Reaches start pieces all count p old new sums was piece held is open_ grown holds joined fits =
-    let s : StreamProgress Picks = progress_at b pieces count p old sums in
-    let course = is.stands.course in
-    let view = λ (counted : Steps).
-    read-view b pieces all count p old new counted piece is.number course.decided open_ grown joined in
-    let long : length held + p.from ≡ length (read_by s ++ piece) = ap (λ l. length l + p.from) holds
-    ∙ grown-long s old new piece course is.holds grown in
-    let test = over-test p.from (length held) (length (read_by s ++ piece)) fits long in
-    let right = read-right Reaches s start p.sid p.best count old new was (nat_lt (usize_max - p.from) (length held))
-    piece is grown open_ test.0 test.1 in (
-      subst (λ t. IsStreamSearch Reaches t start p.sid p.best count new (nat_lt (usize_max - p.from) (length held)))
-          (sym (view sums)) right,
-      view,
-    )
-
--- After a read of some bytes: what the search keeps is right, and the read returned this piece.
-read-gave : {R : Type 0} (remaining : R → Option (List ℕ)) (before after : Watched R) (b : Built)
-    (Reaches : List ℕ → StateID → Type 0) (start : StateID) (pieces all : List (List ℕ)) (count : ℕ) (p : Progress)
-    (old new : Held) (sums : Steps) (was : Bool) (n : ℕ) (held : List ℕ)
-    → IsStreamSearch Reaches (progress_at b pieces count p old sums) start p.sid p.best count old was
-    → p.closed ≡ false
-    → (filled : Filled remaining old new before after n) → IsRollPaid new
-    → held ≡ new.bytes → all ≡ pieces ++ drop (length held - n) held ∷ []
-    → p.from ≤ usize_max
-    → IsStreamSearch Reaches (progress_at b all count p new sums) start p.sid p.best count new
-    (nat_lt (usize_max - p.from) (length held))
-    × ((counted : Steps) → HasRead remaining (progress_at b pieces count p old counted)
-    (progress_at b all count p new counted) before after filled.piece 0)
-read-gave {R} remaining before after b Reaches start pieces all count p old new sums was n held is open_ filled paid
-    holds more fits =
-    let s : StreamProgress Picks = progress_at b pieces count p old sums in
-    let piece : List ℕ = filled.piece in
-    let grown : IsGrown old new piece = record {
-      bytes = ap (λ h. h.bytes) filled.held;
-      read = ap (λ h. h.read) filled.held ∙ ap (λ k. old.read + k) (sym filled.count);
-      keep = ap (λ h. h.keep) filled.held;
-      moved = ap (λ h. h.moved) filled.held;
-      paid = paid;
-    } in
-    let course = is.stands.course in
-    let last = piece-behind held old.bytes piece n (holds ∙ grown.bytes) filled.count in
-    let joined : all ≡ pieces ++ piece ∷ [] = more ∙ ap (λ l. pieces ++ l ∷ []) last in
-    let right =
-    grown-right b Reaches start pieces all count p old new sums was piece held is open_ grown holds joined fits in (
-      right.0,
-      λ counted. subst (λ t. HasRead remaining (progress_at b pieces count p old counted) t before after piece 0)
-          (sym (right.1 counted))
-          (record {
-            built = refl;
-            pieces = refl;
-            closed = refl;
-            given = refl;
-            at = refl;
-            last = refl;
-            from = course.kept.0;
-            short = piece-short s old new piece course is.holds grown;
-            read = filled.read;
-          }),
-    )
-
 -- ---- what a read leaves, by what the search keeps
 
 -- how far a search has come, from what it keeps
@@ -607,34 +526,105 @@ IsSettled A i =
 abbrev pub grown_to : {S : Type 0} → Inside S → List (List ℕ) → Held → Bool → Inside S
 grown_to i all new over = record i { pieces = record i.pieces { items = all }; buffer = new; over = over }
 
-module _ {S R : Type 0} (A : Ghosts S) (remaining : R → Option (List ℕ)) (i : Inside S) (before after : Watched R)
-    (all : List (List ℕ)) (new : Held) (over : Bool) where
-  -- After a read: what the search keeps is right, and the read returned this piece.
-  pub record HasFilled (piece : List ℕ) (errors : ℕ) : Type 0 where
-    pub right : IsSettled A (grown_to i all new over)
-    pub read : HasRead remaining (come_by A i) (come_by A (grown_to i all new over)) before after piece errors
+-- After a piece was added to the held bytes: what the search keeps is right, and how far it has come.
+pub grown-right : {S : Type 0} (A : Ghosts S) (i : Inside S) (all : List (List ℕ)) {new : Held} (over : Bool)
+    {piece : List ℕ} → IsSettled A i → i.progress.closed ≡ false → IsGrown i.buffer new piece
+    → all ≡ i.pieces.items ++ piece ∷ []
+    → (over ≡ false → CanBeCounted (read_by (come_by A i) ++ piece))
+    × (over ≡ true → ¬ CanBeCounted (read_by (come_by A i) ++ piece))
+    → IsSettled A (grown_to i all new over) × (come_by A (grown_to i all new over) ≡ after_read (come_by A i) piece)
+grown-right A i all {new} over is open_ grown more test =
+    let p = i.progress in
+    let Reaches = A.Reaches i.automaton No in
+    let view = λ (counted : Steps).
+    read-view (A.built i.automaton) i.pieces.items all i.given.value p counted is.number
+    is.stands.course.decided open_ grown more in (
+      subst (λ t. IsStreamSearch Reaches t i.start p.sid p.best i.given.value new over)
+          (sym (view (less_ahead i.sums i.ahead)))
+          (read-right over is grown
+          open_ test.0 test.1),
+      view i.sums,
+    )
 
--- what a failed read leaves
-pub fill-failed : {S R : Type 0} (A : Ghosts S) (remaining : R → Option (List ℕ)) (i : Inside S)
-    (before after : Watched R) (all : List (List ℕ)) (new : Held)
-    → IsSettled A i → i.progress.closed ≡ false
+-- the test for more bytes than places, after a piece was added
+pub grown-test : {S : Type 0} (A : Ghosts S) (i : Inside S) {new : Held} {piece : List ℕ} (held : List ℕ)
+    → IsSettled A i → IsGrown i.buffer new piece → held ≡ new.bytes → i.progress.from ≤ usize_max
+    → (nat_lt (usize_max - i.progress.from) (length held) ≡ false → CanBeCounted (read_by (come_by A i) ++ piece))
+    × (nat_lt (usize_max - i.progress.from) (length held) ≡ true → ¬ CanBeCounted (read_by (come_by A i) ++ piece))
+grown-test A i {piece} held is grown holds fits =
+    over-test i.progress.from (length held) (length (read_by (come_by A i) ++ piece)) fits
+    (ap (λ l. length l + i.progress.from) holds
+    ∙ grown-long is.stands.course is.holds grown)
+
+-- After a read: what the search keeps is right, and the read returned this piece.
+pub record HasFilled {S R : Type 0} (A : Ghosts S) (remaining : R → Option (List ℕ)) (i j : Inside S)
+    (before after : Watched R) (piece : List ℕ) (errors : ℕ) : Type 0 where
+  pub right : IsSettled A j
+  pub read : HasRead remaining (come_by A i) (come_by A j) before after piece errors
+
+filled-by : {S R : Type 0} (A : Ghosts S) (remaining : R → Option (List ℕ)) (i : Inside S) (before after : Watched R)
+    (all : List (List ℕ)) (new : Held) (over : Bool) (piece : List ℕ) (errors : ℕ)
+    → IsSettled A i → i.progress.closed ≡ false → IsGrown i.buffer new piece → all ≡ i.pieces.items ++ piece ∷ []
+    → (over ≡ false → CanBeCounted (read_by (come_by A i) ++ piece))
+    × (over ≡ true → ¬ CanBeCounted (read_by (come_by A i) ++ piece))
+    → HasGiven remaining before after (piece ∷ []) errors
+    → HasFilled A remaining i (grown_to i all new over) before after piece errors
+filled-by A remaining i before after all new over piece errors is open_ grown more test gave =
+    let course = is.stands.course in
+    let right = grown-right A i all over is open_ grown more test in
+    record {
+      right = right.0;
+      read = subst (λ t. HasRead remaining (come_by A i) t before after piece errors) (sym right.1)
+          (record {
+            built = refl;
+            pieces = refl;
+            closed = refl;
+            given = refl;
+            at = refl;
+            last = refl;
+            from = course.kept.0;
+            short = piece-short course is.holds grown;
+            read = gave;
+          });
+    }
+
+-- what a failed read leaves: it returned an empty piece
+pub fill-failed : {S R : Type 0} (A : Ghosts S) {remaining : R → Option (List ℕ)} (i : Inside S)
+    {before after : Watched R} (all : List (List ℕ)) {new : Held} → IsSettled A i → i.progress.closed ≡ false
     → new ≡ i.buffer → IsRollPaid new → all ≡ i.pieces.items ++ [] ∷ [] → HasGiven remaining before after ([] ∷ []) 1
-    → HasFilled A remaining i before after all new i.over [] 1
-fill-failed A remaining i before after all new is open_ same paid more failed =
-    let a = i.automaton in
-    let r = read-failed remaining before after (A.built a) (A.Reaches a No) i.start i.pieces.items all i.given.value
-    i.progress i.buffer new (less_ahead i.sums i.ahead) i.over is open_ same paid more failed in
-    record { right = r.0; read = r.1 i.sums }
+    → HasFilled A remaining i (grown_to i all new i.over) before after [] 1
+fill-failed A {remaining} i {before} {after} all {new} is open_ same paid more failed =
+    let none = append-nil (read_by (come_by A i)) in
+    filled-by A remaining i before after all new i.over [] 1 is open_
+    (record {
+      bytes = ap (λ h. h.bytes) same ∙ sym (append-nil i.buffer.bytes);
+      read = let e = ap (λ h. h.read) same in omega arith;
+      keep = ap (λ h. h.keep) same;
+      moved = ap (λ h. h.moved) same;
+      paid = paid;
+    }) more (
+      λ e. subst CanBeCounted (sym none) (is.countable e),
+      λ e. subst (λ l. ¬ CanBeCounted l) (sym none) (is.uncountable e),
+    )
+    failed
 
 -- what a read of some bytes leaves
-pub fill-gave : {S R : Type 0} (A : Ghosts S) (remaining : R → Option (List ℕ)) (i : Inside S)
-    (before after : Watched R) (all : List (List ℕ)) (new : Held) (n : ℕ) (held : List ℕ)
-    → IsSettled A i → i.progress.closed ≡ false
+pub fill-gave : {S R : Type 0} (A : Ghosts S) {remaining : R → Option (List ℕ)} (i : Inside S)
+    {before after : Watched R} (all : List (List ℕ)) {new : Held} {n : ℕ} (held : List ℕ) → IsSettled A i
+    → i.progress.closed ≡ false
     → (gave : Filled remaining i.buffer new before after n) → IsRollPaid new → held ≡ new.bytes
     → all ≡ i.pieces.items ++ drop (length held - n) held ∷ [] → i.progress.from ≤ usize_max
-    → HasFilled A remaining i before after all new (nat_lt (usize_max - i.progress.from) (length held)) gave.piece 0
-fill-gave A remaining i before after all new n held is open_ gave paid holds more fits =
-    let a = i.automaton in
-    let r = read-gave remaining before after (A.built a) (A.Reaches a No) i.start i.pieces.items all i.given.value
-    i.progress i.buffer new (less_ahead i.sums i.ahead) i.over n held is open_ gave paid holds more fits in
-    record { right = r.0; read = r.1 i.sums }
+    → HasFilled A remaining i (grown_to i all new (nat_lt (usize_max - i.progress.from) (length held))) before after
+    gave.piece 0
+fill-gave A {remaining} i {before} {after} all {new} {n} held is open_ gave paid holds more fits =
+    let grown : IsGrown i.buffer new gave.piece = record {
+      bytes = ap (λ h. h.bytes) gave.held;
+      read = ap (λ h. h.read) gave.held ∙ ap (λ k. i.buffer.read + k) (sym gave.count);
+      keep = ap (λ h. h.keep) gave.held;
+      moved = ap (λ h. h.moved) gave.held;
+      paid = paid;
+    } in
+    let last = piece-behind held i.buffer.bytes gave.piece n (holds ∙ grown.bytes) gave.count in
+    filled-by A remaining i before after all new (nat_lt (usize_max - i.progress.from) (length held)) gave.piece 0 is
+    open_ grown (more ∙ ap (λ l. i.pieces.items ++ l ∷ []) last)
+    (grown-test A i held is grown holds fits) gave.read

@@ -5,7 +5,7 @@ use Rattle.std.proofs.Math.Seq.{take-add}
 use Rattle.ac_input.specs.Occurrence.{Occurrence}
 use Rattle.ac_input.specs.Text.{replaced_from}
 use Rattle.ac_input.proofs.lemmas.BeginningLemmas.{slice_range-append}
-use Rattle.ac_automaton.specs.Replace.{LieInOrder}
+use Rattle.ac_automaton.specs.InMemory.Replace.{LieInOrder}
 
 -- the front of a text up to a place, and the part from there to a second place, is the front up to the second
 take-split : (x : List ℕ) (p q : ℕ) → p ≤ q → q ≤ length x → take p x ++ slice_range x p q ≡ take q x

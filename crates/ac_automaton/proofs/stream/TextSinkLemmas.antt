@@ -9,23 +9,23 @@ use Rattle.ac_input.specs.Laws.BeginningLaws.{IsBeginning}
 use Rattle.ac_input.specs.Text.{replaced_from}
 use Rattle.ac_input.specs.Work.{shortest}
 use Rattle.ac_automaton.specs.Automaton.{Built}
-use Rattle.ac_automaton.specs.Devices.Moved.{AllFit, HasGiven, HasMoved, HasTaken, Moved, but_last}
-use Rattle.ac_automaton.specs.Devices.Output.{Stopped}
-use Rattle.ac_automaton.specs.Devices.Watched.{IsOfWrite}
-use Rattle.ac_automaton.specs.Replace.{LieInOrder, matches_in}
+use Rattle.ac_automaton.specs.Stream.Devices.Moved.{AllFit, HasGiven, HasMoved, HasTaken, Moved, but_last}
+use Rattle.ac_automaton.specs.Stream.Devices.Output.{Stopped}
+use Rattle.ac_automaton.specs.Stream.Devices.Watched.{IsOfWrite}
+use Rattle.ac_automaton.specs.InMemory.Replace.{LieInOrder, matches_in}
 use Rattle.ac_automaton.specs.Stream.{IsFront, Occurrences, Picks, Sequence, items_of, place_of, room_of}
 use Rattle.ac_automaton.specs.Stream.SinkLaws.{IsPiecewise, SendsOn-then}
-use Rattle.ac_automaton.specs.Stream.StreamAnswer.{WritesStream, WroteToFailedWrite}
-use Rattle.ac_automaton.specs.Stream.StreamPump.{Handling, HasComeToCut, IsReadFault, IsSinkChain, Pumps, PumpedWhole, StoppedAtSink, StopsAtBytes, StopsAtItem, StopsFrom, bytes_between}
-use Rattle.ac_automaton.specs.Stream.StreamReplace.{IsBegun, replaced_in}
-use Rattle.ac_automaton.specs.Stream.StreamTexts.{SendsOn, StopsSend, Texts, replacing, sending, text_between}
+use Rattle.ac_automaton.specs.Stream.Answer.{WritesStream, WroteToFailedWrite}
+use Rattle.ac_automaton.specs.Stream.Pump.{Handling, HasComeToCut, IsReadFault, IsSinkChain, Pumps, PumpedWhole, StoppedAtSink, StopsAtBytes, StopsAtItem, StopsFrom, bytes_between}
+use Rattle.ac_automaton.specs.Stream.Replace.{IsBegun, replaced_in}
+use Rattle.ac_automaton.specs.Stream.Texts.{SendsOn, StopsSend, Texts, replacing, sending, text_between}
 use Rattle.ac_automaton.specs.declared.error.StreamError.{StreamError}
 use Rattle.ac_automaton.specs.declared.error.StreamError.TheVariants.{Config, Read, Write, WriteZero, Memory, Position}
-use Rattle.ac_automaton.specs.declared.watched.Watched.{Watched}
-use Rattle.ac_automaton.proofs.devices.MovedLemmas.{taken-then}
-use Rattle.ac_automaton.proofs.devices.OutputLemmas.{HasTaken-from_sent, HasTaken-from_stopped, IsOfWrite-then, Stopped-then}
+use Rattle.ac_automaton.specs.declared.stream.devices.watched.Watched.{Watched}
+use Rattle.ac_automaton.proofs.stream.devices.MovedLemmas.{taken-then}
+use Rattle.ac_automaton.proofs.stream.devices.OutputLemmas.{HasTaken-from_sent, HasTaken-from_stopped, IsOfWrite-then, Stopped-then}
 use Rattle.ac_automaton.proofs.lemmas.ReplaceLemmas.{matches-lie}
-use Rattle.ac_automaton.proofs.stream.SinkChainLemmas.{between-append, between-join}
+use Rattle.ac_automaton.proofs.stream.SinkChainLemmas.{between-append, between-join, begin_of}
 use Rattle.ac_automaton.proofs.stream.StreamCutLemmas.{matches-cut, matches-front}
 use Rattle.ac_automaton.proofs.stream.StreamTextLemmas.{drop-take_is, slice_range-take}
 
@@ -50,11 +50,6 @@ begins-shorter front gained lost is begins = (
 )
 
 -- ---- where items begin
-
--- where the first of some matches begins, or else where the text ends
-abbrev pub begin_of : List Occurrence → ℕ → ℕ
-begin_of [] to = to
-begin_of (o ∷ os) to = o.start
 
 -- the first match begins at a place or later, if all do
 pub begin-later : (q : Sequence) {place to : ℕ} (os : List Occurrence) → q ≡ Picks → All (λ o. place ≤ place_of q o) os

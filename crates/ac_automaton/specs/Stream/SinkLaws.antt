@@ -2,15 +2,15 @@
 use Rattle.std.specs.Prelude.{◌≡◌, ℕ, List, [], ◌++◌, Option, Ok, Result}
 use Rattle.std.proofs.Common.{refl, sym, ◌∙◌, subst, append_assoc}
 use Rattle.ac_input.specs.Occurrence.{Occurrence}
-use Rattle.ac_automaton.specs.Devices.Moved.{HasTaken}
-use Rattle.ac_automaton.specs.Devices.Output.{Sent}
-use Rattle.ac_automaton.specs.Devices.SendLaws.{Sent-none, Sent-then, taken-none, taken-then}
-use Rattle.ac_automaton.specs.Replace.{RepliesAt, Replacer}
-use Rattle.ac_automaton.specs.Stream.StreamReplaceWith.{CallsAt}
-use Rattle.ac_automaton.specs.Stream.StreamTexts.{SendsOn, Texts, replacing}
+use Rattle.ac_automaton.specs.Stream.Devices.Moved.{HasTaken}
+use Rattle.ac_automaton.specs.Stream.Devices.Output.{Sent}
+use Rattle.ac_automaton.specs.Stream.Devices.SendLaws.{Sent-none, Sent-then, taken-none, taken-then}
+use Rattle.ac_automaton.specs.InMemory.Replace.{RepliesAt, Replacer}
+use Rattle.ac_automaton.specs.Stream.ReplaceWith.{CallsAt}
+use Rattle.ac_automaton.specs.Stream.Texts.{SendsOn, Texts, replacing}
 use Rattle.ac_automaton.specs.declared.error.StreamError.{StreamError}
 use Rattle.ac_automaton.specs.declared.stream.replace_with.Calling.{Calling}
-use Rattle.ac_automaton.specs.declared.watched.Watched.{Watched}
+use Rattle.ac_automaton.specs.declared.stream.devices.watched.Watched.{Watched}
 
 -- what is made of pieces of a text, one after another, is what is made of the text
 pub record IsPiecewise (made : Texts) : Type 0 where

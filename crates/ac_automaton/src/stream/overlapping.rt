@@ -14,14 +14,14 @@
 //! and so does the first error.
 ghost use Rattle.std.specs.Prelude.{◌≡◌, false};
 ghost use Rattle.std.specs.Borrow.{sem};
-ghost use Rattle.ac_automaton.specs.Stream.StreamIter.{AnswersStreamListing, RestsIfRefused};
+ghost use Rattle.ac_automaton.specs.Stream.Iter.{AnswersStreamListing, RestsIfRefused};
 
 mod search;
 
 use crate::error::StreamError;
 use crate::search::Search;
 use crate::stream::StreamIter;
-use crate::watched::Watched;
+use crate::stream::devices::watched::Watched;
 pub(crate) use search::next_listed;
 pub use search::{ListPlace, Listed, ListingSearch};
 use std::alloc::Global;

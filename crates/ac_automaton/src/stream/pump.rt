@@ -7,8 +7,8 @@
 //! Nothing is tried again.
 ghost use Rattle.std.specs.Prelude.{◌≡◌, false, length};
 ghost use Rattle.ac_automaton.specs.Stream.{GoesOn, IsOnCourse, fresh_progress};
-ghost use Rattle.ac_automaton.specs.Stream.StreamPump.{PassesDecided, PassesNext, Pumps, PumpsMatches, PumpsOccurrences};
-ghost use Rattle.ac_automaton.specs.Stream.StreamReplace.{HasSearched, IsPlaced};
+ghost use Rattle.ac_automaton.specs.Stream.Pump.{PassesDecided, Pumps, PumpsMatches, PumpsOccurrences};
+ghost use Rattle.ac_automaton.specs.Stream.Replace.{HasSearched, IsPlaced};
 
 use super::overlapping::ListingSearch;
 use super::search::StreamSearch;
@@ -16,36 +16,10 @@ use super::sink::Sink;
 use super::{ItemSearch, StreamKinds};
 use crate::error::StreamError;
 use crate::search::Search;
-use crate::watched::Watched;
+use crate::stream::devices::watched::Watched;
 use ac_input::steps::Steps;
 use std::alloc::Global;
 use std::io::Read;
-
-/// Finds the next item of what was read, and passes it on with the text from a place to its start. Returns where it ends, or none if
-/// there is no further item.
-#[inline(always)]
-fn pass_next<S: ItemSearch, W, K: Sink<W>>(
-    stream: &mut S,
-    at: usize,
-    sink: &mut K,
-    writer: &mut Watched<W>,
-    steps: &mut Steps,
-) -> Result<Option<usize>, StreamError>
-    requires placed { IsPlaced (S.progress stream.old) at }
-    requires ready { K.handling.ready (length (S.progress stream.old).built.dictionary.patterns)
-        (sink.old, writer.old) }
-    ensures passes { PassesNext K.handling (S.progress stream.old) (S.progress stream.new) at
-        (sink.old, writer.old) (sink.new, writer.new) result }
-    ensures goes { GoesOn (S.progress stream.old) (S.progress stream.new) steps.old steps.new }
-{
-    let Some(item) = stream.next_held(steps) else {
-        return Ok(None);
-    };
-    let before = stream.between(at, item.start());
-    let matched = stream.between(item.start(), item.end());
-    sink.pass(writer, before, &item, matched)?;
-    Ok(Some(item.end()))
-}
 
 /// Passes on all that is decided, from a place up to the cut. Returns where the cut is.
 fn pass_decided<S: ItemSearch, W, K: Sink<W>>(
@@ -63,8 +37,11 @@ fn pass_decided<S: ItemSearch, W, K: Sink<W>>(
     ensures goes { GoesOn (S.progress stream.old) (S.progress stream.new) steps.old steps.new }
 {
     let mut passed = at;
-    while let Some(end) = pass_next(stream, passed, sink, writer, steps)? {
-        passed = end;
+    while let Some(item) = stream.next_held(steps) {
+        let before = stream.between(passed, item.start());
+        let matched = stream.between(item.start(), item.end());
+        sink.pass(writer, before, &item, matched)?;
+        passed = item.end();
     }
     let cut = stream.cut();
     sink.take(writer, stream.between(passed, cut))?;

@@ -5,16 +5,16 @@
 //!
 //! Nothing is tried again, and nothing is flushed. Both buffers are allocated before the first read, and no memory after that.
 ghost use Rattle.std.specs.Prelude.{◌≡◌, false, length, map};
-ghost use Rattle.ac_automaton.specs.Stream.StreamReplace.{AcceptsStream, CostsStream, ReplacesStream};
+ghost use Rattle.ac_automaton.specs.Stream.Replace.{AcceptsStream, CostsStream, ReplacesStream};
 
 use super::pump::pump_matches;
 use super::search::configured;
 use super::sink::Sink;
 use crate::error::StreamError;
-use crate::output::Output;
 use crate::search::Search;
 use crate::stream::StreamKinds;
-use crate::watched::Watched;
+use crate::stream::devices::output::Output;
+use crate::stream::devices::watched::Watched;
 use ac_input::search::Match;
 use ac_input::steps::Steps;
 use std::alloc::Global;
@@ -30,7 +30,7 @@ struct Replacements<'a, 'r> {
 impl<'a, 'r, W: Write> Sink<W> for Replacements<'a, 'r> {
     ghost use Rattle.std.specs.Prelude.{◌≡◌, length, map};
     ghost use Rattle.ac_automaton.specs.Stream.SinkLaws.{replacing-piecewise, sending-begins, sending-joins, sending-precedes};
-    ghost use Rattle.ac_automaton.specs.Stream.StreamTexts.{replacing, sending};
+    ghost use Rattle.ac_automaton.specs.Stream.Texts.{replacing, sending};
 
     ghost handling = { sending W.contents (λ k. k.output) (λ k. replacing (map (λ r. r.now) k.replacements.now))
         (λ patterns k. length k.replacements.now ≡ patterns) };

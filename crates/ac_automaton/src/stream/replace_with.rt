@@ -7,15 +7,15 @@
 //! As in [`replace`](super::replace), everything before the cut is written before the next read, nothing is tried again, and
 //! nothing is flushed. The one buffer is allocated before the first read, and no memory after that.
 ghost use Rattle.std.specs.Prelude.{◌≡◌, false, length};
-ghost use Rattle.ac_automaton.specs.Replace.{IsForMatches};
-ghost use Rattle.ac_automaton.specs.Stream.StreamReplaceWith.{ReplacesStreamWith};
+ghost use Rattle.ac_automaton.specs.InMemory.Replace.{IsForMatches};
+ghost use Rattle.ac_automaton.specs.Stream.ReplaceWith.{ReplacesStreamWith};
 
 use super::pump::pump_matches;
 use super::sink::Sink;
 use crate::error::StreamError;
 use crate::search::Search;
 use crate::stream::StreamKinds;
-use crate::watched::{Watched, write_whole};
+use crate::stream::devices::watched::{Watched, write_whole};
 use ac_input::search::Match;
 use ac_input::steps::Steps;
 use std::alloc::Global;
@@ -32,7 +32,7 @@ where
     F: FnMut(&Match, &[u8], &mut Watched<W>) -> Result<(), StreamError>,
 {
     ghost use Rattle.ac_automaton.specs.Stream.SinkLaws.{calling-begins, calling-joins, calling-precedes};
-    ghost use Rattle.ac_automaton.specs.Stream.StreamReplaceWith.{calling};
+    ghost use Rattle.ac_automaton.specs.Stream.ReplaceWith.{calling};
 
     ghost handling = { calling W.contents F.FnMut };
 

@@ -8,7 +8,7 @@ ghost use Rattle.std.specs.Prelude.{◌≡◌, ◌-◌, ◌<◌, None, Some, fal
 ghost use Rattle.std.specs.Borrow.{sem};
 ghost use Rattle.ac_literal.specs.Packed.{bytes_of};
 ghost use Rattle.ac_automaton.specs.Stream.{AreAllGiven, CanBeCounted, StreamCounts, cut_of, read_by, closed_by};
-ghost use Rattle.ac_automaton.specs.Stream.StreamReplacer.{FindsPart, AnswersReplacer, CanBeLent, IsReady, LooksForMatch, TakesPart, PushesText, ends_there, part_bytes, decided_to};
+ghost use Rattle.ac_automaton.specs.Stream.Replacer.{FindsPart, AnswersReplacer, CanBeLent, IsReady, LooksForMatch, TakesPart, PushesText, ends_there, part_bytes, decided_to};
 
 use super::StreamSearch;
 use crate::error::StreamError;
@@ -49,7 +49,7 @@ pub struct StreamReplacer<A: Search> {
 }
 
 impl<A: Search> Model for StreamReplacer<A> {
-    ghost use Rattle.ac_automaton.specs.Stream.StreamReplacer.{IsReplacing, ReplacerProgress};
+    ghost use Rattle.ac_automaton.specs.Stream.Replacer.{IsReplacing, ReplacerProgress};
 
     ghost Value = { ReplacerProgress };
 
@@ -244,7 +244,7 @@ impl<A: Search> StreamReplacer<A> {
 }
 
 impl<A: Search> StreamReplacer<A> {
-    ghost use Rattle.ac_automaton.specs.Stream.StreamReplacerNext.{EndsCounted, EndsGiving};
+    ghost use Rattle.ac_automaton.specs.Stream.ReplacerNext.{EndsCounted, EndsGiving};
 
     /// The next slice of the replaced text, as far as it is decided: bytes that are held, or the replacement of a match, which may be
     /// empty; what was read between two matches is handed out only if there is some. None means that all that is decided was handed

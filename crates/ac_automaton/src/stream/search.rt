@@ -17,9 +17,9 @@
 ghost use Rattle.std.specs.Prelude.{◌≡◌, ◌≢◌, ◌↔◌, ◌+◌, ◌-◌, ◌≤◌, ◌<◌, [], None, false, true, length, IfErr, IfOk, OnOk, IsTrue, drop};
 ghost use Rattle.ac_input.specs.declared.search.Anchored.TheVariants.{No};
 ghost use Rattle.ac_automaton.specs.Ahead.{IsPaid, StaysReadOnce};
-ghost use Rattle.ac_automaton.specs.Stream.StreamPush.{Pushes};
-ghost use Rattle.ac_automaton.specs.Stream.StreamSearch.{searched_anew, some_of};
-ghost use Rattle.ac_automaton.specs.Stream.StreamWalk.{IsAheadBy, MayWalk, WalksOn};
+ghost use Rattle.ac_automaton.specs.Stream.Push.{Pushes};
+ghost use Rattle.ac_automaton.specs.Stream.Search.{searched_anew, some_of};
+ghost use Rattle.ac_automaton.specs.Stream.Search.Walk.{IsAheadBy, MayWalk, WalksOn};
 ghost use Rattle.ac_input.specs.Work.{shortest};
 ghost use Rattle.ac_automaton.specs.Stream.{AnswersNew, CanBeCounted, IsOutOfMemory, closed_by, fresh_progress, may_wait, CanStream, CountsNothing, FindsHeld, GoesOn, IsConfigRefusal, IsOnCourse, IsRolled, IsSearched, ReadsMore, StreamCounts, StreamProgress, cut_of, read_by, room_of, Picks};
 ghost use Rattle.ac_automaton.specs.declared.stream.StreamKinds.TheVariants.{AnyKind};
@@ -28,12 +28,12 @@ mod decide;
 
 use crate::ahead::{Ahead, advance_to_match};
 use crate::automaton::Automaton;
-use crate::buffer::Buffer;
 use crate::error::{MatchError, StreamError};
-use crate::find::first_match;
+use crate::in_memory::find::first_match;
 use crate::search::Search;
+use crate::stream::devices::buffer::Buffer;
+use crate::stream::devices::watched::Watched;
 use crate::stream::{ItemSearch, StreamKinds};
-use crate::watched::Watched;
 use ac_input::history::{Count, Pieces};
 use ac_input::primitives::StateID;
 use ac_input::search::{Anchored, Match, MatchKind};
@@ -54,13 +54,6 @@ pub struct Progress {
     at: usize,
     last: usize,
     best: Option<Match>,
-}
-
-/// The new place of a search over the held bytes, and the match that it found.
-#[derive(Clone, Copy)]
-pub struct Searched {
-    progress: Progress,
-    found: Option<Match>,
 }
 
 /// A search of a stream whose pieces are pushed when they come. It owns its automaton, or borrows it as a reference.
@@ -106,7 +99,7 @@ impl<A: Search> Model for StreamSearch<A> {
     ghost use Rattle.std.specs.Prelude.{◌-◌, ◌≤◌, Some};
     ghost use Rattle.ac_automaton.specs.Ahead.{IsAhead, IsReadOnce, bytes_ahead, less_ahead};
     ghost use Rattle.ac_automaton.specs.Stream.{IsOnCourse};
-    ghost use Rattle.ac_automaton.specs.Stream.StreamSearch.{IsStreamSearch, progress_at};
+    ghost use Rattle.ac_automaton.specs.Stream.Search.{IsStreamSearch, progress_at};
 
     ghost view = { λ i. progress_at (A.built i.automaton) i.pieces.items i.given.value
         i.progress i.buffer i.sums };
@@ -155,21 +148,15 @@ fn may_wait<A: Automaton>(automaton: &A) -> bool
     }
 }
 
-/// The match that is decided. The search begins anew at its end.
-fn decided(start: StateID, progress: &Progress, found: Match) -> Searched
-    ensures { result ≡ searched_anew start progress.now found }
+/// A match is decided: the search begins anew at its end.
+#[inline]
+fn begin_anew(start: StateID, progress: &mut Progress, found: &Match)
+    ensures { progress.new ≡ (searched_anew start progress.old found.now).progress }
 {
-    Searched {
-        progress: Progress {
-            sid: start,
-            from: progress.from,
-            at: found.end(),
-            last: found.end(),
-            best: None,
-            closed: progress.closed,
-        },
-        found: Some(found),
-    }
+    progress.sid = start;
+    progress.at = found.end();
+    progress.last = found.end();
+    progress.best = None;
 }
 
 /// Searches the held bytes from where a search stands, up to the next match that is decided or to the last byte. After such a match
@@ -177,84 +164,66 @@ fn decided(start: StateID, progress: &Progress, found: Match) -> Searched
 pub(crate) fn search<A: Automaton>(
     automaton: &A,
     start: StateID,
-    progress: &Progress,
+    progress: &mut Progress,
     held: &[u8],
     ahead: &mut Ahead,
     steps: &mut Steps,
-) -> Searched
-    requires walk { MayWalk A.Automaton automaton.now start progress.now held.now }
-    requires ahead { IsAheadBy A.Automaton automaton.now start held.now progress.now ahead.old }
-    ensures walk { IsPaid ahead.old ahead.new steps.new (λ paid. WalksOn A.Automaton automaton.now start progress.now held.now result
-        steps.old paid) }
-    ensures ahead { IsAheadBy A.Automaton automaton.now start held.now result.progress ahead.new }
+) -> Option<Match>
+    requires walk { MayWalk A.Automaton automaton.now start progress.old held.now }
+    requires ahead { IsAheadBy A.Automaton automaton.now start held.now progress.old ahead.old }
+    ensures walk { IsPaid ahead.old ahead.new steps.new (λ paid. WalksOn A.Automaton automaton.now start progress.old held.now
+        (record { progress = progress.new; found = result }) steps.old paid) }
+    ensures ahead { IsAheadBy A.Automaton automaton.now start held.now progress.new ahead.new }
     ensures once { StaysReadOnce held.now ahead.old ahead.new }
 {
-    match progress.best {
-        Some(best) => decide(automaton, start, progress, best, held, steps),
-        None => search_first(automaton, start, progress, held, ahead, steps),
+    if let Some(best) = progress.best {
+        // Bound to a name, as below: then what is returned elsewhere stays in registers.
+        let decided = decide(automaton, start, progress, best, held, steps);
+        return decided;
     }
+    search_first(automaton, start, progress, held, ahead, steps)
 }
 
 /// The same, where no match has been met since the search began anew. Under standard the first one that is met is decided.
 fn search_first<A: Automaton>(
     automaton: &A,
     start: StateID,
-    progress: &Progress,
+    progress: &mut Progress,
     held: &[u8],
     ahead: &mut Ahead,
     steps: &mut Steps,
-) -> Searched
-    requires none { progress.now.best ≡ None }
-    requires walk { MayWalk A.Automaton automaton.now start progress.now held.now }
-    requires ahead { IsAheadBy A.Automaton automaton.now start held.now progress.now ahead.old }
-    ensures walk { IsPaid ahead.old ahead.new steps.new (λ paid. WalksOn A.Automaton automaton.now start progress.now held.now result
-        steps.old paid) }
-    ensures ahead { IsAheadBy A.Automaton automaton.now start held.now result.progress ahead.new }
+) -> Option<Match>
+    requires none { progress.old.best ≡ None }
+    requires walk { MayWalk A.Automaton automaton.now start progress.old held.now }
+    requires ahead { IsAheadBy A.Automaton automaton.now start held.now progress.old ahead.old }
+    ensures walk { IsPaid ahead.old ahead.new steps.new (λ paid. WalksOn A.Automaton automaton.now start progress.old held.now
+        (record { progress = progress.new; found = result }) steps.old paid) }
+    ensures ahead { IsAheadBy A.Automaton automaton.now start held.now progress.new ahead.new }
     ensures once { StaysReadOnce held.now ahead.old ahead.new }
 {
     let from = progress.at - progress.from;
     let anew = Some(start);
     let stop = advance_to_match(automaton, &anew, progress.sid, held, from, ahead, steps);
-    let at = progress.at + stop.taken;
+    progress.at += stop.taken;
     if automaton.is_match(stop.sid) {
-        let found = first_match(automaton, stop.sid, at);
+        let found = first_match(automaton, stop.sid, progress.at);
         if may_wait(automaton) {
-            let there = Progress {
-                sid: stop.sid,
-                from: progress.from,
-                at,
-                last: progress.last,
-                best: Some(found),
-                closed: progress.closed,
-            };
-            return decide(automaton, start, &there, found, held, steps);
+            progress.sid = stop.sid;
+            progress.best = Some(found);
+            let decided = decide(automaton, start, progress, found, held, steps);
+            return decided;
         }
-        return decided(start, progress, found);
+        progress.sid = start;
+        progress.last = found.end();
+        return Some(found);
     }
     if automaton.is_start(stop.sid) {
-        return Searched {
-            progress: Progress {
-                sid: start,
-                from: progress.from,
-                at,
-                last: at,
-                best: None,
-                closed: progress.closed,
-            },
-            found: None,
-        };
+        progress.sid = start;
+        progress.last = progress.at;
+        return None;
     }
-    Searched {
-        progress: Progress {
-            sid: stop.sid,
-            from: progress.from,
-            at,
-            last: progress.last,
-            best: None,
-            closed: progress.closed,
-        },
-        found: None,
-    }
+    progress.sid = stop.sid;
+    None
 }
 
 /// How many items were returned after this one, or none.
@@ -385,18 +354,17 @@ impl<A: Search> StreamSearch<A> {
             return None;
         }
         let mut taken = Steps::new();
-        let searched = self.automaton.search_stream(
+        let found = self.automaton.search_stream(
             self.start,
-            &self.progress,
+            &mut self.progress,
             self.buffer.held(),
             &mut self.ahead,
             &mut taken,
         );
         steps.add(&taken);
         self.sums.add(&taken);
-        self.given = given_then(&self.given, &searched.found);
-        self.progress = searched.progress;
-        searched.found
+        self.given = given_then(&self.given, &found);
+        found
     }
 
     /// How many patterns the automaton has.
@@ -558,6 +526,7 @@ impl<A: Search> ItemSearch for StreamSearch<A> {
 
     ghost progress = { λ s. s };
 
+    #[inline(always)]
     fn next_held(&mut self, steps: &mut Steps) -> Option<Match> {
         self.next_counted(steps)
     }

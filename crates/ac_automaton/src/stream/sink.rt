@@ -5,7 +5,7 @@
 ghost use Rattle.std.specs.Prelude.{OnOk};
 
 use crate::error::StreamError;
-use crate::watched::Watched;
+use crate::stream::devices::watched::Watched;
 use ac_input::search::Match;
 
 /// It is passed the items of a stream, one after another, with the text between them, and makes of them what a writer takes.
@@ -15,8 +15,8 @@ use ac_input::search::Match;
 pub trait Sink<W> {
     ghost use Rattle.std.specs.Prelude.{ℕ, ◌<◌, List, [], ◌++◌};
     ghost use Rattle.ac_input.specs.Occurrence.{Occurrence};
-    ghost use Rattle.ac_automaton.specs.Stream.StreamPump.{AnswersPass, AnswersTake, Handling, StaysReady};
-    ghost use Rattle.ac_automaton.specs.declared.watched.Watched.{Watched};
+    ghost use Rattle.ac_automaton.specs.Stream.Pump.{AnswersPass, AnswersTake, Handling, StaysReady};
+    ghost use Rattle.ac_automaton.specs.declared.stream.devices.watched.Watched.{Watched};
 
     /// What it does with the writer.
     ghost handling: { Handling (Self × Watched W) };

@@ -12,7 +12,7 @@ use Rattle.std.proofs.lemmas.List.{drop-drop}
 use Rattle.ac_input.specs.Computed.{is_after, listing_after}
 use Rattle.ac_input.specs.Input.{Asked}
 use Rattle.ac_automaton.specs.Automaton.{listing_in, searched}
-use Rattle.ac_automaton.specs.Overlapping.OverlappingIter.{Run, rest_of}
+use Rattle.ac_automaton.specs.InMemory.Overlapping.OverlappingIter.{Run, rest_of}
 use Rattle.aho_corasick.specs.AhoCorasick.{as_built, patterns_of}
 use Rattle.aho_corasick.specs.declared.ahocorasick.AhoCorasick.{AhoCorasick}
 use Rattle.ac_c.specs.declared.found.Found.{Found}

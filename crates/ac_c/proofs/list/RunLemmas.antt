@@ -3,7 +3,7 @@ use Rattle.std.proofs.Common.{◌≡◌, ℕ, ◌+◌, ◌<◌, List, length, Op
 use Rattle.std.proofs.lemmas.Option.{slice_get_read}
 use Rattle.ac_input.specs.declared.steps.Steps.{Steps}
 use Rattle.ac_input.specs.Occurrence.{Occurrence}
-use Rattle.ac_automaton.specs.Overlapping.OverlappingIter.{IsWithinOneWalk, Run}
+use Rattle.ac_automaton.specs.InMemory.Overlapping.OverlappingIter.{IsWithinOneWalk, Run}
 use Rattle.ac_c.specs.declared.found.Found.{Found}
 use Rattle.ac_c.specs.declared.list.Place.{Place}
 use Rattle.ac_c.specs.Found.{shown}

@@ -9,8 +9,8 @@ use Rattle.ac_input.specs.Input.{whole_of}
 use Rattle.ac_input.specs.Occurrence.{Occurrence}
 use Rattle.ac_input.specs.Text.{replaced_from}
 use Rattle.ac_input.proofs.lemmas.TextLemmas.{replaced-pick}
-use Rattle.ac_automaton.specs.Iter.{Walk}
-use Rattle.ac_automaton.specs.Replace.{LieInOrder, matches_in}
+use Rattle.ac_automaton.specs.InMemory.Iter.{Walk}
+use Rattle.ac_automaton.specs.InMemory.Replace.{LieInOrder, matches_in}
 use Rattle.ac_automaton.proofs.lemmas.ReplaceLemmas.{matches-lie}
 use Rattle.aho_corasick.specs.AhoCorasick.{as_built, pattern_count}
 use Rattle.aho_corasick.specs.declared.ahocorasick.AhoCorasick.{AhoCorasick}

@@ -7,8 +7,8 @@ use Rattle.ac_input.specs.Occurrence.{Search, Occurrence, starting_at}
 use Rattle.ac_input.specs.declared.steps.Steps.{Steps}
 use Rattle.ac_input.proofs.lemmas.WalkLemmas.{walk_from-none, walk_from-some}
 use Rattle.ac_automaton.specs.Automaton.{Built, kind_asked, searched}
-use Rattle.ac_automaton.specs.Iter.{CostsPick, GivesPick, IsOnItsWay, IsPickCost, IsPickWork, IsPlaceIn, PickCounts, Walk, left_of, walk_kind}
-use Rattle.ac_automaton.proofs.iter.IterLemmas.{pick-yields}
+use Rattle.ac_automaton.specs.InMemory.Iter.{CostsPick, GivesPick, IsOnItsWay, IsPickCost, IsPickWork, IsPlaceIn, PickCounts, Walk, left_of, walk_kind}
+use Rattle.ac_automaton.proofs.in_memory.iter.IterLemmas.{pick-yields}
 use Rattle.aho_corasick.specs.AhoCorasick.{as_built}
 use Rattle.aho_corasick.specs.declared.ahocorasick.AhoCorasick.{AhoCorasick}
 use Rattle.ac_c.specs.declared.found.Found.{Found}

@@ -4,7 +4,7 @@ use Rattle.ac_input.specs.declared.steps.Steps.{Steps}
 use Rattle.ac_input.specs.Input.{Asked}
 use Rattle.ac_input.specs.Occurrence.{Occurrence}
 use Rattle.ac_automaton.specs.Automaton.{Built}
-use Rattle.ac_automaton.specs.Iter.{CountsWalk, GivesPick, IsOnItsWay, Walk, WalkCounts, fresh_walk, walk_after_pick}
+use Rattle.ac_automaton.specs.InMemory.Iter.{CountsWalk, GivesPick, IsOnItsWay, Walk, WalkCounts, fresh_walk, walk_after_pick}
 use Rattle.ac_c.specs.Walking.{IsAccounted, IsPaidWalk, WalksTo, WalksToEnd}
 
 -- the next match of a walk changes neither its automaton nor its input

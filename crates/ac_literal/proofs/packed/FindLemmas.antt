@@ -64,24 +64,6 @@ found-place kind None next from least = λ o h. let later = starts-later kind No
     omega arith
 found-place kind (Some b) next from least = best-first kind (Some b) refl from least
 
--- a match that is found is the best
-pub found-best : (kind : MatchKind) (s : Search) (to : ℕ) (r : Option Occurrence) → is_some r ≡ true
-    → IsFoundBefore (search_kind kind) s to r → IsBest (search_kind kind) s r
-found-best kind s to None some found = cc
-found-best kind s to (Some b) some found = found
-
--- where no match is found, nothing starts before `to`
-pub found-none : (kind : MatchKind) {s : Search} {to : ℕ} (r : Option Occurrence) → is_some r ≢ true
-    → IsFoundBefore (search_kind kind) s to r → NoneBefore s to
-found-none kind None none found = found
-found-none kind (Some b) none found = absurd (none refl)
-
--- a match that is found before one place is found before any other
-pub found-sooner : (kind : MatchKind) (s : Search) (at to : ℕ) (r : Option Occurrence) → is_some r ≡ true
-    → IsFoundBefore (search_kind kind) s at r → IsFoundBefore (search_kind kind) s to r
-found-sooner kind s at to None some found = cc
-found-sooner kind s at to (Some b) some found = found
-
 -- a part is its first byte, followed by the rest
 slice_range-first : (xs : List ℕ) {a b : ℕ} → a < b → a < length xs
     → slice_range xs a b ≡ get_or xs a 0 ∷ slice_range xs (a + 1) b

@@ -10,7 +10,7 @@ use Rattle.ac_input.proofs.lemmas.OrderLemmas.{preference-itself}
 use Rattle.ac_literal.specs.declared.packed.rabinkarp.Entry.{Entry}
 use Rattle.ac_literal.specs.declared.packed.rabinkarp.RabinKarp.{RabinKarp}
 use Rattle.ac_literal.specs.Packed.{search_kind, part_search}
-use Rattle.ac_literal.specs.Packed.RabinKarp.{hash_of, bucket_of, lying, entry_at, IsLink, AreEntries, IsTable, IsSameTable}
+use Rattle.ac_literal.specs.Packed.RabinKarp.{hash_of, bucket_of, lying, entry_at, IsLink, AreEntries, IsTable}
 use Rattle.ac_literal.proofs.packed.TextLemmas.{lies-bytes, starts-lying}
 
 -- The search of a bucket at a place. The link is still to be followed, and no entry after it has a pattern that lies at
@@ -219,19 +219,6 @@ module _ (patterns : List (List ℕ)) (hash_len : ℕ) (order heads : List ℕ) 
         ];
         head = λ bucket h. rw count (head-more bucket h);
       }
-
--- a copy of a table is a table of the same patterns
-pub IsTable-same : {patterns : List (List ℕ)} {table copy : RabinKarp} → IsSameTable table copy → IsTable patterns table
-    → IsTable patterns copy
-IsTable-same same is = record {
-  some = rw same.hash_len is.some;
-  short = λ number h. rw same.hash_len (is.short number h);
-  power = rw (same.hash_2pow, same.hash_len) is.power;
-  order = is.order;
-  ordered = rw same.kind is.ordered;
-  count = rw same.entries is.count;
-  entries = rw (same.hash_len, same.heads, same.entries) is.entries;
-}
 
 -- the table with no entry yet
 pub AreEntries-none : {patterns : List (List ℕ)} {hash_len : ℕ} {order : List ℕ}

@@ -39,15 +39,6 @@ keeps-near keeps near = record {
   fourth = omega (arith, keeps.fourth.offset, near.fourth);
 }
 
--- offsets below one length are below a greater one
-pub near-longer : {t : Teddy} {len more : ℕ} → len ≤ more → LooksBefore len t → LooksBefore more t
-near-longer le near = record {
-  first = omega (arith, near.first);
-  second = omega (arith, near.second);
-  third = omega (arith, near.third);
-  fourth = omega (arith, near.fourth);
-}
-
 -- one more pattern is in a bucket
 pub has-more : (patterns : List (List ℕ)) {count bucket : ℕ} {old new : Teddy}
     → ((number : ℕ) → number < count → (bucket : ℕ) × HasPattern old (get_or patterns number []) bucket)

@@ -32,6 +32,12 @@ prefers_earlier LeftmostFirst a o starts ends = let e = nat_cmp_is a.start o.sta
 prefers_earlier LeftmostLongest a o starts ends = let e = nat_cmp_is a.start o.start Less starts in
     less-not_greater (rw (← e))
 
+-- the match that is made of a needle's place
+pub made-there : {number start : ℕ} {text needle : List ℕ} {o : Occurrence}
+    → o ≡ record { pattern = number; start = start; end = start + length text } → number ≡ 0 → text ≡ needle
+    → record { pattern = 0; start = start; end = start + length needle } ≡ o
+made-there is first same = cc
+
 module _ (m : Dictionary) (needle : List ℕ) (haystack : List ℕ) (span : Span) (part : List ℕ)
     (ordered : span.start ≤ span.end) (inside : span.end ≤ length haystack)
     (is : part ≡ slice_range haystack span.start span.end) (memmem : IsMemmem m needle) where

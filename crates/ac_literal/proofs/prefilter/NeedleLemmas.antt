@@ -103,19 +103,6 @@ three-four {a} {b} {c} byte {f} are other =
     differing : (a ≢ byte) × (b ≢ byte) × (c ≢ byte)
     differing = grind (arith, nat_tests)
 
--- a test that four bytes pass still has four with one more byte
-pub four-more : (f : ℕ → Bool) (added : ℕ) → HasFour f → HasFour (with_byte f added)
-four-more f added four =
-    let p = four.pass in
-    record {
-      a = four.a;
-      b = four.b;
-      c = four.c;
-      d = four.d;
-      apart = four.apart;
-      pass = (with-kept f added p.0, with-kept f added p.1, with-kept f added p.2, with-kept f added p.3);
-    }
-
 -- three places don't hold four different bytes
 pub four-in_three : (bytes : List ℕ) {f : ℕ → Bool} → length bytes ≤ 3 → HasFour f
     → ((byte : ℕ) → IsTrue (f byte) → Contains bytes byte) → ⊥

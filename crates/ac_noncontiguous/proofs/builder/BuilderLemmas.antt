@@ -9,11 +9,8 @@ use Rattle.ac_input.specs.Limits.{IsWithinLimits}
 use Rattle.ac_literal.specs.declared.openings.Openings.{Openings}
 use Rattle.ac_literal.specs.Openings.{AreOpenings, OpenAll}
 use Rattle.ac_literal.specs.Prefilter.{IsDemanded, IsAdmissible, IsPrefilterOf, IsWayOf}
-use Rattle.ac_noncontiguous.specs.Builder.{AreCompiled, IsBuiltBy, IsHeld}
+use Rattle.ac_noncontiguous.specs.Builder.{AreCompiled, IsHeld}
 use Rattle.ac_noncontiguous.specs.Nfa.{AreParts}
-use Rattle.ac_noncontiguous.specs.Nfa.ReadCalls.{IsMadeOf}
-use Rattle.ac_noncontiguous.specs.Nfa.Reads.{built_as}
-use Rattle.ac_noncontiguous.specs.declared.nfa.NFA.{NFA}
 use Rattle.ac_noncontiguous.specs.declared.nfa.tables.Tables.{Tables}
 
 -- two facts about a result give a third
@@ -21,15 +18,6 @@ pub if_ok-both : {T E : Type 0} (r : Result T E) {P Q R : T → Type 0} → IfOk
     → ((t : T) → P t → Q t → R t) → IfOk r R
 if_ok-both (Ok t) p q f = f t p q
 if_ok-both (Err e) p q f = tt
-
--- no prefilter is held where none is wanted
-pub none-held : {m : Dictionary} {wanted : Bool} → wanted ≡ false → IsHeld wanted m None
-none-held off =
-    record {
-      off = λ _. refl;
-      demanded = λ on. absurd (let e : true ≡ false = sym on ∙ off in cc);
-      made = λ f is. absurd (let e : None ≡ Some f = is in cc);
-    }
 
 -- where a prefilter is wanted, the one that is held is that of the prefilter's build
 pub some-held : {m b : Dictionary} {wanted : Bool} (r : Result (Option Filter) AllocError) → b ≡ m → wanted ≡ true
@@ -64,17 +52,6 @@ parts-of {tables} {held} same compiled within is =
       held = λ f holds. (is.made f holds).2;
       paired = compiled.2;
     })
-
--- the automaton is built by the settings
-pub built-by : {wanted : Bool} {m from : Dictionary} {tables : Tables} {held : Option Filter} {nfa : NFA} → from ≡ m
-    → IsMadeOf from tables held nfa → IsHeld wanted m held → IsWithinLimits m → IsBuiltBy wanted m (built_as nfa)
-built-by {wanted} {m} same made is within =
-    record {
-      dictionary = made.dictionary ∙ same;
-      looks = refl;
-      prefilter = subst (λ o. IsHeld wanted m o) (sym made.prefilter) is;
-      within = within;
-    }
 
 -- the openings of patterns are those of every dictionary of these patterns, whatever its kind
 pub opened-kind : (patterns : List (List ℕ)) (pairing : List ℕ) (kind : MatchKind) (openings : Option Openings)

@@ -1,7 +1,15 @@
 -- The numbers of the states of the automaton.
-use Rattle.std.proofs.Common.{◌≡◌, ◌≢◌, ℕ, ◌+◌, ◌<◌, ◌≤◌, List, length, sym, ap, subst, ◌∙◌, ⊎_elim, arith, slice_index, slice_set, get_or-set_same, get_or-set_other}
+use Rattle.std.proofs.Common.{◌≡◌, ◌≢◌, ℕ, ◌+◌, ◌<◌, ◌≤◌, List, length, get_or, sym, ap, subst, ◌∙◌, ⊎_elim, arith, slice_index, slice_set, get_or-set_same, get_or-set_other}
 use Rattle.std.proofs.lemmas.Bool.{cases_eq}
-use Rattle.ac_noncontiguous.specs.Compiler.Numbering.{AreFirstNumbers}
+use Rattle.ac_noncontiguous.specs.declared.compiler.numbering.Numbering.{Numbering}
+use Rattle.ac_noncontiguous.specs.Compiler.Numbering.{AreFirstNumbers, IsNumbering}
+use Rattle.ac_noncontiguous.proofs.lemmas.IndexLemmas.{read-there}
+
+-- the number of a trie state, as it is read
+pub number-read : (numbering : Numbering) {states id at x : ℕ} → IsNumbering states numbering → id < states → at ≡ id
+    → x ≡ get_or numbering.of.items at x → x ≡ slice_index numbering.of.items id
+number-read numbering n within at read =
+    read-there numbering.of.items (omega (arith, within, n.numbers.counted)) at read
 
 -- past the last state no numbers are needed
 pub first-none : {at of : List ℕ} {from : ℕ} → length at ≤ from → AreFirstNumbers at from of

@@ -1,11 +1,12 @@
 -- The states of a trie in order of their depth.
-use Rattle.std.proofs.Common.{◌≡◌, ◌≢◌, ◌⊎◌, ℕ, ◌+◌, ◌<◌, ◌≤◌, List, [], ◌∷◌, ◌++◌, length, get_or, sym, ap, subst, ◌∙◌, inl, inr, ⊎_elim, arith, slice_index, slice_index_or, replicate, slice_set, length-append, length-set, get_or-set_same, get_or-set_other}
+use Rattle.std.proofs.Common.{◌≡◌, ◌≢◌, ◌⊎◌, ℕ, ◌+◌, ◌<◌, ◌≤◌, List, [], ◌∷◌, ◌++◌, length, get_or, sym, ap, subst, ◌∙◌, inl, inr, ⊎_elim, arith, slice_index, slice_index_or, replicate, slice_set, length-append, length-set}
 use Rattle.std.specs.List.{Contains}
 use Rattle.std.proofs.lemmas.Bool.{cases_lt, cases_eq}
 use Rattle.std.proofs.lemmas.List.{get_or_append_left, get_or-append-add, get_or_read, length-replicate, get_or-replicate}
 use Rattle.ac_noncontiguous.specs.declared.trie.State.{State}
 use Rattle.ac_noncontiguous.specs.Trie.Tree.{IsTree, depth, state_at, no_state}
 use Rattle.ac_noncontiguous.specs.Links.Order.{IsNextOf, AreLevels, ComesBefore, AreInOrder, IsBreadthFirst}
+use Rattle.ac_noncontiguous.proofs.lemmas.IndexLemmas.{set-read}
 use Rattle.ac_noncontiguous.proofs.trie.LinkedLemmas.{depth-le}
 
 -- past the last state no level has a state
@@ -40,41 +41,26 @@ levels-more {states} {from} {d} {at} {first} {next} within deep d_in read l =
     record {
       lens = (length-set first d from ∙ l.lens.0, length-set next from at ∙ l.lens.1);
       firsts = λ e e_in.
-          ⊎_elim
-          (λ (same : e ≡ d).
-          let here : slice_index (slice_set first d from) e ≡ from = ap (slice_index (slice_set first d from)) same
-          ∙ get_or-set_same first d from 0 (omega (arith, l.lens.0)) in
-          subst (IsNextOf states e from) (sym here)
-          (record { found = λ _. (omega arith, sym (same ∙ deep)); least = λ i past lt level. past }))
-          (λ (ne : e ≢ d).
-          let there : slice_index (slice_set first d from) e ≡ slice_index first e =
-          get_or-set_other first d e from 0 ne in
+          set-read (IsNextOf states e from) first from (omega (arith, l.lens.0))
+          (λ same. record { found = λ _. (omega arith, sym (same ∙ deep)); least = λ i past lt level. past })
+          (λ ne.
           let h = l.firsts e e_in in
-          subst (IsNextOf states e from) (sym there)
-          (record {
+          record {
             found = λ lt. (omega (arith, (h.found lt).0), (h.found lt).1);
             least = λ i past lt level.
                 ⊎_elim
                 (λ (is_from : i ≡ from). absurd (ne (sym level ∙ (ap (depth states) is_from ∙ sym deep))))
                 (λ (later : i ≢ from). h.least i (omega arith) lt level)
                 (cases_eq i from);
-          }))
-          (cases_eq e d);
+          });
       nexts = λ i past i_in.
-          ⊎_elim
-          (λ (same : i ≡ from).
-          let here : slice_index (slice_set next from at) i
-          ≡ slice_index first d = ap (slice_index (slice_set next from at)) same
-          ∙ (get_or-set_same next from at 0 (omega (arith, l.lens.1)) ∙ read) in
+          set-read (IsNextOf states (depth states i) (i + 1)) next at (omega (arith, l.lens.1))
+          (λ same.
           let level : d ≡ depth states i = deep ∙ ap (depth states) (sym same) in
-          subst (IsNextOf states (depth states i) (i + 1)) (sym here)
+          subst (IsNextOf states (depth states i) (i + 1)) (sym read)
           (subst (λ e. IsNextOf states e (i + 1) (slice_index first d)) level
           (subst (λ f. IsNextOf states d (f + 1) (slice_index first d)) (sym same) (l.firsts d d_in))))
-          (λ (ne : i ≢ from).
-          let there : slice_index (slice_set next from at) i ≡ slice_index next i =
-          get_or-set_other next from i at 0 ne in
-          subst (IsNextOf states (depth states i) (i + 1)) (sym there) (l.nexts i (omega arith) i_in))
-          (cases_eq i from);
+          (λ ne. l.nexts i (omega arith) i_in);
     }
 
 -- ---- the order
@@ -99,16 +85,6 @@ index-kept xs x k within = get_or_append_left xs (x ∷ []) 0 k within
 pub index-last : (xs : List ℕ) {x k : ℕ} → k ≡ length xs → slice_index (xs ++ x ∷ []) k ≡ x
 index-last xs {x} {k} last = let e : length xs + 0 ≡ k = omega arith in
     subst (λ n. get_or (xs ++ x ∷ []) n 0 ≡ x) e (get_or-append-add xs (x ∷ []) 0 0)
-
--- no state is shallower than the start
-pub order-none : (states : List State) → AreInOrder states 0 0 []
-order-none states =
-    record {
-      all = λ i within passed. absurd
-          (⊎_elim (λ less. omega arith) (λ (same : (depth states i ≡ 0) × (i < 0)). omega (arith, same.1)) passed);
-      within = λ k lt. absurd (omega arith);
-      rising = λ j k lt within. absurd (omega arith);
-    }
 
 -- the next state of the depth comes next
 pub order-more : {states : List State} {d from at : ℕ} {order : List ℕ} → IsNextOf states d from at → at < length states

@@ -2,7 +2,7 @@
 use Rattle.std.proofs.Common.{◌≡◌, ℕ, ◌<◌, List, [], ◌∷◌, ◌++◌, length, ap₂, subst, Option}
 use Rattle.ac_input.specs.Dictionary.{Dictionary, BeginsEntered}
 use Rattle.ac_input.specs.Laws.LiveLaws.{canonical}
-use Rattle.ac_input.proofs.lemmas.AlikeLemmas.{begins-same, canonical-last, canonical-text, canonical-twice}
+use Rattle.ac_input.proofs.lemmas.AlikeLemmas.{begins-same, canonical-last, canonical-twice}
 use Rattle.ac_input.proofs.lemmas.SameLemmas.{same_text-back}
 use Rattle.ac_noncontiguous.specs.declared.trie.State.{State}
 use Rattle.ac_noncontiguous.specs.Trie.Tree.{parent, byte, text}

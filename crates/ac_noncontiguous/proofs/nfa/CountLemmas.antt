@@ -10,7 +10,7 @@ use Rattle.ac_input.specs.Dictionary.{Dictionary, IsEntered}
 use Rattle.ac_input.specs.Laws.LiveLaws.{canonical}
 use Rattle.ac_input.specs.Limits.{with_pattern, canonical_text, IsPrefix, HasStates}
 use Rattle.ac_noncontiguous.specs.declared.trie.State.{State}
-use Rattle.ac_noncontiguous.specs.Trie.Tree.{IsTree, parent, byte, depth, text}
+use Rattle.ac_noncontiguous.specs.Trie.Tree.{IsTree, parent, depth, text}
 use Rattle.ac_noncontiguous.specs.Trie.Entering.{IsWalked, HasNoChild}
 use Rattle.ac_noncontiguous.specs.Standing.{HasEntered}
 use Rattle.ac_noncontiguous.proofs.trie.TextLemmas.{text-one, text-above, text-child, text-extends, length-text, push-same, deep-child, child-deep}

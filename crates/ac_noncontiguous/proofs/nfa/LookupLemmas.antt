@@ -1,7 +1,6 @@
 -- The look-ups in the tables: halving a range of transitions, and reading a row.
-use Rattle.std.proofs.Common.{◌≡◌, ◌≢◌, ℕ, zero, suc, ◌+◌, ◌-◌, ◌<◌, ◌≤◌, List, length, get_or, inr, ⊎_elim, refl, sym, ap, subst, ◌∙◌, arith}
+use Rattle.std.proofs.Common.{◌≡◌, ◌≢◌, ℕ, zero, suc, ◌+◌, ◌-◌, ◌<◌, ◌≤◌, List, length, get_or, ⊎_elim, refl, sym, ap, subst, ◌∙◌, arith}
 use Rattle.std.proofs.Math.Logic.{∥∥₁_elim}
-use Rattle.std.proofs.lemmas.Bool.{cases_lt}
 use Rattle.std.proofs.lemmas.Option.{slice_get_read, get_or_from_slice_get}
 use Rattle.std.specs.Prelude.{slice_index}
 use Rattle.std.specs.Coded.{le_prop}
@@ -24,62 +23,6 @@ pub record IsHalved (transitions : List Transition) (from end byte low high : �
   pub within : (from ≤ low) × (low ≤ high) × (high ≤ end)
   pub less : (k : ℕ) → from ≤ k → k < low → byte_at transitions k < byte
   pub greater : (k : ℕ) → high ≤ k → k < end → byte < byte_at transitions k
-
--- at first the whole range is left
-pub halved-none : {transitions : List Transition} {from end byte : ℕ} → from ≤ end
-    → IsHalved transitions from end byte from end
-halved-none le =
-    record {
-      within = (omega arith, le, omega arith);
-      less = λ k a b. absurd (omega arith);
-      greater = λ k a b. absurd (omega arith);
-    }
-
--- the byte in the middle is less, so the range after it is left
-pub halved-less : {transitions : List Transition} {from end byte low high middle : ℕ} → AreRisingIn transitions from end
-    → IsHalved transitions from end byte low high → low ≤ middle → middle < high → byte_at transitions middle < byte
-    → IsHalved transitions from end byte (middle + 1) high
-halved-less {middle} rising h from_low below less =
-    let w = h.within in
-    record {
-      within = (omega arith, omega arith, w.2);
-      less = λ k a b.
-          ⊎_elim
-          (λ (before : k < middle). let r = rising k middle a before (omega arith) in omega arith)
-          (λ (not_before : middle ≤ k). let same : k ≡ middle = omega arith in rw same less)
-          (cases_lt k middle);
-      greater = h.greater;
-    }
-
--- the byte in the middle is greater, so the range before it is left
-pub halved-greater : {transitions : List Transition} {from end byte low high middle : ℕ}
-    → AreRisingIn transitions from end → IsHalved transitions from end byte low high → low ≤ middle → middle < high
-    → byte < byte_at transitions middle → IsHalved transitions from end byte low middle
-halved-greater {middle} rising h from_low below greater =
-    let w = h.within in
-    record {
-      within = (w.0, omega arith, omega arith);
-      less = h.less;
-      greater = λ k a b.
-          ⊎_elim
-          (λ (after : middle < k). let r = rising middle k (omega arith) after b in omega arith)
-          (λ (not_after : k ≤ middle). let same : k ≡ middle = omega arith in rw same greater)
-          (cases_lt middle k);
-    }
-
--- where no place is left between, no transition has the byte
-pub halved-missing : {transitions : List Transition} {from end byte low high : ℕ}
-    → IsHalved transitions from end byte low high → high ≤ low → IsNextIn transitions from end byte 1
-halved-missing {low} h done =
-    let w = h.within in
-    inr (
-      refl,
-      λ k a b same.
-          ⊎_elim
-          (λ (before : k < low). let r = h.less k a before in omega arith)
-          (λ (not_before : low ≤ k). let r = h.greater k (omega arith) b in omega arith)
-          (cases_lt k low),
-    )
 
 -- ---- the ranges of the states
 
@@ -135,6 +78,19 @@ kept-ordered {i} h = ∥∥₁_elim h le_prop (λ w. w.2.transitions.ranges i w.
 pub kept-ends : {tables : Tables} {i : ℕ} → IsKept tables i
     → (kept_of tables.states.items (i + 1)).transitions ≤ length tables.transitions.items
 kept-ends h = ∥∥₁_elim h le_prop (λ w. range-within w.2 w.3)
+
+-- the range of a state's transitions, as its ends are read
+pub kept-span : {tables : Tables} {i at : ℕ} {x y : State} → IsKept tables i → at ≡ i
+    → x ≡ get_or tables.states.items at x → y ≡ get_or tables.states.items (at + 1) y
+    → ((kept_of tables.states.items i).transitions ≡ x.transitions)
+    × ((kept_of tables.states.items (i + 1)).transitions ≡ y.transitions)
+    × (x.transitions ≤ y.transitions) × (y.transitions ≤ length tables.transitions.items)
+kept-span h at first second =
+    let from = ap (λ s. s.transitions) (kept-read h at first) in
+    let end = ap (λ s. s.transitions) (kept-read_next h at second) in
+    let up = kept-ordered h in
+    let within = kept-ends h in
+    (from, end, omega (arith, from, end, up), omega (arith, end, within))
 
 -- the bytes in the range of a state rise
 pub kept-rises : {tables : Tables} {i : ℕ} → IsKept tables i

@@ -130,8 +130,7 @@ pub followed-over : {tables : Tables} {i byte from fail j : ℕ} {before between
 followed-over {tables} {i} {byte} {from} {fail} {j} {before} {after} h is one over = λ m names fits met.
     let so_far = h.follows m in
     let f = so_far.follows names fits met in
-    let there = linked.following-more m names tables.start i byte from so_far.looks fail (names-numbers names fits) f.0
-    f.1 (names-failure is names fits f.0.met) in
+    let there = linked.following-more (names-numbers names fits) f.0 f.1 (names-failure is names fits f.0.met) in
     let s = names-over over names fits there.met in
     let longer = s.1 in
     let paid = there.paid in

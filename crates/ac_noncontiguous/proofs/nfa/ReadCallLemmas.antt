@@ -1,5 +1,5 @@
 -- What the read calls take from the tables.
-use Rattle.std.proofs.Common.{◌≡◌, ◌≢◌, ℕ, zero, suc, ◌+◌, ◌-◌, ◌<◌, ◌≤◌, map, List, [], ◌∷◌, ◌++◌, length, take, drop, get_or, slice_get, Option, Some, None, refl, sym, ap, subst, ◌∙◌, inl, inr, ⊎_elim, arith, length-drop}
+use Rattle.std.proofs.Common.{◌≡◌, ◌≢◌, ℕ, zero, suc, ◌+◌, ◌-◌, ◌<◌, ◌≤◌, map, List, [], ◌∷◌, ◌++◌, length, take, drop, get_or, slice_get, Some, None, refl, sym, ap, subst, ◌∙◌, inl, inr, ⊎_elim, arith, length-drop}
 use Rattle.std.specs.Coded.{le_prop, Coded-set, coded_ℕ, coded_list, coded_option}
 use Rattle.std.proofs.Math.Logic.{∥∥₁_elim, ∥∥₁_map}
 use Rattle.std.proofs.lemmas.Bool.{cases_lt, cases_eq}
@@ -7,7 +7,6 @@ use Rattle.std.proofs.lemmas.List.{nil_from_length, length-take-le, get_or-take,
 use Rattle.std.proofs.lemmas.Option.{slice_get_within, slice_get-get_or, slice_get-map, same_Some}
 use Rattle.std.specs.Prelude.{option_map}
 use Rattle.ac_automaton.specs.Skip.{last_special_of}
-use Rattle.ac_input.specs.Candidate.{Filter}
 use Rattle.ac_input.specs.declared.search.Anchored.{Anchored}
 use Rattle.ac_input.specs.declared.search.Anchored.TheVariants.{No, Yes}
 use Rattle.ac_input.specs.declared.steps.Steps.{Steps}
@@ -25,7 +24,6 @@ use Rattle.ac_input.proofs.lemmas.OnceLemmas.{list-once}
 use Rattle.ac_automaton.specs.Named.{IsNamed}
 use Rattle.ac_automaton.proofs.automaton.NamedLemmas.{named-read}
 use Rattle.ac_noncontiguous.specs.declared.nfa.NFA.{NFA}
-use Rattle.ac_noncontiguous.specs.declared.nfa.tables.State.{State}
 use Rattle.ac_noncontiguous.specs.declared.nfa.tables.Transition.{Transition}
 use Rattle.ac_noncontiguous.specs.declared.nfa.tables.Tables.{Tables}
 use Rattle.ac_noncontiguous.specs.Nfa.{state_of, no_transition, byte_at, next_at, IsEdge, AreTexts, AreTransitions, AreRows, AreFailures, AreLists, kept_of, AreTables, edge_of}

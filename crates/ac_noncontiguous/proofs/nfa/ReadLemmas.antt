@@ -5,7 +5,6 @@ use Rattle.std.proofs.Math.Logic.{∥∥₁_elim, ∥∥₁_map, ∥∥₁_prop}
 use Rattle.std.proofs.lemmas.Bool.{cases_lt, cases_eq}
 use Rattle.std.proofs.lemmas.List.{length-take-le, get_or-take, get_or-drop}
 use Rattle.std.proofs.lemmas.Option.{slice_get_read}
-use Rattle.ac_input.specs.Number.{greatest_number}
 use Rattle.ac_input.specs.declared.search.Anchored.{Anchored}
 use Rattle.ac_input.specs.declared.steps.Steps.{Steps}
 use Rattle.ac_input.specs.Dictionary.{Dictionary}
@@ -30,29 +29,17 @@ use Rattle.ac_noncontiguous.proofs.nfa.NextLemmas.{state-some, state-none, is-de
 -- the greatest state that matches is at most the anchored start
 pub tables-top : {m : Dictionary} {tables : Tables} → ∥ ((text : ℕ → List ℕ) × AreTables m text tables) ∥₁
     → tables.max_match ≤ tables.start + 1
-tables-top {tables} h =
-    ∥∥₁_elim h le_prop
-    (λ w. ⊎_elim (λ (a : tables.max_match + 1 ≡ tables.start). omega (arith, a))
-    (λ (b : tables.max_match ≡ tables.start + 1). omega (arith, b)) w.1.lists.greatest)
+tables-top h = ∥∥₁_elim h le_prop (λ w. let greatest = w.1.lists.greatest in grind arith)
 
 -- the greatest state that matches is at least the state before the unanchored start
 pub tables-next : {m : Dictionary} {tables : Tables} → ∥ ((text : ℕ → List ℕ) × AreTables m text tables) ∥₁
     → tables.start ≤ tables.max_match + 1
-tables-next {tables} h =
-    ∥∥₁_elim h le_prop
-    (λ w. ⊎_elim (λ (a : tables.max_match + 1 ≡ tables.start). omega (arith, a))
-    (λ (b : tables.max_match ≡ tables.start + 1). omega (arith, b)) w.1.lists.greatest)
+tables-next h = ∥∥₁_elim h le_prop (λ w. let greatest = w.1.lists.greatest in grind arith)
 
 -- the unanchored start is past 1
 pub tables-start : {m : Dictionary} {tables : Tables} → ∥ ((text : ℕ → List ℕ) × AreTables m text tables) ∥₁
     → 1 < tables.start
 tables-start h = ∥∥₁_elim h le_prop (λ w. w.1.texts.starts.0)
-
--- the number of the anchored start is at most the greatest number
-pub tables-few : {m : Dictionary} {tables : Tables} → ∥ ((text : ℕ → List ℕ) × AreTables m text tables) ∥₁
-    → tables.start + 1 ≤ greatest_number
-tables-few h =
-    ∥∥₁_elim h le_prop (λ w. let few = w.1.few in let within = w.1.texts.starts.1 in omega (arith, few, within))
 
 -- ---- the patterns of a state
 

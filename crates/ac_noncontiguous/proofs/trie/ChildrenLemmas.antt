@@ -10,6 +10,7 @@ use Rattle.ac_noncontiguous.specs.Trie.Tree.{IsTree, IsFirstChild, parent, byte}
 use Rattle.ac_noncontiguous.specs.Trie.Entering.{HasNoChild}
 use Rattle.ac_noncontiguous.specs.Links.Failures.{IsChildOf}
 use Rattle.ac_noncontiguous.specs.Links.Children.{AreChildren, AppendsChildren, AreAllChildren}
+use Rattle.ac_noncontiguous.proofs.lemmas.IndexLemmas.{read-there}
 use Rattle.ac_noncontiguous.proofs.lemmas.OrderLemmas.{contains-kept, contains-last, index-kept, index-last}
 
 -- the children of a state whose bytes are less than one
@@ -164,19 +165,25 @@ all-more {states} {most} {firsts} {ids} {firsts_after} {ids_after} a more bytes_
     }
 
 -- where the children of a state begin, as it is read
-pub first-read : (states : List State) (most : ℕ) (firsts ids bytes : List ℕ) (index : ℕ) {i : ℕ} (r : ℕ)
+pub first-read : {states : List State} {most : ℕ} {firsts ids bytes : List ℕ} {index i r : ℕ}
     → AreAllChildren states most firsts ids bytes → i ≤ most → index ≡ i → r ≡ get_or firsts index r
     → r ≡ slice_index firsts i
-first-read states most firsts ids bytes index r a le at read =
-    get_or_read firsts index r (omega (arith, a.counted)) read 0 ∙ ap (slice_index firsts) at
+first-read {firsts} a le at read = read-there firsts (omega (arith, le, a.counted)) at read
 
 -- a place among the children of a state is within the lists of all children
-pub among-within : (states : List State) (firsts ids bytes : List ℕ) (of end k : ℕ)
+pub among-within : {states : List State} {firsts ids bytes : List ℕ} {of end : ℕ} (k : ℕ)
     → AreAllChildren states (length states) firsts ids bytes → of < length states → end ≡ slice_index firsts (of + 1)
     → k < end → (k < length ids) × (k < length bytes)
-among-within states firsts ids bytes of end k a within end_is below =
+among-within {states} {ids} {of} k a within end_is below =
     let s = a.spans of within in
     (omega (arith, s.1), omega (arith, s.1, ap length a.bytes_are, length-map ids (byte states)))
+
+-- so is one before the end that is read
+pub read-among : {states : List State} {firsts ids bytes : List ℕ} {of index end : ℕ} (k : ℕ)
+    → AreAllChildren states (length states) firsts ids bytes → of < length states → index ≡ of + 1
+    → end ≡ get_or firsts index end → k < end → (k < length ids) × (k < length bytes)
+read-among k a within at read below =
+    among-within k a within (first-read a (omega (arith, within)) at read) below
 
 -- the byte at a place is that of the child there
 byte-among : {states : List State} {most : ℕ} {firsts ids bytes : List ℕ} {k : ℕ}
@@ -192,7 +199,7 @@ pub one-among : {states : List State} {firsts ids bytes : List ℕ} {of low from
     → IsChildOf states of low (Some id)
 one-among {states} {firsts} {ids} {bytes} {of} {low} {end} {k} a within from_is end_is after below here id_is =
     let h = a.only of k within (omega arith) (omega arith) in
-    let b = byte-among a (among-within states firsts ids bytes of end k a within end_is below).0 in
+    let b = byte-among a (among-within k a within end_is below).0 in
     subst (λ z. IsChildOf states of low (Some z)) (sym id_is) (h.0, h.1, h.2, sym b ∙ here)
 
 -- if no place among a state's children has the byte, the state has no child for it

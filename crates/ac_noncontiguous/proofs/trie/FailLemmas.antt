@@ -46,19 +46,6 @@ told-leads {m} {states} s goes {of} {low} {id} within settled told =
     (subst (λ xs. LeadsTo m false (low ∷ []) (Some xs)) (sym id_empty) h))
     told
 
--- the edge of a state for a byte leads at most one level deeper
-pub told-deep : (states : List State) → IsTree states → (of low id : ℕ) → of < length states
-    → IsToldBy states of low (Some id) → (id < length states) × (depth states id ≤ depth states of + 1)
-told-deep states tree of low id within told =
-    ⊎_elim
-    (λ (c : IsChildOf states of low (Some id)).
-    let same : depth states (parent states id) ≡ depth states of = ap (depth states) c.2 in
-    (c.1, omega (arith, (tree.parents id c.0 c.1).1)))
-    (λ (back : (of ≡ 0) × (id ≡ 0) × HasNoChild states of low).
-    let flat : depth states id ≡ 0 = ap (depth states) back.1 ∙ tree.start.1 in
-    (omega (arith, back.1, tree.start.0), omega arith))
-    told
-
 -- ---- along the failures
 
 -- The failures of a state were followed up to `at`: the byte leads from the first state to wherever it leads from `at`.
@@ -193,15 +180,19 @@ more-fails {m} {states} s {i} from r ne within open_ above leads =
     ((fails-next (byte states i) (option_map (text states) r) above
     (λ kind n own. unmatched-own s within (open_ kind).0 (subst (λ xs. IsOwn m xs n) (sym t) own))).0 leads)
 
+-- the failure of a state, read from the list
+pub fail-read : (fails : List (Option ℕ)) {i index : ℕ} {r : Option ℕ} → i < length fails → index ≡ i
+    → r ≡ slice_index_or fails index r → slice_get fails i ≡ Some r
+fail-read fails {i} {r} within at read =
+    slice_get_read fails (length fails) i r refl within (subst (λ k. r ≡ slice_index_or fails k r) at read)
+
 -- the failure of the parent, read from the list
 pub above-read : {states : List State} {fails : List (Option ℕ)} {i index : ℕ} {s : State} {r : Option ℕ}
     → IsTree states → AreShallower states fails → i ≢ 0 → i < length states → s ≡ state_at states i → index ≡ s.parent
     → r ≡ slice_index_or fails index r → slice_get fails (parent states i) ≡ Some r
-above-read {states} {fails} {i} {index} {r} tree shallower ne within is at read =
-    let p : index ≡ parent states i = at ∙ ap (λ z. z.parent) is in
+above-read {i} tree shallower ne within is at read =
     let less = (tree.parents i (omega arith) within).0 in
-    let inside : index < length fails = omega (arith, less, shallower.counted) in
-    ap (slice_get fails) (sym p) ∙ slice_get_read fails (length fails) index r refl inside read
+    fail-read _ (omega (arith, less, shallower.counted)) (at ∙ ap (λ z. z.parent) is) read
 
 -- the failure of a state is shallower than the state
 pub failure-less : {states : List State} {fails : List (Option ℕ)} {i from : ℕ} {r : Option ℕ} → IsTree states

@@ -90,27 +90,9 @@ relinked {old} {xs} {y} r {of} {low} {at} {deep} {j} pushed deeper j_old read pa
 -- linked in as the first child
 pub linked-child : {old xs : List State} {y : State} {of low before at deep j id : ℕ} → of < length old → before ≡ 0
     → xs ≡ old ++ fresh of low at deep ∷ [] → deep ≡ depth old of + 1 → j ≡ of → id ≡ length old
-    → y ≡ slice_index_or xs j y
-    → IsGrown old
-    (slice_set xs j
-    (record {
-      parent = y.parent;
-      child = id;
-      sibling = y.sibling;
-      depth = y.depth;
-      byte = y.byte;
-      is_match = y.is_match;
-    })) of low before at
+    → y ≡ slice_index_or xs j y → IsGrown old (slice_set xs j (record y { child = id })) of low before at
 linked-child {old} {xs} {y} {j} {id} within none pushed deeper here last read =
-    let r : State =
-    record {
-      parent = y.parent;
-      child = id;
-      sibling = y.sibling;
-      depth = y.depth;
-      byte = y.byte;
-      is_match = y.is_match;
-    } in
+    let r : State = record y { child = id } in
     let k = relinked r pushed deeper (omega arith) read refl refl refl refl in
     let siblings = column-set (λ (z : State). z.sibling) xs k.inside (ap (λ z. z.sibling) k.was) in
     record {
@@ -133,26 +115,9 @@ linked-child {old} {xs} {y} {j} {id} within none pushed deeper here last read =
 pub linked-sibling : {old xs : List State} {y : State} {of low before at deep j id : ℕ} → of < length old
     → before < length old → 0 < before → xs ≡ old ++ fresh of low at deep ∷ [] → deep ≡ depth old of + 1 → j ≡ before
     → id ≡ length old → y ≡ slice_index_or xs j y
-    → IsGrown old
-    (slice_set xs j
-    (record {
-      parent = y.parent;
-      child = y.child;
-      sibling = id;
-      depth = y.depth;
-      byte = y.byte;
-      is_match = y.is_match;
-    })) of low before at
+    → IsGrown old (slice_set xs j (record y { sibling = id })) of low before at
 linked-sibling {old} {xs} {y} {of} {j} {id} within before_in some pushed deeper here last read =
-    let r : State =
-    record {
-      parent = y.parent;
-      child = y.child;
-      sibling = id;
-      depth = y.depth;
-      byte = y.byte;
-      is_match = y.is_match;
-    } in
+    let r : State = record y { sibling = id } in
     let k = relinked r pushed deeper (omega arith) read refl refl refl refl in
     let children = column-set (λ (z : State). z.child) xs k.inside (ap (λ z. z.child) k.was) in
     record {

@@ -9,8 +9,7 @@ use Rattle.ac_noncontiguous.proofs.trie.LinkedLemmas.{column-set, set-here, set-
 
 -- a state, made a match state
 abbrev pub as_match : State → State
-as_match y =
-    record { parent = y.parent; child = y.child; sibling = y.sibling; depth = y.depth; byte = y.byte; is_match = true }
+as_match y = record y { is_match = true }
 
 -- the links stay those of a trie
 pub tree-marked : (xs : List State) (j : ℕ) (y : State) → j < length xs → y ≡ slice_index_or xs j y → IsTree xs

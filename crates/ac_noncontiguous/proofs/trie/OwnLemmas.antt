@@ -1,9 +1,10 @@
 -- The patterns that end in a state, as lists.
-use Rattle.std.proofs.Common.{◌≡◌, ◌≢◌, ◌⊎◌, ℕ, ◌+◌, ◌-◌, ◌<◌, ◌≤◌, List, [], ◌∷◌, ◌++◌, length, Option, Some, None, refl, sym, ap, subst, ◌∙◌, inl, inr, ⊎_elim, arith, Bool, true, false, if◌then◌else◌, slice_get, slice_index, slice_index_or, slice_set, replicate, length-append, length-set, get_or-set_same, get_or-set_other}
+use Rattle.std.proofs.Common.{◌≡◌, ◌≢◌, ◌⊎◌, ℕ, ◌+◌, ◌-◌, ◌<◌, ◌≤◌, List, [], ◌∷◌, ◌++◌, length, Option, Some, None, refl, sym, ap, subst, ◌∙◌, inl, inr, ⊎_elim, arith, Bool, true, false, if◌then◌else◌, slice_get, slice_index, slice_index_or, slice_set, replicate, length-append, length-set}
 use Rattle.std.specs.List.{Contains}
 use Rattle.std.proofs.lemmas.Bool.{cases_lt, cases_eq}
 use Rattle.std.proofs.lemmas.List.{length-replicate, get_or-replicate}
 use Rattle.std.proofs.lemmas.Option.{slice_get_within, slice_get_read}
+use Rattle.ac_noncontiguous.proofs.lemmas.IndexLemmas.{set-read}
 use Rattle.ac_noncontiguous.specs.declared.trie.State.{State}
 use Rattle.ac_noncontiguous.specs.Links.Own.{IsNextEnd, AreOwnChains, IsOwnList}
 use Rattle.ac_noncontiguous.proofs.trie.DictionaryLemmas.{get-cases}
@@ -63,21 +64,14 @@ own-more {from} {id} {at} {ends} {first} {next} here id_in read o =
     record {
       lens = (length-set first id from ∙ o.lens.0, length-set next from at ∙ o.lens.1);
       firsts = λ i i_in.
-          ⊎_elim
-          (λ (same : i ≡ id).
-          let now : slice_index (slice_set first id from) i ≡ from = ap (slice_index (slice_set first id from)) same
-          ∙ get_or-set_same first id from 0 (omega (arith, o.lens.0)) in
-          subst (IsNextEnd ends i from) (sym now)
-          (record {
+          set-read (IsNextEnd ends i from) first from (omega (arith, o.lens.0))
+          (λ same. record {
             found = λ _. (omega arith, subst (λ j. (slice_get ends from ≡ Some (Some j))) (sym same) here);
             least = λ n past e. past;
-          }))
-          (λ (ne : i ≢ id).
-          let there : slice_index (slice_set first id from) i ≡ slice_index first i =
-          get_or-set_other first id i from 0 ne in
+          })
+          (λ ne.
           let h = o.firsts i i_in in
-          subst (IsNextEnd ends i from) (sym there)
-          (record {
+          record {
             found = λ lt. (omega (arith, (h.found lt).0), (h.found lt).1);
             least = λ n past e.
                 ⊎_elim
@@ -85,23 +79,15 @@ own-more {from} {id} {at} {ends} {first} {next} here id_in read o =
                 (ne (only i (subst (λ k. (slice_get ends k ≡ Some (Some i))) is_from e))))
                 (λ (later : n ≢ from). h.least n (omega arith) e)
                 (cases_eq n from);
-          }))
-          (cases_eq i id);
+          });
       nexts = λ n i past e.
-          ⊎_elim
-          (λ (same : n ≡ from).
-          let now : slice_index (slice_set next from at) n
-          ≡ slice_index first id = ap (slice_index (slice_set next from at)) same
-          ∙ (get_or-set_same next from at 0 (omega (arith, o.lens.1)) ∙ read) in
+          set-read (IsNextEnd ends i (n + 1)) next at (omega (arith, o.lens.1))
+          (λ same.
           let i_is : i ≡ id = only i (subst (λ k. (slice_get ends k ≡ Some (Some i))) same e) in
-          subst (IsNextEnd ends i (n + 1)) (sym now)
+          subst (IsNextEnd ends i (n + 1)) (sym read)
           (subst (λ j. IsNextEnd ends j (n + 1) (slice_index first id)) (sym i_is)
           (subst (λ k. IsNextEnd ends id (k + 1) (slice_index first id)) (sym same) (o.firsts id id_in))))
-          (λ (ne : n ≢ from).
-          let there : slice_index (slice_set next from at) n ≡ slice_index next n =
-          get_or-set_other next from n at 0 ne in
-          subst (IsNextEnd ends i (n + 1)) (sym there) (o.nexts n i (omega arith) e))
-          (cases_eq n from);
+          (λ ne. o.nexts n i (omega arith) e);
     }
 
 -- ---- the list of a state
@@ -170,6 +156,12 @@ list-all {ends} {i} {from} n past o =
 pub own-read : (ends : List (Option ℕ)) {from id : ℕ} {end : Option ℕ} → from < length ends
     → end ≡ slice_index_or ends from end → end ≡ Some id → (slice_get ends from ≡ Some (Some id))
 own-read ends {from} {end} within read some = slice_get_read ends (length ends) from end refl within read ∙ ap Some some
+
+-- the state in which a pattern ends, as it is read, is one of the states
+pub end-within : (ends : List (Option ℕ)) {states : ℕ} (from : ℕ) {id : ℕ} {end : Option ℕ}
+    → ((n i : ℕ) → (slice_get ends n ≡ Some (Some i)) → i < states) → from < length ends
+    → end ≡ slice_index_or ends from end → end ≡ Some id → id < states
+end-within ends from {id} placed within read some = placed from id (own-read ends within read some)
 
 -- a pattern that is read without an end ends nowhere
 pub none-read : (ends : List (Option ℕ)) {from : ℕ} {end : Option ℕ} → from < length ends

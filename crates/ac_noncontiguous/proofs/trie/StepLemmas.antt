@@ -1,7 +1,7 @@
 -- One step down the trie, to a child that is there or is added.
-use Rattle.std.proofs.Common.{◌≡◌, ℕ, ◌<◌, List, length, refl, ◌∙◌, inl, inr, arith}
+use Rattle.std.proofs.Common.{◌≡◌, ℕ, ◌<◌, List, length, refl, ◌∙◌, inl, arith}
 use Rattle.ac_noncontiguous.specs.declared.trie.State.{State}
-use Rattle.ac_noncontiguous.specs.Trie.Tree.{IsTree, IsChildPlace, Extends, IsAdded, byte}
+use Rattle.ac_noncontiguous.specs.Trie.Tree.{IsTree, IsChildPlace, Extends, byte}
 use Rattle.ac_noncontiguous.specs.Trie.Entering.{IsChildStep}
 use Rattle.ac_noncontiguous.specs.Compiler.Edges.{IsChildFor}
 use Rattle.ac_noncontiguous.proofs.trie.TreeLemmas.{way-at}
@@ -32,13 +32,3 @@ pub step-found : (states : List State) (of low before at : ℕ) → IsTree state
 step-found states of low before at tree within place some same =
     let h = way-at tree within place.way some in
     record { extends = extends-itself; child = (some, h.0, h.1, same); added = inl refl }
-
--- a child that is added is a step
-pub step-added : {old new : List State} {of low id : ℕ} → 0 < length old → IsAdded old new of low id
-    → IsChildStep old new of low id
-step-added some a =
-    record {
-      extends = a.extends;
-      child = (omega (arith, a.last.0), omega (arith, a.last.0, a.last.1), a.added.0, a.added.1);
-      added = inr (a.last.0, a.last.1, a.added.3);
-    }

@@ -1,9 +1,10 @@
 -- What stays true as a pattern is entered byte by byte.
-use Rattle.std.proofs.Common.{◌≡◌, ℕ, ◌+◌, ◌<◌, ◌≤◌, false, List, [], ◌∷◌, ◌++◌, length, take, get_or, sym, ap, ap₂, ◌∙◌, ⊎_elim, arith}
+use Rattle.std.proofs.Common.{◌≡◌, ℕ, ◌+◌, ◌<◌, ◌≤◌, false, List, [], ◌∷◌, ◌++◌, length, map, take, get_or, sym, ap, ap₂, ◌∙◌, ⊎_elim, arith}
 use Rattle.std.proofs.lemmas.Bool.{cases_lt}
-use Rattle.std.proofs.lemmas.List.{take_more}
+use Rattle.std.proofs.lemmas.List.{take_more, get_or-map, length-map}
 use Rattle.ac_input.specs.declared.search.MatchKind.{MatchKind}
 use Rattle.ac_input.specs.declared.search.MatchKind.TheVariants.{LeftmostFirst}
+use Rattle.ac_input.specs.Laws.LiveLaws.{canonical}
 use Rattle.ac_noncontiguous.specs.declared.trie.State.{State}
 use Rattle.ac_noncontiguous.specs.Trie.Tree.{IsTree, parent, byte, depth, is_match, text}
 use Rattle.ac_noncontiguous.specs.Trie.Entering.{IsChildStep, IsWalked}
@@ -98,3 +99,12 @@ walk-step {mid} {new} {bytes} {read} {at} {id} mid_tree new_tree w free more low
         (λ (one : (id ≡ length mid) × (length new ≡ length mid + 1) × (is_match new id ≡ false)).
         (omega (arith, one.0, one.1), one.2))
         s.added
+
+-- the byte that is read is the next one of the pattern's canonical bytes
+pub canonical-read : {pairing now : List ℕ} (p : List ℕ) {i byte : ℕ} → i < length p → now ≡ pairing
+    → byte ≡ canonical now (get_or p i 0)
+    → (i < length (map (canonical pairing) p)) × (byte ≡ get_or (map (canonical pairing) p) i 0)
+canonical-read {pairing} p {i} within same is = (
+  omega (arith, within, length-map p (canonical pairing)),
+  is ∙ (ap (λ q. canonical q (get_or p i 0)) same ∙ sym (get_or-map (canonical pairing) p i 0 0 within)),
+)

@@ -1,9 +1,9 @@
 -- Reading the states of an automaton, and writing their words.
-use Rattle.std.proofs.Common.{◌≡◌, ◌≢◌, ℕ, suc, ◌+◌, ◌<◌, ◌≤◌, Bool, map, List, [], ◌∷◌, ◌++◌, length, take, drop, get_or, slice_get, slice_index, Some, refl, sym, ap, subst, ◌∙◌, ⊎_elim, arith, length-append, length-drop}
+use Rattle.std.proofs.Common.{◌≡◌, ◌≢◌, ℕ, suc, ◌+◌, ◌<◌, ◌≤◌, Bool, map, List, [], ◌∷◌, ◌++◌, length, take, drop, get_or, slice_get, slice_index, Some, refl, sym, ap, subst, ◌∙◌, ⊎_elim, arith, length-append}
 use Rattle.std.specs.Prelude.{◌==◌, nat_lt}
 use Rattle.std.specs.List.{All}
-use Rattle.std.proofs.lemmas.Bool.{cases_lt, cond-true, cond-false, eq-eqb}
-use Rattle.std.proofs.lemmas.List.{append-nil, drop_all, drop_more, take_more, map-append, take_all}
+use Rattle.std.proofs.lemmas.Bool.{cases_lt, cond-false}
+use Rattle.std.proofs.lemmas.List.{drop_all, drop_more, take_more, map-append}
 use Rattle.std.proofs.lemmas.List.Elements.{All-map, All-from_get_or}
 use Rattle.std.proofs.lemmas.Option.{slice_get-get_or}
 use Rattle.ac_input.specs.Alphabet.{class, alphabet_len, IsClasses}
@@ -61,21 +61,6 @@ read-more classes place edges done old new byte next own at h is is_own is_at =
     subst (λ k. AreReadTo classes place edges k (done ++ (own, at) ∷ []) new) (sym long)
     (record { read = both; rest = first.2; within = let lt = first.0 in omega (arith, lt) })
 
--- if no transition is left, all have been read
-pub read-all : (classes : List ℕ) (place : ℕ → ℕ) (edges done old : List (ℕ × ℕ)) (n : ℕ)
-    → AreReadTo classes place edges n done old → old ≡ [] → done ≡ map (placed_edge classes place) edges
-read-all classes place edges done old n h none =
-    ⊎_elim
-    (λ (lt : n < length edges). absurd (by lt))
-    (λ (ge : length edges ≤ n). h.read ∙ ap (map (placed_edge classes place)) (take_all n edges ge))
-    (cases_lt n (length edges))
-  where
-    by : n < length edges → ⊥
-    by lt =
-        let gone = ap length (sym none ∙ h.rest) in
-        let left = length-drop n edges in
-        absurd (omega (arith, gone, left, lt))
-
 -- ---- the words of a state
 
 -- two lists of places that agree on the next states give the same transitions
@@ -118,15 +103,6 @@ state-written nfa dense_depth sid alphabet fail classes places before after matc
     ∙ ap (words_of (alphabet_len classes)) same
     ∙ sym (cond-false (sid == 1) [] (words_of (alphabet_len classes) own) (not-equal sid 1 stands)) in
     record { words = is ∙ ap (λ ws. before ++ ws) words; known = λ _. known }
-
--- the fail state has no words
-pub fail-written : (nfa : NFA) (dense_depth sid : ℕ) (classes words : List ℕ) → sid ≡ 1
-    → IsWritten nfa dense_depth classes sid words words
-fail-written nfa dense_depth sid classes words is =
-    let own =
-    words_of (alphabet_len classes) (parts_of nfa dense_depth classes (place_in nfa dense_depth classes) sid) in
-    let none : words_at nfa dense_depth classes sid ≡ [] = cond-true (sid == 1) [] own (eq-eqb sid 1 is) in
-    record { words = sym (ap (λ ws. words ++ ws) none ∙ append-nil words); known = λ stands. absurd (stands is) }
 
 -- the class of each transition that was read is one of the alphabet
 pub read-fits : (nfa : NFA) (sid alphabet : ℕ) (classes : List ℕ) (place : ℕ → ℕ) → IsClasses classes

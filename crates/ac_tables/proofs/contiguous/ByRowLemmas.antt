@@ -1,5 +1,5 @@
 -- Reading on by rows leads where the words do: each row that is read is that of a place that is read.
-use Rattle.std.proofs.Common.{◌≡◌, ℕ, ◌+◌, ◌<◌, Bool, false, true, IsTrue, List, [], ◌∷◌, ◌++◌, length, take, Option, Some, refl, sym, subst, ◌∙◌, arith}
+use Rattle.std.proofs.Common.{◌≡◌, ℕ, ◌+◌, ◌<◌, Bool, false, true, IsTrue, List, [], ◌∷◌, ◌++◌, length, take, Some, refl, sym, subst, ◌∙◌, arith}
 use Rattle.std.specs.Coded.{le_prop, Coded-set, coded_ℕ, coded_bool}
 use Rattle.std.proofs.Math.Logic.{∥∥₁_elim}
 use Rattle.ac_input.specs.Alphabet.{class}

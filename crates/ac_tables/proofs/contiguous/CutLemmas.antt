@@ -1,5 +1,5 @@
 -- How many rising numbers are below a limit, and which rows the states between two places have.
-use Rattle.std.proofs.Common.{◌≡◌, ◌≢◌, ◌↔◌, ℕ, ◌+◌, ◌-◌, ◌*◌, ◌<◌, ◌≤◌, Bool, true, false, IsTrue, List, length, ⊎_elim, refl, sym, ap, subst, ◌∙◌, arith}
+use Rattle.std.proofs.Common.{◌≡◌, ◌≢◌, ◌↔◌, ℕ, ◌+◌, ◌-◌, ◌*◌, ◌<◌, ◌≤◌, Bool, false, IsTrue, List, length, ⊎_elim, sym, ap, subst, ◌∙◌, arith}
 use Rattle.std.specs.Prelude.{◌/◌, ◌==◌, not, slice_index}
 use Rattle.std.proofs.Math.Nat.{add-mul, mul-le-mul_right, le_of_mul-le-mul_right}
 use Rattle.std.proofs.lemmas.Bool.{cases_lt, cases_eq, ne_eqb, false≢true}
@@ -68,7 +68,8 @@ cut-second ns to place next rise some at second fails holds =
     let less = rise 0 1 (omega arith) some in
     let low : place < to.first = ⊎_elim (λ (below : place < to.first). below)
     (λ (ge : to.first ≤ place). absurd
-    (false≢true (sym fails ∙ (between {two = to} {i = place}).1 (ge, omega (arith, less, at, second, w.1))))) (cases_lt place to.first) in
+    (false≢true (sym fails ∙ (between {two = to} {i = place}).1 (ge, omega (arith, less, at, second, w.1)))))
+    (cases_lt place to.first) in
     record {
       within = omega (arith, some);
       below = below-last ns to.first 0 rise (omega (arith, some)) (omega (arith, at, low));

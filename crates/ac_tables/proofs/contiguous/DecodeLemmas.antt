@@ -62,10 +62,6 @@ form-is s = by (s.shallow || nat_lt most_sparse (length s.edges)) refl (is_singl
     by false e false f =
         IsSparse (ltb-false most_sparse (length s.edges) (or_parts s.shallow (nat_lt most_sparse (length s.edges)) e).1)
 
--- the kind stands in the low eight bits of the first word
-pub kind-dense : (edges : List (ℕ × ℕ)) → kind_word Dense edges % 256 ≡ 255
-kind-dense edges = refl
-
 pub kind-one : (edges : List (ℕ × ℕ))
     → (kind_word One edges % 256 ≡ 254) × (kind_word One edges / 256 ≡ first_class edges)
 kind-one edges = (omega arith, omega arith)

@@ -102,16 +102,6 @@ pub place-after : (nfa : NFA) (dense_depth : ℕ) (classes : List ℕ) (sid : �
 place-after nfa dense_depth classes sid stands =
     cond-false (sid == 1) 1 (len_before nfa dense_depth classes sid) (not-equal sid 1 stands)
 
--- no state has a place yet
-pub places-none : (nfa : NFA) (dense_depth : ℕ) (classes places : List ℕ) → places ≡ []
-    → ArePlacesOf nfa dense_depth classes 0 places
-places-none nfa dense_depth classes places none =
-    record {
-      counted = ap length none;
-      at = λ sid lt. absurd (omega (arith, lt));
-      fits = λ sid lt. absurd (omega (arith, lt));
-    }
-
 -- one more state has a place
 pub places-more : (nfa : NFA) (dense_depth : ℕ) (classes places : List ℕ) (n place before : ℕ) → place ≤ greatest_number
     → place ≡ (if n == 1 then 1 else before) → before ≡ len_before nfa dense_depth classes n

@@ -37,9 +37,6 @@ last_of (a ∷ b ∷ cs) = last_of (b ∷ cs)
 abbrev pub AreBytes : List ℕ → Type 0
 AreBytes cs = (i : ℕ) → i < length cs → get_or cs i 0 < 256
 
-bytes-tail : (a : ℕ) (cs : List ℕ) → AreBytes (a ∷ cs) → AreBytes cs
-bytes-tail a cs small i within = small (suc i) (omega arith)
-
 -- The bytes of packed classes are the classes, and then the last class as often as is needed to fill the last word.
 pub unpack-packed : (cs : List ℕ) → AreBytes cs
     → (more : ℕ) × (flat_map (to_le_bytes w32) (packed cs) ≡ cs ++ replicate more (last_of cs))

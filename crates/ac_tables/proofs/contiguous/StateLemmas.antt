@@ -15,6 +15,7 @@ use Rattle.ac_tables.specs.Contiguous.WordReads.{IsFirstPlace, IsStateAt, IsSpar
 use Rattle.std.specs.Int.{w32}
 use Rattle.std.specs.List.{flat_map}
 use Rattle.std.specs.Int.{to_le_bytes}
+use Rattle.ac_noncontiguous.proofs.lemmas.IndexLemmas.{read-there}
 use Rattle.ac_tables.proofs.contiguous.DecodeLemmas.{state-kind, state-fail, form-dense, form-one, form-sparse, kind-one, dense-next, one-next, sparse-classes, sparse-nexts, stands-item}
 use Rattle.ac_tables.proofs.contiguous.PackedLemmas.{AreBytes, unpack-packed, unpack-long, first-hit, no-hit}
 
@@ -29,14 +30,15 @@ place-within table sid h =
 -- the word read at a state's place is its first word
 pub first-of : (words : List ℕ) (sid at word : ℕ) → sid < length words → at ≡ sid → word ≡ get_or words at word
     → get_or words sid 0 ≡ word
-first-of words sid at word within is read =
-    sym (get_or_read words at word (omega (arith, within, is)) read 0 ∙ ap (λ n. get_or words n 0) is)
+first-of words sid at word within is read = sym (read-there words within is read)
 
--- the low bits of the first word are the kind
-pub kind-of : (words : List ℕ) (sid at word : ℕ) → sid < length words → at ≡ sid → word ≡ get_or words at word
-    → get_or words sid 0 % 256 ≡ bit_and word 255
-kind-of words sid at word within is read =
-    ap (λ n. n % 256) (first-of words sid at word within is read) ∙ sym (and_mask word 8)
+-- the word that is read at a state's place is its first word, and its low bits are the kind
+pub word-of : (table : Table) (sid : ℕ) {at word : ℕ} → (∥ ((s : StateParts) × IsStateAt table sid s) ∥₁) → at ≡ sid
+    → word ≡ get_or table.words.items at word
+    → (get_or table.words.items sid 0 ≡ word) × (get_or table.words.items sid 0 % 256 ≡ bit_and word 255)
+word-of table sid {at} {word} h is read =
+    let first = first-of table.words.items sid at word (place-within table sid h) is read in
+    (first, ap (λ n. n % 256) first ∙ sym (and_mask word 8))
 
 -- the kind in the first word is the kind of the state
 same-kind : (table : Table) (sid : ℕ) (s : StateParts) (low : ℕ) → IsStateAt table sid s

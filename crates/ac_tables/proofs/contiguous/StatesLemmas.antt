@@ -13,7 +13,7 @@ use Rattle.ac_noncontiguous.specs.Nfa.{state_of}
 use Rattle.ac_noncontiguous.specs.Nfa.Reads.{dictionary, matches_at}
 use Rattle.ac_noncontiguous.specs.Nfa.ReadCalls.{state_len, edges_in, special_in, AreBounds}
 use Rattle.ac_tables.specs.declared.contiguous.table.Table.{Table}
-use Rattle.ac_tables.specs.Contiguous.Words.{StateParts, next_by, words_of, AreWordsAt}
+use Rattle.ac_tables.specs.Contiguous.Words.{next_by, words_of, AreWordsAt}
 use Rattle.ac_tables.specs.Contiguous.Table.{placed_edge, parts_of, place_in, AreStates, AreWordsOf}
 use Rattle.ac_tables.proofs.contiguous.PlacesLemmas.{met-stands, met-other, met-start, met-start_anchored, is_met}
 use Rattle.ac_tables.proofs.contiguous.StandLemmas.{stands, place-rises, place-one, place-later}

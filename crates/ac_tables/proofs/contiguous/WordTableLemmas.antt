@@ -1,11 +1,10 @@
 -- The table that is made from an automaton.
-use Rattle.std.proofs.Common.{◌≡◌, ℕ, ◌+◌, ◌<◌, List, ◌++◌, ◌∷◌, [], Option, sym, ap, subst, ◌∙◌, ⊎_elim, arith}
+use Rattle.std.proofs.Common.{◌≡◌, ℕ, ◌+◌, ◌<◌, List, ◌++◌, ◌∷◌, [], Option, sym, subst, ◌∙◌, ⊎_elim, arith}
 use Rattle.std.specs.Prelude.{IfSome, ◌≢◌}
 use Rattle.std.specs.Coded.{le_prop, Coded-set, coded_ℕ}
 use Rattle.std.proofs.Math.Logic.{∥∥₁_elim, ∥∥₁_map}
 use Rattle.ac_input.specs.Alphabet.{class}
-use Rattle.ac_input.specs.declared.search.MatchKind.{MatchKind}
-use Rattle.ac_input.specs.Dictionary.{Dictionary, dictionary_of}
+use Rattle.ac_input.specs.Dictionary.{Dictionary}
 use Rattle.ac_input.specs.Pairing.{IsPairing}
 use Rattle.ac_input.specs.States.{LeadsTo}
 use Rattle.ac_input.proofs.lemmas.ClassLemmas.{byte-alone}
@@ -109,14 +108,6 @@ some-states nfa dense_depth table rows places some begin known bounds paired ser
 
 -- ---- the dictionary
 
--- a dictionary with the patterns, pairing and kind of another is that dictionary
-pub same-dictionary : (m : Dictionary) (patterns : List (List ℕ)) (pairing : List ℕ) (kind : MatchKind)
-    → patterns ≡ m.patterns → pairing ≡ m.pairing → kind ≡ m.kind → dictionary_of patterns pairing kind ≡ m
-same-dictionary m patterns pairing kind p q k =
-    ap (λ x. dictionary_of x pairing kind) p
-    ∙ ap (λ x. dictionary_of m.patterns x kind) q
-    ∙ ap (λ x. dictionary_of m.patterns m.pairing x) k
-
 -- ---- why no words can be made
 
 -- a place that is too great with the classes is too great by the settings
@@ -164,39 +155,17 @@ states-copied m old new old_rows new_rows same same_rows some = ∥∥₁_map so
     let names = w.0 in
     let parts = w.1 in
     let words = words-copied m old new names parts same.words w.2 in
-    let classes =
-    subst (λ x. AreStates m (record old { words = new.words; classes = x }) names parts) (sym same.classes) words in
-    let alphabet =
-    subst (λ x. AreStates m (record old { words = new.words; classes = new.classes; alphabet_len = x }) names parts)
-    (sym same.alphabet_len) classes in
-    let start =
-    subst (λ x.
-    AreStates m (record old { words = new.words; classes = new.classes; alphabet_len = new.alphabet_len; start = x })
-    names parts) (sym same.start) alphabet in
-    let anchored =
-    subst (λ x.
-    AreStates m
-    (record old {
+    let copied : record old { words = new.words } ≡ new = λ i. record old {
       words = new.words;
-      classes = new.classes;
-      alphabet_len = new.alphabet_len;
-      start = new.start;
-      start_anchored = x;
-    }) names parts) (sym same.start_anchored) start in
-    let states =
-    subst (λ x.
-    AreStates m
-    (record old {
-      words = new.words;
-      classes = new.classes;
-      alphabet_len = new.alphabet_len;
-      start = new.start;
-      start_anchored = new.start_anchored;
-      max_match = x;
-    }) names parts) (sym same.max_match) anchored in (
+      classes = sym same.classes i;
+      alphabet_len = sym same.alphabet_len i;
+      start = sym same.start i;
+      start_anchored = sym same.start_anchored i;
+      max_match = sym same.max_match i;
+    } in (
       names,
       parts,
-      states,
+      subst (λ t. AreStates m t names parts) copied words,
       rows-copied m new.classes names old_rows new_rows same_rows
           (subst (λ x. AreRowsIfAny m x names old_rows) (sym same.classes) w.3),
     ))

@@ -1,11 +1,11 @@
 -- Writing the words of a state, one after another.
-use Rattle.std.proofs.Common.{◌≡◌, ◌≢◌, ℕ, zero, suc, ◌+◌, ◌-◌, ◌<◌, ◌≤◌, map, List, [], ◌∷◌, ◌++◌, length, take, drop, get_or, slice_set, refl, sym, ap, ◌∙◌, ⊎_elim, arith, append_assoc, length-drop, length-set, get_or-set_same, get_or-set_other}
+use Rattle.std.proofs.Common.{◌≡◌, ◌≢◌, ℕ, zero, suc, ◌+◌, ◌-◌, ◌<◌, ◌≤◌, map, List, [], ◌∷◌, ◌++◌, length, drop, get_or, slice_set, refl, sym, ap, ◌∙◌, ⊎_elim, arith, append_assoc, length-drop, length-set, get_or-set_same, get_or-set_other}
 use Rattle.std.specs.Prelude.{◌==◌, if◌then◌else◌, false}
 use Rattle.std.specs.List.{range_with_len}
 use Rattle.std.proofs.lemmas.Bool.{cases_eq, eq-eqb}
-use Rattle.std.proofs.lemmas.List.{ext_get_or, set-append_right, take_more, map-append, get_or-map, length-map, drop-drop, drop_more, get_or_default}
+use Rattle.std.proofs.lemmas.List.{ext_get_or, set-append_right, get_or-map, length-map, drop-drop, drop_more, get_or_default}
 use Rattle.std.proofs.lemmas.List.FromFn.{get_or-map-range_with_len, length-map-range_with_len, map-range_with_len_more}
-use Rattle.ac_tables.specs.Contiguous.Words.{next_by, word_of, packed, near, classes_of, nexts_of}
+use Rattle.ac_tables.specs.Contiguous.Words.{next_by, word_of, packed, near, classes_of}
 
 -- ---- an entry for each class
 
@@ -148,14 +148,3 @@ packed-more front words cs at word lt is before =
     append_assoc words (word ∷ []) (packed (drop (at + 4) cs)) ∙ (ap (λ xs. words ++ xs) (sym split) ∙ before)
 
 -- ---- where the transitions lead
-
--- one more next state is written
-pub nexts-more : (old now : List ℕ) (edges : List (ℕ × ℕ)) (i : ℕ) (edge : ℕ × ℕ) → i < length edges
-    → edge ≡ get_or edges i edge → now ≡ old ++ nexts_of (take i edges)
-    → now ++ edge.1 ∷ [] ≡ old ++ nexts_of (take (i + 1) edges)
-nexts-more old now edges i edge lt at is =
-    let more : take (i + 1) edges ≡ take i edges ++ edge ∷ [] = take_more edges i edge lt
-    ∙ ap (λ e. take i edges ++ e ∷ []) (sym at) in
-    ap (λ xs. xs ++ edge.1 ∷ []) is
-    ∙ append_assoc old (nexts_of (take i edges)) (edge.1 ∷ [])
-    ∙ ap (λ xs. old ++ xs) (sym (ap nexts_of more ∙ map-append (λ e. e.1) (take i edges) (edge ∷ [])))

@@ -1,5 +1,5 @@
 -- How large the table of an automaton is, and what is built from it.
-use Rattle.std.proofs.Common.{◌≡◌, ℕ, ◌+◌, ◌-◌, ◌*◌, ◌^◌, ◌<◌, ◌≤◌, Bool, true, false, List, length, Option, inl, inr, ⊎_elim, refl, sym, ap, ap₂, subst, ◌∙◌, arith}
+use Rattle.std.proofs.Common.{◌≡◌, ℕ, ◌+◌, ◌-◌, ◌*◌, ◌^◌, ◌<◌, ◌≤◌, Bool, true, false, List, length, Option, inl, ⊎_elim, refl, sym, ap, ap₂, subst, ◌∙◌, arith}
 use Rattle.std.specs.Prelude.{◌/◌}
 use Rattle.std.specs.Coded.{le_prop}
 use Rattle.std.proofs.Math.Logic.{∥∥₁_elim, ∥∥₁_map, ∥∥₁_prop}
@@ -19,8 +19,8 @@ use Rattle.ac_automaton.specs.Automaton.{OwnsPrefilter}
 use Rattle.ac_noncontiguous.specs.declared.error.BuildErrorKind.{BuildErrorKind}
 use Rattle.ac_noncontiguous.specs.declared.error.BuildErrorKind.TheVariants.{StateIDOverflow, PatternIDOverflow, PatternTooLong, Memory}
 use Rattle.ac_noncontiguous.specs.declared.nfa.NFA.{NFA}
+use Rattle.ac_noncontiguous.specs.declared.nfa.Special.{Special}
 use Rattle.ac_noncontiguous.specs.Nfa.Reads.{dictionary, built_as}
-use Rattle.ac_noncontiguous.specs.Standing.{IsBuildRefused}
 use Rattle.ac_noncontiguous.specs.Nfa.ReadCalls.{state_len, special_in, classes_in, IsReadable}
 use Rattle.ac_tables.specs.declared.dfa.table.Table.{Table}
 use Rattle.ac_tables.specs.declared.dfa.DFA.{DFA}
@@ -33,7 +33,7 @@ use Rattle.ac_tables.specs.Dfa.Table.{dfa_number_of, stride_of, AreTransitionsOf
 use Rattle.ac_automaton.specs.Named.{Naming}
 use Rattle.ac_tables.specs.Source.{AreClassesFor}
 use Rattle.ac_tables.specs.Dfa.Filling.{RowPlan, IsFit, IsOverflow, AreRowsUpTo}
-use Rattle.ac_tables.proofs.dfa.CellLemmas.{source-of}
+use Rattle.ac_tables.proofs.dfa.CellLemmas.{source-of, last-match_is}
 use Rattle.ac_tables.proofs.dfa.FilledLemmas.{number-small}
 use Rattle.ac_tables.proofs.dfa.RowLemmas.{number-row}
 use Rattle.ac_tables.proofs.dfa.TableLemmas.{table-rows, stride-some}
@@ -151,6 +151,15 @@ chosen-fit classed nfa kind classes stride r chosen least wide fits =
       few = fits;
     }
 
+-- so they may by the rows that were counted
+pub counted-fit : (classed : Bool) {nfa : NFA} (kind : StartKind) (classes : List ℕ) {stride rows states : ℕ}
+    → IsReadable nfa → AreClassesFor nfa classed classes → IsLeastPowerOfTwo (alphabet_len classes) stride
+    → stride ≤ 256 → rows ≡ dfa_states kind states → states ≡ state_len nfa → (rows - 1) * stride ≤ greatest_number
+    → IsFit (record { nfa = nfa; kind = kind; classes = classes; stride = stride })
+counted-fit classed {nfa} kind classes {stride} r chosen least wide rows states fits =
+    chosen-fit classed nfa kind classes stride r chosen least wide
+    (subst (λ n. (n - 1) * stride ≤ greatest_number) (rows ∙ ap (dfa_states kind) states) fits)
+
 -- ---- the table
 
 -- The table's rows are so long: the least power of two for its alphabet, and at most 256.
@@ -218,13 +227,33 @@ made-states nfa table h =
     ap (λ n. n / stride_of table) h.rows.len
     ∙ number-row (dfa_states table.kind (state_len nfa)) (stride_of table) (stride-some nfa table h)
 
+-- the starts and the last state with a match are among the states
+pub special-within : {nfa : NFA} {special : Special} → IsReadable nfa → special ≡ special_in nfa
+    → (special.start_unanchored_id < state_len nfa) × (special.start_anchored_id < state_len nfa)
+    × (special.max_match_id < state_len nfa)
+special-within {nfa} {special} r is =
+    let s = (source-of nfa r).starts in
+    let start = ap (λ x. x.start_unanchored_id) is in
+    let next : special.start_anchored_id ≡ (special_in nfa).start_unanchored_id + 1 =
+    ap (λ x. x.start_anchored_id) is in
+    let last = ap (λ x. x.max_match_id) is in (
+      omega (arith, start, s.1),
+      omega (arith, next, s.1),
+      ⊎_elim
+          (λ (l : (special_in nfa).max_match_id + 1 ≡ (special_in nfa).start_unanchored_id).
+          omega (arith, last, l, s.1))
+          (λ (h : (special_in nfa).max_match_id ≡ (special_in nfa).start_unanchored_id + 1).
+          omega (arith, last, h, s.1))
+          (last-match_is nfa r),
+    )
+
 -- the number of each state is at most the greatest number
-pub number-kept : (p : RowPlan) (anchored : Anchored) (start sid : ℕ) → IsFit p
-    → start ≡ (special_in p.nfa).start_unanchored_id → sid < state_len p.nfa
-    → dfa_number_of p.kind start p.stride (is_anchored anchored) sid ≤ greatest_number
-number-kept p anchored start sid fit is within =
-    subst (λ n. dfa_number_of p.kind n p.stride (is_anchored anchored) sid ≤ greatest_number) (sym is)
-    (number-small p anchored sid fit within)
+pub number-kept : {p : RowPlan} (anchored : Anchored) {special : Special} {sid : ℕ} → IsFit p
+    → special ≡ special_in p.nfa → sid < state_len p.nfa
+    → dfa_number_of p.kind special.start_unanchored_id p.stride (is_anchored anchored) sid ≤ greatest_number
+number-kept {p} anchored {sid} fit is within =
+    subst (λ s. dfa_number_of p.kind s.start_unanchored_id p.stride (is_anchored anchored) sid ≤ greatest_number)
+    (sym is) (number-small p anchored sid fit within)
 
 -- ---- the automaton
 
@@ -269,14 +298,6 @@ refused-from s m nfa (StateIDOverflow max requested) other is h =
 refused-from s m nfa (PatternIDOverflow max requested) other is h = absurd h
 refused-from s m nfa (PatternTooLong pattern len) other is h = absurd h
 refused-from s m nfa Memory other is h = h
-
--- if the automaton can't be built from the patterns, no DFA can
-pub refused-parts : (s : Settings) (m : Dictionary) (error : BuildErrorKind) → IsBuildRefused m error
-    → IsTooLargeOr s m (IsBuildRefused m) error
-refused-parts s m (StateIDOverflow max requested) h = inr h
-refused-parts s m (PatternIDOverflow max requested) h = h
-refused-parts s m (PatternTooLong pattern len) h = h
-refused-parts s m Memory h = h
 
 -- the table, the prefilter and the pairing are those of the dictionary
 pub parts-of : (nfa : NFA) (table : Table) (prefilter : Option Filter) (m : Dictionary) → m ≡ dictionary nfa

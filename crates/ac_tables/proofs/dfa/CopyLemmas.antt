@@ -1,8 +1,7 @@
 -- A copy of a table is that of the same dictionary.
-use Rattle.std.proofs.Common.{◌≡◌, ℕ, zero, suc, ◌+◌, ◌-◌, ◌<◌, ◌≤◌, ◌≢◌, ◌↔◌, List, [], length, take, drop, refl, sym, ap, ap₂, subst, ◌∙◌, arith}
+use Rattle.std.proofs.Common.{◌≡◌, ℕ, zero, suc, ◌+◌, ◌-◌, ◌<◌, ◌≤◌, ◌≢◌, ◌↔◌, [], length, take, drop, refl, sym, ap, ap₂, subst, ◌∙◌, arith}
 use Rattle.std.specs.Prelude.{slice_index, ◌==◌, ◌&&◌, ◌/◌, not, nat_le, if◌then◌else◌}
 use Rattle.std.proofs.Math.Logic.{∥∥₁_map}
-use Rattle.ac_input.specs.declared.search.StartKind.{StartKind}
 use Rattle.ac_input.specs.Alphabet.{class}
 use Rattle.ac_input.specs.Dictionary.{Dictionary}
 use Rattle.ac_input.specs.Failure.{IsList}
@@ -82,27 +81,14 @@ moved-rows m old new names s h =
 
 -- the old table with the new vectors is the new table
 moved-is : (old new : Table) → IsSameDfaTable old new → moved old new ≡ new
-moved-is old new s =
-    ap (λ x. record (moved old new) { classes = x }) (sym s.classes)
-    ∙ (ap (λ x. record (moved old new) { classes = new.classes; stride2 = x }) (sym s.stride2)
-    ∙ (ap (λ x. record (moved old new) { classes = new.classes; stride2 = new.stride2; start = x }) (sym s.start)
-    ∙ (ap (λ x. record (moved old new)
-    { classes = new.classes; stride2 = new.stride2; start = new.start; start_anchored = x }) (sym s.start_anchored)
-    ∙ (ap (λ x. record (moved old new) {
-      classes = new.classes;
-      stride2 = new.stride2;
-      start = new.start;
-      start_anchored = new.start_anchored;
-      max_match = x;
-    }) (sym s.max_match)
-    ∙ ap (λ x. record (moved old new) {
-      classes = new.classes;
-      stride2 = new.stride2;
-      start = new.start;
-      start_anchored = new.start_anchored;
-      max_match = new.max_match;
-      kind = x;
-    }) (sym s.kind)))))
+moved-is old new s = λ i. record (moved old new) {
+  classes = sym s.classes i;
+  stride2 = sym s.stride2 i;
+  start = sym s.start i;
+  start_anchored = sym s.start_anchored i;
+  max_match = sym s.max_match i;
+  kind = sym s.kind i;
+}
 
 -- a copy is that of the same dictionary
 pub copy-rows : (m : Dictionary) (old new : Table) → IsSameDfaTable old new

@@ -422,27 +422,9 @@ pub met-both : (nfa : NFA) (a : Anchored) (sid : ℕ) → sid < state_len nfa �
     → (sid < (special_in nfa).start_unanchored_id) ⊎ ((special_in nfa).start_unanchored_id + 1 < sid)
     → MayBeMet nfa a sid
 met-both nfa No sid within past side =
-    record {
-      within = within;
-      stands = λ e. omega (arith, e, past);
-      own =
-          λ e. ⊎_elim (λ (l : sid < (special_in nfa).start_unanchored_id). omega (arith, l, e))
-          (λ (r : (special_in nfa).start_unanchored_id + 1 < sid). omega (arith, r, e)) side;
-    }
+    record { within = within; stands = λ e. omega (arith, e, past); own = λ e. grind arith }
 met-both nfa Yes sid within past side =
-    record {
-      within = within;
-      stands = λ e. omega (arith, e, past);
-      own =
-          λ e. ⊎_elim (λ (l : sid < (special_in nfa).start_unanchored_id). omega (arith, l, e))
-          (λ (r : (special_in nfa).start_unanchored_id + 1 < sid). omega (arith, r, e)) side;
-    }
-
--- each start may be met by its own searches
-pub met-start_plain : (nfa : NFA) → IsReadable nfa → MayBeMet nfa No (special_in nfa).start_unanchored_id
-met-start_plain nfa r =
-    let s = (source-of nfa r).starts in
-    record { within = omega (arith, s.1); stands = λ e. omega (arith, s.0, e); own = λ e. omega (arith, e) }
+    record { within = within; stands = λ e. omega (arith, e, past); own = λ e. grind arith }
 
 pub met-start_own : (nfa : NFA) → IsReadable nfa → MayBeMet nfa Yes ((special_in nfa).start_unanchored_id + 1)
 met-start_own nfa r =

@@ -13,7 +13,7 @@ use Rattle.ac_input.specs.Dfa.{Serves}
 use Rattle.ac_input.specs.Dictionary.{IsPattern}
 use Rattle.ac_input.specs.declared.steps.Steps.{Steps}
 use Rattle.ac_input.proofs.lemmas.LiveLemmas.{dead-best}
-use Rattle.ac_automaton.specs.Ahead.{Frees, IsLaneCut, MayNote, ReadsAhead, ReadsAheadBy}
+use Rattle.ac_automaton.specs.Ahead.{IsLaneCut, MayNote, ReadsAhead, ReadsAheadBy}
 use Rattle.ac_automaton.specs.Automaton.{IsReached, Leads, is_matching}
 use Rattle.ac_automaton.specs.Skip.{MayPass, MayReadBy}
 use Rattle.ac_automaton.proofs.lemmas.CursorLemmas.{leads-none}

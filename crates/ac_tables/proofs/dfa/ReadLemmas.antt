@@ -278,7 +278,3 @@ classes-plain classes is all byte small =
     omega (arith, below, above, all)
 
 -- ---- the layout
-
--- no row is longer than 256 entries
-pub stride-wide : (dfa : DFA) → dfa.table.stride2 ≤ 8
-stride-wide dfa = ∥∥₁_elim dfa.stands le_prop (λ w. w.1.wide)

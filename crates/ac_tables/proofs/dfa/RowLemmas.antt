@@ -107,11 +107,6 @@ row-past starts.Both start true i past h own =
     rows-anchored start i (λ low e. omega (arith, low, h)) (λ more up e. omega (arith, e, h))
     (λ more up e. omega (arith, e, up, past, own))
 
--- a place in a row is a place in the table
-pub place-below : (rows row stride x len : ℕ) → row < rows → x < stride → len ≡ rows * stride → row * stride + x < len
-place-below rows row stride x len low in_row is = let h = mul-add-lt row stride x rows low in_row in
-    omega (arith, h, is)
-
 -- the whole row is within the table
 pub row-room : (rows row stride len : ℕ) → row < rows → len ≡ rows * stride → row * stride + stride ≤ len
 row-room rows row stride len low is =

@@ -21,7 +21,7 @@ use Rattle.ac_noncontiguous.specs.declared.nfa.NFA.{NFA}
 use Rattle.ac_noncontiguous.specs.Nfa.Lookups.{other_start}
 use Rattle.ac_noncontiguous.specs.Nfa.{state_of, AreTables}
 use Rattle.ac_noncontiguous.specs.Nfa.Reads.{dictionary, matches_at}
-use Rattle.ac_noncontiguous.specs.Nfa.ReadCalls.{state_len, classes_in, special_in, MayBeMet, IsReadable}
+use Rattle.ac_noncontiguous.specs.Nfa.ReadCalls.{state_len, special_in, MayBeMet, IsReadable}
 use Rattle.ac_noncontiguous.proofs.nfa.NextLemmas.{state-some, state-none}
 use Rattle.ac_tables.specs.declared.dfa.table.Table.{Table}
 use Rattle.ac_tables.specs.Source.{AreBytesAlone}

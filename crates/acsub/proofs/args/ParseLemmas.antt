@@ -7,7 +7,7 @@ use Rattle.std.specs.Borrow.{Bor}
 use Rattle.std.proofs.lemmas.List.{get_or-map, get_or_default, length-map}
 use Rattle.std.proofs.lemmas.Bool.{and_parts, cases_lt, eqb-true}
 use Rattle.std.proofs.lemmas.Slice.Eq.{bytes_eq-Decides}
-use Rattle.clap.specs.Words.{App, HasKind, HasMatchesOf, IsAmong, Rule, Text, app_of, fault_of, first_of, found_of, is_simple, is_simple_and_free, kind_of, matches_of, one_of, rows_of, rule_of}
+use Rattle.clap.specs.Words.{HasKind, HasMatchesOf, IsAmong, Rule, Text, app_of, fault_of, first_of, found_of, is_simple, is_simple_and_free, kind_of, matches_of, one_of, rows_of, rule_of}
 use Rattle.clap.specs.Walk.{texts}
 use Rattle.clap.specs.Simple.{IsSimple, is_ready, is_ready_leaf}
 use Rattle.clap.specs.Faults.{has_free_rules}

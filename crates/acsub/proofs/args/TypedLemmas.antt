@@ -11,7 +11,6 @@ use Rattle.clap.specs.Built.{IsAuto, IsParsedFrom, IsPlain, SameRules}
 use Rattle.clap.specs.Matches.{first_value, found_of, matched_of, one_text}
 use Rattle.clap.specs.Values.{Accepts, read_as, reading_of}
 use Rattle.clap.specs.Walk.{Text}
-use Rattle.clap.specs.declared.builder.value_parser.Reading.{Reading}
 use Rattle.clap.specs.declared.builder.value_parser.Reading.TheVariants as reading
 use Rattle.clap.specs.declared.builder.action.ArgAction.TheVariants.{Count, Set}
 use Rattle.clap.specs.declared.builder.arg.Arg.{Arg}

@@ -1,9 +1,10 @@
 -- What packed search finds, that the matches of an input lie in order, and what accepted settings say of both.
-use Rattle.std.proofs.Common.{◌≡◌, ◌≢◌, ℕ, ◌<◌, List, [], length, None, inl, inr, refl, sym, ap, ◌∙◌, subst, arith}
+use Rattle.std.proofs.Common.{◌≡◌, ◌≢◌, ℕ, ◌<◌, false, List, [], length, None, inl, inr, refl, ap, ◌∙◌, subst, arith}
 use Rattle.std.proofs.lemmas.Bool.{cases_eq}
-use Rattle.std.proofs.lemmas.List.{length-map, get_or-map, nil_from_length}
+use Rattle.std.proofs.lemmas.List.{length-map, nil_from_length}
 use Rattle.ac_input.specs.declared.search.MatchKind as kinds
 use Rattle.ac_input.specs.declared.search.MatchKind.TheVariants as kind
+use Rattle.ac_input.specs.Dictionary.{whole}
 use Rattle.ac_input.specs.Rules.{Rule}
 use Rattle.ac_input.specs.Computed.{walk_of}
 use Rattle.ac_input.specs.Same.{IsUnpaired, other}
@@ -12,9 +13,9 @@ use Rattle.ac_input.proofs.lemmas.UnpairedLemmas.{walk_after-unpaired}
 use Rattle.ac_input.proofs.lemmas.WalkLemmas.{walk_of-walk}
 use Rattle.ac_literal.specs.Packed.{AreServed, Packed, search_kind, part_search}
 use Rattle.std.specs.Prelude.{get_or}
-use Rattle.ac_automaton.specs.Replace.{LieInOrder}
-use Rattle.acsub.specs.Finder.{IsFinderOf, whole_search, whole_walk}
-use Rattle.acsub.specs.Rules.Lines.{rule_at}
+use Rattle.ac_automaton.specs.InMemory.Replace.{LieInOrder}
+use Rattle.acsub.specs.Finder.{IsFinderOf, whole_walk}
+use Rattle.acsub.specs.Served.{dictionary_for}
 use Rattle.acsub.specs.Args.Settings.{IsAccepted}
 use Rattle.acsub.specs.Rules.Sides.{rule_patterns}
 use Rattle.acsub.specs.Plan.{Plan}
@@ -32,14 +33,14 @@ pub packed-walk : (plan : Plan) (input : List ℕ) (searcher : Packed)
 packed-walk plan input searcher serves =
     ap (λ k. walk_of k (part_search searcher.patterns input 0 (length input))) serves.0.0
     ∙ ap (λ ps. walk_of plan.settings.kind (part_search ps input 0 (length input))) serves.0.1
-    ∙ walk_after-unpaired plan.settings.kind (whole_search plan.settings (rule_patterns plan.rules) input) []
+    ∙ walk_after-unpaired plan.settings.kind (whole (dictionary_for plan.settings plan.rules) input false) []
     plan.settings.pairing unpaired-none serves.1 0 None
 
 -- the matches of a walk over a whole input lie in order
 pub whole-lies : (plan : Plan) (input : List ℕ)
     → LieInOrder (length plan.rules) (length input) 0 (whole_walk plan input)
 whole-lies plan input =
-    let search_in = whole_search plan.settings (rule_patterns plan.rules) input in
+    let search_in = whole (dictionary_for plan.settings plan.rules) input false in
     let lies =
     walk-lies plan.settings.kind search_in 0 None _ (walk_of-walk plan.settings.kind search_in (omega arith)) in
     subst (λ count. LieInOrder count (length input) 0 (whole_walk plan input))
@@ -82,10 +83,8 @@ packed-served s rules accepted packs =
       some = omega arith;
       few = omega arith;
       full = λ number within.
-          let at : get_or (rule_patterns rules) number [] ≡ (rule_at rules number).0 =
-          get_or-map (λ (rule : Rule). rule.0) rules number ([], []) [] (omega arith) in
           let filled : length (get_or (rule_patterns rules) number [])
           ≢ 0 = λ e. accepted error.PackedEmpty
-          (packs, (number, omega arith, sym at ∙ nil_from_length (get_or (rule_patterns rules) number []) e)) in
+          (packs, (number, within, nil_from_length (get_or (rule_patterns rules) number []) e)) in
           omega arith;
     }

@@ -5,7 +5,6 @@ use Rattle.ac_input.specs.Dfa.{Serves}
 use Rattle.ac_input.specs.Dictionary.{Dictionary}
 use Rattle.ac_input.specs.Rules.{Rule}
 use Rattle.ac_input.specs.declared.search.Anchored.TheVariants.{No}
-use Rattle.ac_input.specs.declared.search.StartKind.{StartKind}
 use Rattle.ac_noncontiguous.specs.declared.error.BuildErrorKind.{BuildErrorKind}
 use Rattle.ac_noncontiguous.specs.declared.error.BuildErrorKind.TheVariants as limits
 use Rattle.ac_noncontiguous.specs.declared.settings.Settings.{Settings as BuildSettings}
@@ -17,11 +16,10 @@ use Rattle.aho_corasick.specs.declared.ahocorasick.AhoCorasickKind.{AhoCorasickK
 use Rattle.aho_corasick.specs.declared.ahocorasick.AhoCorasickKind.TheVariants as kinds
 use Rattle.aho_corasick.proofs.lemmas.EngineLemmas.{front-deterministic}
 use Rattle.acsub.specs.Finder.{FailsToBuild, IsFinderOf, IsServing, not_built}
-use Rattle.acsub.specs.Served.{IsAutomatonFor, IsBuildable, IsServedByDfa, automaton_named, builder_by, dictionary_for}
+use Rattle.acsub.specs.Served.{IsBuildable, IsServedByDfa, automaton_named, builder_by, dictionary_for}
 use Rattle.acsub.specs.Rules.Sides.{rule_patterns}
 use Rattle.acsub.specs.declared.prepared.Finder.{Finder}
 use Rattle.acsub.specs.declared.prepared.Finder.TheVariants as finders
-use Rattle.acsub.specs.declared.args.settings.Engine.{Engine}
 use Rattle.acsub.specs.declared.args.settings.Engine.TheVariants as engines
 use Rattle.acsub.specs.declared.args.settings.Settings.{Settings}
 
@@ -33,7 +31,8 @@ taken-dfa s m kinds.ContiguousNFA takes taken = absurd (taken.0 takes)
 taken-dfa s m kinds.NoncontiguousNFA takes taken = absurd (taken.0 takes)
 
 -- if a DFA serves settings and rules, the automaton for them is one
-served-dfa : (settings : Settings) (rules : List Rule) (kind : AhoCorasickKind) → IsAutomatonFor settings rules kind
+served-dfa : (settings : Settings) (rules : List Rule) (kind : AhoCorasickKind)
+    → IsServed (automaton_named settings.engine) (builder_by settings).settings (dictionary_for settings rules) kind
     → IsServedByDfa settings rules → kind ≡ kinds.DFA
 served-dfa settings rules kind served (inl named) =
     (subst (λ e. IsServed (automaton_named e) (builder_by settings).settings (dictionary_for settings rules) kind) named

@@ -1,9 +1,9 @@
 -- A text that is sent in parts, and may stop at a write.
 use Rattle.std.proofs.Common.{◌≡◌, ℕ, List, ◌++◌, Option, Result, Err, subst}
-use Rattle.ac_automaton.specs.Devices.Output.{Sends, Sent, Stopped}
+use Rattle.ac_automaton.specs.Stream.Devices.Output.{Sends, Sent, Stopped}
 use Rattle.ac_automaton.specs.declared.error.StreamError.{StreamError}
-use Rattle.ac_automaton.specs.declared.watched.Watched.{Watched}
-use Rattle.ac_automaton.proofs.devices.OutputLemmas.{Sends-then, Stopped-more}
+use Rattle.ac_automaton.specs.declared.stream.devices.watched.Watched.{Watched}
+use Rattle.ac_automaton.proofs.stream.devices.OutputLemmas.{Sends-then, Stopped-more}
 
 module _ {W : Type 0} (contents : W → Option (List ℕ)) (old mid new : Watched W)
     (held between front bytes text : List ℕ) (before : Sent contents old mid held between front) where

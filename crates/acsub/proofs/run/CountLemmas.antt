@@ -3,19 +3,18 @@ use Rattle.std.proofs.Common.{◌≡◌, ◌++◌, ℕ, ◌-◌, ◌*◌, ◌≤
 use Rattle.std.specs.List.{concat}
 use Rattle.std.specs.Prelude.{IsTrue}
 use Rattle.std.proofs.lemmas.List.{append-nil}
-use Rattle.ac_input.specs.Dictionary.{Dictionary}
 use Rattle.ac_input.specs.Computed.{walk_of}
 use Rattle.ac_input.specs.Input.{Asked, whole_of, search_of}
 use Rattle.ac_input.specs.Occurrence.{Occurrence}
 use Rattle.ac_input.specs.Work.{lookups_per_byte}
 use Rattle.ac_input.specs.declared.steps.Steps.{Steps}
-use Rattle.ac_automaton.specs.Iter.{AnswersFindIter, IsWithinBudget, Walk, WalkCounts, fresh_walk, passed, walk_after_pick}
-use Rattle.ac_automaton.specs.Overlapping.OverlappingIter.{AnswersListing, IsRunAfter, IsWithinOneWalk, Run, RunCounts, fresh_run}
-use Rattle.ac_automaton.specs.Replace.{matches_in}
+use Rattle.ac_automaton.specs.InMemory.Iter.{AnswersFindIter, IsWithinBudget, Walk, WalkCounts, fresh_walk, passed, walk_after_pick}
+use Rattle.ac_automaton.specs.InMemory.Overlapping.OverlappingIter.{AnswersListing, IsRunAfter, IsWithinOneWalk, Run, RunCounts, fresh_run}
+use Rattle.ac_automaton.specs.InMemory.Replace.{matches_in}
 use Rattle.ac_automaton.specs.Stream.{read_again}
-use Rattle.ac_automaton.specs.Stream.StreamReplace.{CostsSearch}
+use Rattle.ac_automaton.specs.Stream.Replace.{CostsSearch}
 use Rattle.ac_automaton.specs.declared.error.MatchErrorKind.{MatchErrorKind}
-use Rattle.ac_automaton.specs.declared.watched.Watched.{Watched}
+use Rattle.ac_automaton.specs.declared.stream.devices.watched.Watched.{Watched}
 use Rattle.aho_corasick.specs.AhoCorasick.{as_built, supported_by}
 use Rattle.aho_corasick.specs.declared.ahocorasick.AhoCorasick.{AhoCorasick}
 use Rattle.acsub.specs.Finder.{IsServing}

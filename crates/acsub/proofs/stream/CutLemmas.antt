@@ -10,8 +10,8 @@ use Rattle.ac_input.specs.Text.{replaced_from}
 use Rattle.ac_input.specs.Work.{shortest}
 use Rattle.ac_input.proofs.lemmas.ContainsLemmas.{Contains-head, Contains-tail}
 use Rattle.ac_automaton.specs.Automaton.{Built}
-use Rattle.ac_automaton.specs.Replace.{LieInOrder, matches_in}
-use Rattle.ac_automaton.specs.Stream.StreamReplace.{replaced_in}
+use Rattle.ac_automaton.specs.InMemory.Replace.{LieInOrder, matches_in}
+use Rattle.ac_automaton.specs.Stream.Replace.{replaced_in}
 use Rattle.ac_automaton.proofs.lemmas.ReplaceLemmas.{matches-lie}
 use Rattle.ac_automaton.proofs.stream.PlacedLemmas.{lies-behind}
 use Rattle.ac_automaton.proofs.stream.StreamCutLemmas.{matches-front}

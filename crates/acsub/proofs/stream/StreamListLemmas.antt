@@ -8,17 +8,17 @@ use Rattle.ac_input.specs.Occurrence.{Occurrence}
 use Rattle.ac_input.specs.Text.{line, listed}
 use Rattle.ac_input.specs.Work.{shortest}
 use Rattle.ac_automaton.specs.Automaton.{Built}
-use Rattle.ac_automaton.specs.Devices.Moved.{NoneTouched}
+use Rattle.ac_automaton.specs.Stream.Devices.Moved.{NoneTouched}
 use Rattle.ac_automaton.specs.Stream.{CanStream, Occurrences, Picks, Sequence, items_of, room_of}
-use Rattle.ac_automaton.specs.Stream.StreamListing.{IsListingConfigRefusal, IsListingRefusal}
-use Rattle.ac_automaton.specs.Stream.StreamPump.{HasComeToCut, IsUntouched, PumpsAt, PumpsMatches, PumpsOccurrences}
-use Rattle.ac_automaton.specs.Stream.StreamReplace.{CostsSearch, IsBegun}
-use Rattle.ac_automaton.specs.Stream.StreamTexts.{sending, text_between}
+use Rattle.ac_automaton.specs.Stream.Overlapping.{IsListingConfigRefusal, IsListingRefusal}
+use Rattle.ac_automaton.specs.Stream.Pump.{HasComeToCut, IsUntouched, PumpsAt, PumpsMatches, PumpsOccurrences}
+use Rattle.ac_automaton.specs.Stream.Replace.{CostsSearch, IsBegun}
+use Rattle.ac_automaton.specs.Stream.Texts.{sending, text_between}
 use Rattle.ac_automaton.specs.declared.error.MatchErrorKind.{MatchErrorKind}
 use Rattle.ac_automaton.specs.declared.error.StreamError.{StreamError}
 use Rattle.ac_automaton.specs.declared.error.StreamError.TheVariants as reads
 use Rattle.ac_automaton.specs.declared.stream.StreamKinds.TheVariants.{AnyKind, OnlyStandard}
-use Rattle.ac_automaton.specs.declared.watched.Watched.{Watched}
+use Rattle.ac_automaton.specs.declared.stream.devices.watched.Watched.{Watched}
 use Rattle.ac_automaton.proofs.stream.TextSinkLemmas.{pumped-begun, pumped-writes}
 use Rattle.aho_corasick.specs.AhoCorasick.{as_built, supported_by}
 use Rattle.aho_corasick.specs.declared.ahocorasick.AhoCorasick.{AhoCorasick}
@@ -27,7 +27,7 @@ use Rattle.acsub.specs.Plan.{Plan}
 use Rattle.acsub.specs.Served.{dictionary_for}
 use Rattle.acsub.specs.Stream.{IfStreamMemory, IsNoRefusal, WritesPlan}
 use Rattle.acsub.specs.Stream.StreamList.{ListsStream, lines-piecewise, lines_of, listing_lines}
-use Rattle.acsub.specs.Run.Transformed.{IsDecidedList, IsOutputFront, IsStreamed, output_of, room_in, stream_room}
+use Rattle.acsub.specs.Run.Transformed.{IsDecidedList, IsOutputFront, IsStreamed, output_of, room_in}
 use Rattle.acsub.specs.Args.Settings.{IsAccepted}
 use Rattle.acsub.specs.declared.args.settings.Mode.{Mode}
 use Rattle.acsub.specs.declared.args.settings.Mode.TheVariants as modes
@@ -51,11 +51,10 @@ never-memory P (Err error) begun = λ e. absurd (subst IsBegun e begun)
 
 -- if memory ran out before the first read, nothing was moved
 pub lists-nothing : {R W : Type 0} (q : Sequence) (remaining : R → Option (List ℕ)) (contents : W → Option (List ℕ))
-    (b : Built) (reader : Watched R) (writer : Watched W)
-    → ListsStream q remaining contents b reader reader writer writer (Err reads.Memory)
-lists-nothing q remaining contents b reader writer = (
+    (b : Built) (old : Watched R × Watched W) → ListsStream q remaining contents b old old (Err reads.Memory)
+lists-nothing q remaining contents b old = (
   nothing_moved,
-  HasMoved-nothing remaining contents reader writer,
+  HasMoved-nothing remaining contents old.0 old.1,
   λ k d lt. absurd (omega arith),
   record { pieces = refl; taken = refl; failed = (refl, refl, refl) },
 )
@@ -79,14 +78,14 @@ refused-every b supports reads.Position can refused = absurd refused
 
 -- ---- what was pumped into the lines
 
--- What a list over a stream read, wrote and cost. No error is a refusal of the search, and where memory ran out, no device
--- was touched.
+-- What a list over a stream read, wrote and cost. No error is a refusal of the search, and where memory ran out, no
+-- device was touched.
 pub record HasListed {R W : Type 0} (q : Sequence) (remaining : R → Option (List ℕ)) (contents : W → Option (List ℕ))
-    (b : Built) (r0 r1 : Watched R) (w0 w1 : Watched W) (before after : Steps)
+    (b : Built) (old new : Watched R × Watched W) (before after : Steps)
     (result : Result (Unit {0}) StreamError) : Type 0 where
-  pub lists : ListsStream q remaining contents b r0 r1 w0 w1 result
-  pub costs : CostsSearch b r0 r1 before after result
-  pub memory : IfStreamMemory result (NoneTouched r0 r1 w0 w1)
+  pub lists : ListsStream q remaining contents b old new result
+  pub costs : CostsSearch b old.0 new.0 before after result
+  pub memory : IfStreamMemory result (NoneTouched old.0 new.0 old.1 new.1)
   pub accepted : IfErr result IsNoRefusal
 
 -- the text that is made of some items is a line for each of them
@@ -101,14 +100,16 @@ module _ {K W : Type 0} (contents : W → Option (List ℕ)) (output : K → Lis
   -- memory ran out before anything happened
   unlisted : (q : Sequence) (error : StreamError) → error ≡ reads.Memory
       → IsUntouched (sending contents output (λ k. listing_lines) accepts) r0 r1 z last before after
-      → HasListed q remaining contents b r0 r1 z.1 last.1 before after (Err error)
+      → HasListed q remaining contents b (r0, z.1) (r1, last.1) before after (Err error)
   unlisted q error is same =
-      subst (λ e. HasListed q remaining contents b r0 r1 z.1 last.1 before after (Err e)) (sym is)
-      (subst (λ r. HasListed q remaining contents b r0 r z.1 last.1 before after (Err reads.Memory)) (sym same.0)
-      (subst (λ (y : K × Watched W). HasListed q remaining contents b r0 r0 z.1 y.1 before after (Err reads.Memory))
+      subst (λ e. HasListed q remaining contents b (r0, z.1) (r1, last.1) before after (Err e)) (sym is)
+      (subst (λ r. HasListed q remaining contents b (r0, z.1) (r, last.1) before after (Err reads.Memory)) (sym same.0)
+      (subst
+      (λ (y : K × Watched W). HasListed q remaining contents b (r0, z.1) (r0, y.1) before after (Err reads.Memory))
       (sym same.1)
-      (subst (λ s. HasListed q remaining contents b r0 r0 z.1 z.1 before s (Err reads.Memory)) (sym same.2) (record {
-        lists = lists-nothing q remaining contents b r0 z.1;
+      (subst (λ s. HasListed q remaining contents b (r0, z.1) (r0, z.1) before s (Err reads.Memory)) (sym same.2)
+      (record {
+        lists = lists-nothing q remaining contents b (r0, z.1);
         costs = cost-nothing b r0 before reads.Memory;
         memory = λ e. (refl, refl);
         accepted = λ refusal e. let apart : reads.Memory ≡ reads.Config refusal = e in cc;
@@ -117,7 +118,7 @@ module _ {K W : Type 0} (contents : W → Option (List ℕ)) (output : K → Lis
   -- the stream was pumped
   listed-stream : (q : Sequence) (result : Result (Unit {0}) StreamError)
       → PumpsAt (sending contents output (λ k. listing_lines) accepts) q remaining b r0 r1 z last before after result
-      → HasListed q remaining contents b r0 r1 z.1 last.1 before after result
+      → HasListed q remaining contents b (r0, z.1) (r1, last.1) before after result
   listed-stream q result pumps =
       let whole = λ (x : List ℕ). lines-between q x 0 (items_of q b.dictionary x) (length x) in
       let front = λ (x : List ℕ) (cut : ℕ) (done : List Occurrence) (to : K × Watched W)
@@ -138,7 +139,7 @@ module _ {K W : Type 0} (contents : W → Option (List ℕ)) (output : K → Lis
   -- the matches were pumped, of a stream that can be searched
   pub matches-listed : CanStream AnyKind b supports → (result : Result (Unit {0}) StreamError)
       → PumpsMatches (sending contents output (λ k. listing_lines) accepts) remaining AnyKind b supports r0 r1 z last
-      before after result → HasListed Picks remaining contents b r0 r1 z.1 last.1 before after result
+      before after result → HasListed Picks remaining contents b (r0, z.1) (r1, last.1) before after result
   matches-listed can (Ok done) pumps = listed-stream Picks (Ok done) pumps.1
   matches-listed can (Err error) (inl none) =
       unlisted Picks error (refused-memory b supports can error none.0) none.1
@@ -147,7 +148,7 @@ module _ {K W : Type 0} (contents : W → Option (List ℕ)) (output : K → Lis
   -- every occurrence was pumped, of a stream that can be searched for them
   pub occurrences-listed : CanStream OnlyStandard b supports → (result : Result (Unit {0}) StreamError)
       → PumpsOccurrences (sending contents output (λ k. listing_lines) accepts) remaining b supports r0 r1 z last before
-      after result → HasListed Occurrences remaining contents b r0 r1 z.1 last.1 before after result
+      after result → HasListed Occurrences remaining contents b (r0, z.1) (r1, last.1) before after result
   occurrences-listed can (Ok done) pumps = listed-stream Occurrences (Ok done) pumps.1
   occurrences-listed can (Err error) (inl none) =
       unlisted Occurrences error (refused-every b supports error can none.0) none.1
@@ -168,7 +169,8 @@ module _ (plan : Plan) (b : Built) (built : b.dictionary ≡ dictionary_for plan
   lines-output Occurrences mode x = ap (λ m. lines_of Occurrences m x) built ∙ output-in plan x modes.Overlap mode
 
   -- the buffer has the room that the plan says
-  lines-room : (q : Sequence) → plan.settings.mode ≡ mode_of q → room_of q b ≡ stream_room plan
+  lines-room : (q : Sequence) → plan.settings.mode ≡ mode_of q
+      → room_of q b ≡ room_in plan.settings.mode plan.rules
   lines-room Picks mode = room-in plan b modes.List built mode refl
   lines-room Occurrences mode = ap (λ asked. room_in asked plan.rules) (sym mode)
 
@@ -189,12 +191,13 @@ module _ (plan : Plan) (b : Built) (built : b.dictionary ≡ dictionary_for plan
   -- a list of the items is the text of the plan
   pub list-plan : {R W : Type 0} (q : Sequence) → plan.settings.mode ≡ mode_of q
       → (q ≡ Occurrences → b.dictionary.kind ≡ Standard)
-      → (remaining : R → Option (List ℕ)) (contents : W → Option (List ℕ)) (r0 r1 : Watched R) (w0 w1 : Watched W)
+      → (remaining : R → Option (List ℕ)) (contents : W → Option (List ℕ)) (old new : Watched R × Watched W)
       (result : Result (Unit {0}) StreamError)
-      → ListsStream q remaining contents b r0 r1 w0 w1 result → WritesPlan remaining contents r0 r1 w0 w1 plan result
-  list-plan q mode standard remaining contents r0 r1 w0 w1 result lists =
+      → ListsStream q remaining contents b old new result
+      → WritesPlan remaining contents old new plan result
+  list-plan q mode standard remaining contents old new result lists =
       writes-plan plan (room_of q b) (lines_of q b.dictionary) (IsDecidedList q b.dictionary) (lines-room q mode)
-      (lines-output q mode) (lines-front q mode standard) remaining contents r0 r1 w0 w1 result lists
+      (lines-output q mode) (lines-front q mode standard) remaining contents old new result lists
 
 -- if the text is written while the input is read, the search of the stream is supported
 pub every-can : (ac : AhoCorasick) (plan : Plan) → IsServing plan.settings plan.rules ac

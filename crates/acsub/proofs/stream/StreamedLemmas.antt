@@ -1,29 +1,30 @@
 -- What a run that writes while it reads has written, given what the automaton's replacement over a stream has.
-use Rattle.std.proofs.Common.{◌≡◌, ◌≢◌, ◌⊎◌, ℕ, ◌≤◌, false, List, [], ◌∷◌, ◌++◌, length, take, Option, None, Result, Ok, Err, inl, inr, suc, refl, sym, ap, ◌∙◌, subst, arith}
+use Rattle.std.proofs.Common.{◌≡◌, ◌≢◌, ◌⊎◌, ℕ, ◌-◌, ◌≤◌, false, List, [], ◌∷◌, ◌++◌, length, take, Option, None, Result, Ok, Err, inl, inr, suc, refl, sym, ap, ◌∙◌, subst, arith}
 use Rattle.std.specs.List.{concat}
+use Rattle.std.proofs.Math.Path.{Σ_path}
 use Rattle.std.proofs.lemmas.List.{append-nil, nil_from_length}
 use Rattle.ac_input.specs.Laws.BeginningLaws.{IsBeginning}
 use Rattle.ac_input.specs.Computed.{walk_of}
 use Rattle.ac_input.specs.Cut.{IsCut}
-use Rattle.ac_input.specs.Dictionary.{Dictionary, whole}
+use Rattle.ac_input.specs.Dictionary.{whole}
 use Rattle.ac_input.specs.Input.{whole_of, search_of}
 use Rattle.ac_input.specs.Rules.{Rule}
 use Rattle.ac_input.specs.Text.{replaced_from}
 use Rattle.ac_input.specs.Work.{longest, shortest}
 use Rattle.ac_input.proofs.lemmas.BeginningLemmas.{listed-beginning}
 use Rattle.ac_automaton.specs.Automaton.{Built}
-use Rattle.ac_automaton.specs.Devices.Buffer.{room_for}
+use Rattle.ac_automaton.specs.Stream.Devices.Buffer.{room_for}
 use Rattle.std.specs.Prelude.{IfErr, OnOk, max}
-use Rattle.ac_automaton.specs.Devices.Moved.{AllFit, AreFilled, Moved, NoneTouched, but_last}
+use Rattle.ac_automaton.specs.Stream.Devices.Moved.{AllFit, Failed, Moved, NoneTouched, but_last}
 use Rattle.ac_automaton.specs.Stream.{CanStream, IsConfigRefusal, IsStreamRefusal, IsFront, IsNear, room_of, Picks}
-use Rattle.ac_automaton.specs.Stream.StreamAnswer.{AnswersWriting, WritesStream, WroteToFailedWrite}
-use Rattle.ac_automaton.specs.Stream.StreamReplace.{AcceptsStream, CostsSearch, IsBegun, ReplacesStream, replaced_in}
+use Rattle.ac_automaton.specs.Stream.Answer.{AnswersWriting, WritesStream, WroteToFailedWrite}
+use Rattle.ac_automaton.specs.Stream.Replace.{AcceptsStream, CostsSearch, IsBegun, ReplacesStream, replaced_in}
 use Rattle.ac_automaton.proofs.stream.StreamAnswerLemmas.{cost-none}
 use Rattle.ac_input.specs.declared.steps.Steps.{Steps}
 use Rattle.ac_automaton.specs.declared.error.MatchErrorKind.{MatchErrorKind}
 use Rattle.ac_automaton.specs.declared.error.StreamError.{StreamError}
 use Rattle.ac_automaton.specs.declared.error.StreamError.TheVariants as stream
-use Rattle.ac_automaton.specs.declared.watched.Watched.{Watched}
+use Rattle.ac_automaton.specs.declared.stream.devices.watched.Watched.{Watched}
 use Rattle.ac_automaton.specs.declared.stream.StreamKinds.TheVariants.{AnyKind}
 use Rattle.acsub.specs.declared.error.RunError.{RunError}
 use Rattle.acsub.specs.declared.args.settings.Mode.{Mode}
@@ -31,16 +32,17 @@ use Rattle.acsub.specs.declared.args.settings.Mode.TheVariants as modes
 use Rattle.acsub.specs.declared.args.settings.Settings.{Settings}
 use Rattle.aho_corasick.specs.AhoCorasick.{as_built, supported_by}
 use Rattle.aho_corasick.specs.declared.ahocorasick.AhoCorasick.{AhoCorasick}
-use Rattle.acsub.specs.Finder.{IsServing, whole_search}
-use Rattle.acsub.specs.Served.{dictionary_for}
-use Rattle.acsub.specs.Run.{AnswersRules, CostsRun, IsRefusal, RanPrepared, RanToFailedWrite, RunsOutFirst}
+use Rattle.acsub.specs.Finder.{IsServing}
+use Rattle.acsub.specs.Served.{IsBuildable, dictionary_for}
+use Rattle.acsub.specs.Run.{AnswersRules, CostsRun, HasBegun, RanRules, RanToFailedWrite}
 use Rattle.acsub.specs.Plan.{Plan}
 use Rattle.acsub.specs.Args.Settings.{HasEmptyPattern, IsAccepted}
 use Rattle.acsub.specs.Rules.Sides.{rule_patterns, replacements_of}
 use Rattle.acsub.specs.Stream.{IfStreamMemory, IsNoRefusal, IsReturnedAs, WritesPlan}
 use Rattle.acsub.proofs.run.CountLemmas.{streamed-cost}
+use Rattle.acsub.proofs.run.RunLemmas.{whole-begins}
 use Rattle.acsub.proofs.stream.CutLemmas.{cut-begins}
-use Rattle.acsub.specs.Run.Transformed.{IsOutputFront, IsStreamed, output_of, room_in, stream_room, text_in}
+use Rattle.acsub.specs.Run.Transformed.{IsOutputFront, IsStreamed, output_of, room_in, text_in}
 use Rattle.ac_input.specs.declared.search.Anchored.{Anchored}
 
 -- ---- a stream that can be searched
@@ -100,10 +102,10 @@ replaces-memory remaining contents b replacements r r' w w' (Err error) replaces
 -- the text of a plan, by its mode
 pub output-in : (plan : Plan) (x : List ℕ) (mode : Mode) → plan.settings.mode ≡ mode
     → text_in mode plan.settings.kind (replacements_of plan.rules)
-    (whole_search plan.settings (rule_patterns plan.rules) x) ≡ output_of plan.settings plan.rules x
+    (whole (dictionary_for plan.settings plan.rules) x false) ≡ output_of plan.settings plan.rules x
 output-in plan x mode is =
     ap (λ asked. text_in asked plan.settings.kind (replacements_of plan.rules)
-    (whole_search plan.settings (rule_patterns plan.rules) x)) (sym is)
+    (whole (dictionary_for plan.settings plan.rules) x false)) (sym is)
 
 -- where matches are replaced, the run's text is that of the automaton's replacement
 replaced-output : (b : Built) (plan : Plan) (x : List ℕ) → b.dictionary ≡ dictionary_for plan.settings plan.rules
@@ -192,19 +194,20 @@ module _ (made text_of : List ℕ → List ℕ) (begun front : List ℕ → List
 -- the room of the buffer depends on the mode, and on the longest of the rules' patterns
 pub room-in : (plan : Plan) (b : Built) (mode : Mode) → b.dictionary ≡ dictionary_for plan.settings plan.rules
     → plan.settings.mode ≡ mode → room_for (max (longest (rule_patterns plan.rules)) 1) ≡ room_in mode plan.rules
-    → room_of Picks b ≡ stream_room plan
+    → room_of Picks b ≡ room_in plan.settings.mode plan.rules
 room-in plan b mode built is same =
     ap (λ d. room_for (max (longest d.patterns) 1)) built ∙ same ∙ ap (λ asked. room_in asked plan.rules) (sym is)
 
 -- what writes the same text as a plan, and as early, writes the text of the plan
 module _ (plan : Plan) (room : ℕ) (made : List ℕ → List ℕ) (begun : List ℕ → List ℕ → Type 0)
-    (fits : room ≡ stream_room plan) (same : (x : List ℕ) → made x ≡ output_of plan.settings plan.rules x)
+    (fits : room ≡ room_in plan.settings.mode plan.rules)
+    (same : (x : List ℕ) → made x ≡ output_of plan.settings plan.rules x)
     (fronts : (x text : List ℕ) → begun x text → IsOutputFront plan.settings plan.rules x text) where
   pub writes-plan : {R W : Type 0} (remaining : R → Option (List ℕ)) (contents : W → Option (List ℕ))
-      (r0 r1 : Watched R) (w0 w1 : Watched W) (result : Result (Unit {0}) StreamError)
-      → WritesStream remaining contents room made begun r0 r1 w0 w1 result
-      → WritesPlan remaining contents r0 r1 w0 w1 plan result
-  writes-plan remaining contents r0 r1 w0 w1 result (m, moved, short, a) = (
+      (old new : Watched R × Watched W) (result : Result (Unit {0}) StreamError)
+      → WritesStream remaining contents room made begun old.0 new.0 old.1 new.1 result
+      → WritesPlan remaining contents old new plan result
+  writes-plan remaining contents old new result (m, moved, short, a) = (
     m,
     moved,
     subst (λ n. AllFit n m.pieces) fits short,
@@ -214,15 +217,15 @@ module _ (plan : Plan) (room : ℕ) (made : List ℕ → List ℕ) (begun : List
 
 -- a replacement over a stream writes the text of a plan that replaces
 pub replace-plan : {R W : Type 0} (remaining : R → Option (List ℕ)) (contents : W → Option (List ℕ)) (b : Built)
-    (plan : Plan) (r0 r1 : Watched R) (w0 w1 : Watched W) (result : Result (Unit {0}) StreamError)
+    (plan : Plan) (old new : Watched R × Watched W) (result : Result (Unit {0}) StreamError)
     → b.dictionary ≡ dictionary_for plan.settings plan.rules → plan.settings.mode ≡ modes.Replace
-    → ReplacesStream remaining contents b (replacements_of plan.rules) r0 r1 w0 w1 result
-    → WritesPlan remaining contents r0 r1 w0 w1 plan result
-replace-plan remaining contents b plan r0 r1 w0 w1 result is mode replaces =
+    → ReplacesStream remaining contents b (replacements_of plan.rules) old.0 new.0 old.1 new.1 result
+    → WritesPlan remaining contents old new plan result
+replace-plan remaining contents b plan old new result is mode replaces =
     writes-plan plan (room_of Picks b) (replaced_in b (replacements_of plan.rules))
     (IsFront b.dictionary (replaced_in b (replacements_of plan.rules))) (room-in plan b modes.Replace is mode refl)
-    (λ x. replaced-output b plan x is mode) (λ x text. replaced-front b plan x text is mode) remaining contents r0 r1 w0
-    w1 result replaces.0
+    (λ x. replaced-output b plan x is mode) (λ x text. replaced-front b plan x text is mode) remaining contents old new
+    result replaces.0
 
 -- ---- what it costs
 
@@ -233,84 +236,85 @@ cost-nothing b r steps error = let cost = cost-none b r steps stream.Memory in (
 
 -- ---- the run's result
 
-module _ (plan : Plan) (m : Moved) (accepted : IsAccepted plan.settings plan.rules) (streamed : IsStreamed plan) where
+-- all pieces but the last
+but_last-take : (pieces : List (List ℕ)) → but_last pieces ≡ take (length pieces - 1) pieces
+but_last-take [] = refl
+but_last-take (piece ∷ []) = refl
+but_last-take (piece ∷ (next ∷ pieces)) =
+    let same : suc (length (next ∷ pieces) - 1) ≡ length (piece ∷ (next ∷ pieces)) - 1 = omega arith in
+    ap (λ ps. piece ∷ ps) (but_last-take (next ∷ pieces)) ∙ ap (λ n. take n (piece ∷ (next ∷ pieces))) same
+
+module _ {R W : Type 0} (old new : Watched R × Watched W) (plan : Plan) (m : Moved)
+    (accepted : IsAccepted plan.settings plan.rules) (within : IsBuildable plan.settings plan.rules)
+    (streamed : IsStreamed plan) (short : AllFit (room_in plan.settings.mode plan.rules) m.pieces) where
+  -- the run got past its build
+  begun : (reads writes stalls : ℕ) → IsBeginning m.taken (output_of plan.settings plan.rules (concat m.pieces))
+      → Failed m reads writes stalls → HasBegun plan m reads writes stalls
+  begun reads writes stalls written failed =
+      record {
+        accepted = accepted;
+        within = within;
+        short = λ _. short;
+        written = written;
+        failed_reads = failed.0;
+        failed_writes = failed.1;
+        stalled_writes = failed.2;
+      }
+
   -- a write that stopped
   streamed_failed : (stalls : ℕ)
       → WroteToFailedWrite (output_of plan.settings plan.rules) (IsOutputFront plan.settings plan.rules) m stalls
       → RanToFailedWrite plan m stalls
   streamed_failed stalls h =
       record {
-        accepted = accepted;
-        streamed = λ _. h.at_least;
+        begun = begun 0 1 stalls h.at_most h.failed;
+        streamed = λ _. (
+          h.at_least.0,
+          subst (λ ps. IsOutputFront plan.settings plan.rules (concat ps) h.at_least.0) (but_last-take m.pieces)
+              h.at_least.1,
+          h.at_least.2,
+        );
         whole_input = λ held. absurd (held streamed);
-        written = h.at_most;
-        failed = h.failed;
       }
 
-  -- the result of the run isn't a refusal, and fits what was moved
-  abbrev Says : Result (Unit {0}) RunError → Type 0
-  Says result = ¬ IsRefusal result × AnswersRules plan m result
-
   pub streamed-says : (searched : Result (Unit {0}) StreamError) (result : Result (Unit {0}) RunError)
-      → IsReturnedAs searched result
+      → IsReturnedAs searched result → IfStreamMemory searched (NoneTouched old.0 new.0 old.1 new.1)
       → AnswersWriting (output_of plan.settings plan.rules) (IsOutputFront plan.settings plan.rules) m searched
-      → Says result
-  streamed-says (Ok done) result is a =
-      subst Says (sym is)
-      (λ refusal. refusal, record { accepted = accepted; whole = a.whole; written = a.written; failed = a.failed })
-  streamed-says (Err (stream.Config error)) result is a = absurd is
-  streamed-says (Err (stream.Read error)) result is a =
-      subst Says (sym is) (
-        λ refusal. refusal,
-        record {
-          accepted = accepted;
-          streamed = λ _. a.written;
-          whole_input = λ held. absurd (held streamed);
-          written = front-begins plan (concat m.pieces) m.taken plan.settings.mode refl streamed a.written;
-          failed = a.failed;
-        },
+      → AnswersRules old new plan m result
+  streamed-says (Ok done) result is memory a =
+      subst (AnswersRules old new plan m) (sym is)
+      (begun 0 0 0 (whole-begins a.written) a.failed, record { whole = a.whole; written = a.written })
+  streamed-says (Err (stream.Config error)) result is memory a = absurd is
+  streamed-says (Err (stream.Read error)) result is memory a =
+      subst (AnswersRules old new plan m) (sym is) (
+        begun 1 0 0 (front-begins plan (concat m.pieces) m.taken plan.settings.mode refl streamed a.written) a.failed,
+        λ _. a.written,
+        λ held. absurd (held streamed),
       )
-  streamed-says (Err (stream.Write error)) result is a = subst Says (sym is) (λ refusal. refusal, streamed_failed 0 a)
-  streamed-says (Err stream.WriteZero) result is a = subst Says (sym is) (λ refusal. refusal, streamed_failed 1 a)
-  streamed-says (Err stream.Memory) result is a =
-      subst Says (sym is) (
-        λ refusal. refusal,
-        record {
-          accepted = accepted;
-          within = λ some. absurd (some a.pieces);
-          streamed = λ _. a.pieces;
-          filled = subst AreFilled (sym a.pieces) tt;
-          written = a.taken;
-          failed = a.failed;
-        },
-      )
-  streamed-says (Err stream.Position) result is a =
-      subst Says (sym is) (
-        λ refusal. refusal,
-        record { accepted = accepted; streamed = streamed; long = a.long; written = a.written; failed = a.failed },
-      )
+  streamed-says (Err (stream.Write error)) result is memory a =
+      subst (AnswersRules old new plan m) (sym is) (streamed_failed 0 a)
+  streamed-says (Err stream.WriteZero) result is memory a =
+      subst (AnswersRules old new plan m) (sym is) (streamed_failed 1 a)
+  streamed-says (Err stream.Memory) result is memory a =
+      let same = memory refl in
+      subst (AnswersRules old new plan m) (sym is) (accepted, inl (Σ_path same.0 same.1))
+  streamed-says (Err stream.Position) result is memory a =
+      subst (AnswersRules old new plan m) (sym is) (begun 0 0 0 a.written a.failed, streamed, a.long)
 
 -- the result of a run that writes while it reads
 pub streamed_answer : {R W : Type 0} (remaining : R → Option (List ℕ)) (contents : W → Option (List ℕ)) (plan : Plan)
     (r r' : Watched R) (w w' : Watched W) (searched : Result (Unit {0}) StreamError)
-    (result : Result (Unit {0}) RunError) → IsAccepted plan.settings plan.rules → IsStreamed plan
-    → IsReturnedAs searched result → WritesPlan remaining contents r r' w w' plan searched
-    → RanPrepared remaining contents r r' w w' plan result
-streamed_answer remaining contents plan r r' w w' searched result accepted streamed returned (m, moved, short, a) =
-    let says = streamed-says plan m accepted streamed searched result returned a in
-    (m, moved, (λ _. short), says.0, says.1)
-
--- if the search that ran out of memory touched no device, nor did the run
-pub streamed_memory : {R W : Type 0} (plan : Plan) (r r' : Watched R) (w w' : Watched W)
-    (searched : Result (Unit {0}) StreamError) (result : Result (Unit {0}) RunError) → IsReturnedAs searched result
-    → IfStreamMemory searched (NoneTouched r r' w w') → RunsOutFirst plan r r' w w' result
-streamed_memory plan r r' w w' (Ok done) result is memory out streamed = absurd (cc (is, out))
-streamed_memory plan r r' w w' (Err (stream.Config error)) result is memory out streamed = absurd is
-streamed_memory plan r r' w w' (Err (stream.Read error)) result is memory out streamed = absurd (cc (is, out))
-streamed_memory plan r r' w w' (Err (stream.Write error)) result is memory out streamed = absurd (cc (is, out))
-streamed_memory plan r r' w w' (Err stream.WriteZero) result is memory out streamed = absurd (cc (is, out))
-streamed_memory plan r r' w w' (Err stream.Memory) result is memory out streamed = memory refl
-streamed_memory plan r r' w w' (Err stream.Position) result is memory out streamed = absurd (cc (is, out))
+    (result : Result (Unit {0}) RunError) → IsAccepted plan.settings plan.rules
+    → IsBuildable plan.settings plan.rules → IsStreamed plan → IsReturnedAs searched result
+    → IfStreamMemory searched (NoneTouched r r' w w') → WritesPlan remaining contents (r, w) (r', w') plan searched
+    → RanRules remaining contents (r, w) (r', w') plan result
+streamed_answer remaining contents plan r r' w w' searched result accepted within streamed returned memory
+    (m, moved, short, a) = (
+      m,
+      moved.reader,
+      moved.writer,
+      streamed-says (r, w) (r', w') plan m accepted within streamed short searched result returned memory a,
+    )
 
 -- what an `Ok` of the search means, an `Ok` of the run means
 returned-ok : (P : Type 0) (searched : Result (Unit {0}) StreamError) (result : Result (Unit {0}) RunError)

@@ -1,10 +1,10 @@
 -- Which settings are accepted.
-use Rattle.std.specs.Prelude.{◌≡◌, ◌≢◌, ℕ, ◌<◌, Bool, true, List, [], length, ◌⊎◌, codes}
+use Rattle.std.specs.Prelude.{◌≡◌, ◌≢◌, ℕ, ◌<◌, Bool, true, List, [], length, ◌⊎◌, codes, Contains}
 use Rattle.ac_input.specs.Same.{IsUnpaired}
 use Rattle.ac_input.specs.Rules.{Rule}
 use Rattle.ac_input.specs.declared.search.MatchKind.TheVariants.{Standard}
 use Rattle.ac_literal.specs.Packed.{most_packed}
-use Rattle.acsub.specs.Rules.Lines.{rule_at}
+use Rattle.acsub.specs.Rules.Sides.{rule_patterns}
 use Rattle.acsub.specs.declared.args.settings.Settings.{Settings}
 use Rattle.acsub.specs.declared.args.settings.Mode.TheVariants.{Overlap}
 use Rattle.acsub.specs.declared.args.settings.Engine.TheVariants.{Packed}
@@ -13,7 +13,7 @@ use Rattle.acsub.specs.declared.args.settings.SettingError.TheVariants.{OverlapL
 
 -- some pattern is empty
 abbrev pub HasEmptyPattern : List Rule → Type 0
-HasEmptyPattern rules = (i : ℕ) × (i < length rules) × ((rule_at rules i).0 ≡ [])
+HasEmptyPattern rules = Contains (rule_patterns rules) []
 
 -- this reason excludes the settings, given the rules
 abbrev pub IsExcluded : Settings → List Rule → SettingError → Type 0

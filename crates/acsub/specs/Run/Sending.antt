@@ -2,9 +2,9 @@
 use Rattle.std.specs.Prelude.{List, [], ℕ, Option, Result}
 use Rattle.ac_input.specs.Rules.{Rule}
 use Rattle.ac_input.specs.Text.{listed, replaced_from}
-use Rattle.ac_automaton.specs.Devices.Output.{Sends}
+use Rattle.ac_automaton.specs.Stream.Devices.Output.{Sends}
 use Rattle.ac_automaton.specs.declared.error.StreamError.{StreamError}
-use Rattle.ac_automaton.specs.declared.watched.Watched.{Watched}
+use Rattle.ac_automaton.specs.declared.stream.devices.watched.Watched.{Watched}
 use Rattle.acsub.specs.Matches.{left_in}
 use Rattle.acsub.specs.Plan.{Plan}
 use Rattle.acsub.specs.Rules.Sides.{replacements_of}

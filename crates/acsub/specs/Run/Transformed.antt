@@ -1,19 +1,17 @@
 -- The text that a run makes of its input, the front of it that is decided early, and when a run may write it early.
-use Rattle.std.specs.Prelude.{◌≡◌, ◌≢◌, ◌⊎◌, ℕ, Bool, List, true, max}
+use Rattle.std.specs.Prelude.{◌≡◌, ◌≢◌, ◌⊎◌, ℕ, List, false, true, max}
 use Rattle.ac_input.specs.declared.search.MatchKind.{MatchKind}
 use Rattle.ac_input.specs.Computed.{walk_of, listing_of}
-use Rattle.ac_input.specs.Dictionary.{Dictionary}
+use Rattle.ac_input.specs.Dictionary.{Dictionary, whole}
 use Rattle.ac_input.specs.Occurrence.{Occurrence, Search}
 use Rattle.ac_input.specs.Rules.{Rule}
 use Rattle.ac_input.specs.Text.{replaced_from, listed}
 use Rattle.ac_input.specs.Work.{longest}
-use Rattle.ac_automaton.specs.Devices.Buffer.{least_room, room_for}
+use Rattle.ac_automaton.specs.Stream.Devices.Buffer.{least_room, room_for}
 use Rattle.ac_automaton.specs.Stream.{Decides, IsFront, Picks, Sequence}
-use Rattle.acsub.specs.declared.args.settings.Engine.TheVariants.{Packed}
 use Rattle.acsub.specs.declared.args.settings.Mode.{Mode}
 use Rattle.acsub.specs.declared.args.settings.Mode.TheVariants as modes
 use Rattle.acsub.specs.declared.args.settings.Settings.{Settings}
-use Rattle.acsub.specs.Finder.{whole_search}
 use Rattle.acsub.specs.Plan.{Plan}
 use Rattle.acsub.specs.Served.{dictionary_for}
 use Rattle.acsub.specs.Args.Settings.{FindsEarly, HasEmptyPattern}
@@ -30,7 +28,7 @@ text_in modes.Overlap kind replacements s = listed (listing_of s)
 -- classes.
 abbrev pub output_of : Settings → List Rule → List ℕ → List ℕ
 output_of settings rules input =
-    text_in settings.mode settings.kind (replacements_of rules) (whole_search settings (rule_patterns rules) input)
+    text_in settings.mode settings.kind (replacements_of rules) (whole (dictionary_for settings rules) input false)
 
 -- The text is written while the input is read. Matches are found by then, and no pattern is empty. Overlapping matches
 -- are listed
@@ -47,9 +45,6 @@ abbrev pub room_in : Mode → List Rule → ℕ
 room_in modes.Replace rules = room_for (max (longest (rule_patterns rules)) 1)
 room_in modes.List rules = room_for (max (longest (rule_patterns rules)) 1)
 room_in modes.Overlap rules = least_room
-
-abbrev pub stream_room : Plan → ℕ
-stream_room plan = room_in plan.settings.mode plan.rules
 
 -- a line for each item that a text decides: under the standard kind, for all of its items
 abbrev pub IsDecidedList : Sequence → Dictionary → List ℕ → List ℕ → Type 0

@@ -6,10 +6,10 @@ use Rattle.ac_input.specs.Text.{line, listed}
 use Rattle.ac_automaton.specs.Automaton.{Built}
 use Rattle.ac_automaton.specs.Stream.{Sequence, items_of, room_of}
 use Rattle.ac_automaton.specs.Stream.SinkLaws.{IsPiecewise}
-use Rattle.ac_automaton.specs.Stream.StreamAnswer.{WritesStream}
-use Rattle.ac_automaton.specs.Stream.StreamTexts.{Texts}
+use Rattle.ac_automaton.specs.Stream.Answer.{WritesStream}
+use Rattle.ac_automaton.specs.Stream.Texts.{Texts}
 use Rattle.ac_automaton.specs.declared.error.StreamError.{StreamError}
-use Rattle.ac_automaton.specs.declared.watched.Watched.{Watched}
+use Rattle.ac_automaton.specs.declared.stream.devices.watched.Watched.{Watched}
 use Rattle.acsub.specs.Run.Transformed.{IsDecidedList}
 
 -- a line for each item of a text
@@ -17,11 +17,11 @@ abbrev pub lines_of : Sequence → Dictionary → List ℕ → List ℕ
 lines_of q m x = listed (items_of q m x)
 
 -- what a list over a stream read and wrote, and its result; no piece was longer than the buffer
-abbrev pub ListsStream : {R W : Type 0} → Sequence → (R → Option (List ℕ)) → (W → Option (List ℕ)) → Built → Watched R
-    → Watched R → Watched W → Watched W → Result (Unit {0}) StreamError → Type 0
-ListsStream q remaining contents b reader_before reader_after writer_before writer_after result =
-    WritesStream remaining contents (room_of q b) (lines_of q b.dictionary) (IsDecidedList q b.dictionary) reader_before
-    reader_after writer_before writer_after result
+abbrev pub ListsStream : {R W : Type 0} → Sequence → (R → Option (List ℕ)) → (W → Option (List ℕ)) → Built
+    → Watched R × Watched W → Watched R × Watched W → Result (Unit {0}) StreamError → Type 0
+ListsStream q remaining contents b old new result =
+    WritesStream remaining contents (room_of q b) (lines_of q b.dictionary) (IsDecidedList q b.dictionary) old.0 new.0
+    old.1 new.1 result
 
 -- a line is made of each item, and nothing of the text
 abbrev pub listing_lines : Texts

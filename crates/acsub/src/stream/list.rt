@@ -11,9 +11,9 @@
 //!
 //! Both buffers are taken before the first read, and no memory after that. Nothing is tried again, and nothing is flushed.
 ghost use Rattle.std.specs.Prelude.{◌≡◌, false, IfErr};
-ghost use Rattle.ac_automaton.specs.Devices.Moved.{NoneTouched};
+ghost use Rattle.ac_automaton.specs.Stream.Devices.Moved.{NoneTouched};
 ghost use Rattle.ac_automaton.specs.Stream.{CanStream, Occurrences, Picks};
-ghost use Rattle.ac_automaton.specs.Stream.StreamReplace.{CostsSearch};
+ghost use Rattle.ac_automaton.specs.Stream.Replace.{CostsSearch};
 ghost use Rattle.ac_automaton.specs.declared.stream.StreamKinds.TheVariants.{AnyKind, OnlyStandard};
 ghost use Rattle.aho_corasick.specs.AhoCorasick.{as_built, supported_by};
 ghost use Rattle.acsub.specs.Stream.{IfStreamMemory, IsNoRefusal};
@@ -40,7 +40,7 @@ struct Lines {
 impl<W: Write> Sink<W> for Lines {
     ghost use Rattle.std.specs.Prelude.{ℕ};
     ghost use Rattle.ac_automaton.specs.Stream.SinkLaws.{sending-begins, sending-joins, sending-precedes};
-    ghost use Rattle.ac_automaton.specs.Stream.StreamTexts.{sending};
+    ghost use Rattle.ac_automaton.specs.Stream.Texts.{sending};
     ghost use Rattle.acsub.specs.Stream.StreamList.{lines-piecewise, listing_lines};
 
     ghost handling = { sending W.contents (λ k. k.output) (λ k. listing_lines) (λ patterns k. Unit {0}) };
@@ -79,7 +79,7 @@ pub(crate) fn list_stream<R: Read, W: Write>(
     // All lines that are decided by what was read, before a read that failed; and no less than those that are decided by all pieces
     // but the last, before a write that failed.
     ensures lists { ListsStream Picks R.remaining W.contents (as_built engine.now)
-        reader.old reader.new writer.old writer.new result }
+        (reader.old, writer.old) (reader.new, writer.new) result }
     ensures costs { CostsSearch (as_built engine.now) reader.old reader.new
         steps.old steps.new result }
     ensures memory { IfStreamMemory result
@@ -111,7 +111,7 @@ pub(crate) fn list_every<R: Read, W: Write>(
     // All lines of what was read, before a read that failed; and no less than those of all pieces but the last, before a write that
     // failed.
     ensures lists { ListsStream Occurrences R.remaining W.contents (as_built engine.now)
-        reader.old reader.new writer.old writer.new result }
+        (reader.old, writer.old) (reader.new, writer.new) result }
     ensures costs { CostsSearch (as_built engine.now) reader.old reader.new
         steps.old steps.new result }
     ensures memory { IfStreamMemory result

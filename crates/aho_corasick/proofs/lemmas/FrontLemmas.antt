@@ -6,7 +6,7 @@ use Rattle.std.specs.declared.alloc.AllocError.{AllocError}
 use Rattle.ac_input.specs.declared.search.MatchKind.{MatchKind}
 use Rattle.ac_input.specs.Dictionary.{dictionary_of}
 use Rattle.ac_input.specs.Same.{IsUnpaired}
-use Rattle.ac_automaton.specs.Replace.{MemoryReplacer, IsReplacedWith, matches_in}
+use Rattle.ac_automaton.specs.InMemory.Replace.{MemoryReplacer, IsReplacedWith, matches_in}
 use Rattle.ac_noncontiguous.specs.declared.error.BuildErrorKind.{BuildErrorKind}
 use Rattle.aho_corasick.specs.declared.ahocorasick.AhoCorasick.{AhoCorasick}
 use Rattle.aho_corasick.specs.declared.ahocorasick.builder.AhoCorasickBuilder.{AhoCorasickBuilder}

@@ -7,7 +7,7 @@ use Rattle.ac_input.specs.Listing.{IsListing}
 use Rattle.ac_input.specs.Occurrence.{Occurrence}
 use Rattle.ac_input.proofs.lemmas.ListingLemmas.{listing_of-lists}
 use Rattle.ac_automaton.specs.Automaton.{Built, listing_in}
-use Rattle.ac_automaton.specs.Overlapping.OverlappingIter.{AnswersListing, Run, rest_of}
+use Rattle.ac_automaton.specs.InMemory.Overlapping.OverlappingIter.{AnswersListing, Run, rest_of}
 use Rattle.ac_automaton.specs.declared.error.MatchErrorKind.{MatchErrorKind}
 
 -- a run that has not begun has the whole listing of the text left

@@ -7,15 +7,15 @@ use Rattle.ac_input.specs.declared.steps.Steps.{Steps}
 use Rattle.ac_input.specs.Dfa.{Serves}
 use Rattle.ac_automaton.specs.Automaton.{Built, refusal_of}
 use Rattle.ac_automaton.specs.Stream.{CanStream, IsConfigRefusal, IsStreamRefusal}
-use Rattle.ac_automaton.specs.Stream.StreamListing.{IsListingRefusal}
-use Rattle.ac_automaton.specs.Stream.StreamPump.{Handling, PumpsMatches, PumpsOccurrences}
-use Rattle.ac_automaton.specs.Stream.StreamReplace.{AcceptsStream}
+use Rattle.ac_automaton.specs.Stream.Overlapping.{IsListingRefusal}
+use Rattle.ac_automaton.specs.Stream.Pump.{Handling, PumpsMatches, PumpsOccurrences}
+use Rattle.ac_automaton.specs.Stream.Replace.{AcceptsStream}
 use Rattle.ac_automaton.specs.declared.error.MatchErrorKind.{MatchErrorKind}
 use Rattle.ac_automaton.specs.declared.error.StreamError.{StreamError}
 use Rattle.ac_automaton.specs.declared.error.StreamError.TheVariants.{Config, Read, Write, WriteZero, Memory, Position}
 use Rattle.ac_automaton.specs.declared.stream.StreamKinds.{StreamKinds}
 use Rattle.ac_automaton.specs.declared.stream.StreamKinds.TheVariants.{AnyKind, OnlyStandard}
-use Rattle.ac_automaton.specs.declared.watched.Watched.{Watched}
+use Rattle.ac_automaton.specs.declared.stream.devices.watched.Watched.{Watched}
 use Rattle.aho_corasick.specs.declared.engine.Engine.{Engine}
 use Rattle.aho_corasick.specs.Engine.{engine_supported_by}
 use Rattle.aho_corasick.proofs.lemmas.EngineLemmas.{refusal-served}

@@ -15,7 +15,7 @@ use Rattle.ac_input.specs.Walk.{Here}
 use Rattle.ac_input.proofs.lemmas.TextLemmas.{replaced-identity}
 use Rattle.ac_input.proofs.lemmas.WalkLemmas.{walk_after-none, walk_of-walk}
 use Rattle.ac_automaton.specs.Automaton.{Built}
-use Rattle.ac_automaton.specs.Replace.{AnswersReplaceAll, AnswersReplaceAllWith, IsReplacedWith, LieInOrder, MemoryReplacer, calls_of, cuts_none, matches_in, text_matches_in}
+use Rattle.ac_automaton.specs.InMemory.Replace.{AnswersReplaceAll, AnswersReplaceAllWith, IsReplacedWith, LieInOrder, MemoryReplacer, calls_of, cuts_none, matches_in, text_matches_in}
 use Rattle.ac_input.specs.Text.{replaced_from}
 use Rattle.ac_automaton.specs.declared.error.ReplaceError.{ReplaceError}
 use Rattle.ac_automaton.proofs.lemmas.ReplaceLemmas.{matches-lie}

@@ -16,19 +16,19 @@ use Rattle.ac_input.specs.declared.search.Anchored.{Anchored}
 use Rattle.ac_input.specs.declared.steps.Steps.{Steps}
 use Rattle.ac_input.specs.Occurrence.{Occurrence}
 use Rattle.ac_automaton.specs.Automaton.{Built}
-use Rattle.ac_automaton.specs.Devices.Moved.{AreFilled}
-use Rattle.ac_automaton.specs.Replace.{LieInOrder, matches_in, Replacer}
+use Rattle.ac_automaton.specs.Stream.Devices.Moved.{AreFilled}
+use Rattle.ac_automaton.specs.InMemory.Replace.{LieInOrder, matches_in, Replacer}
 use Rattle.ac_automaton.specs.Stream.{Picks, Sequence, StreamProgress, fresh_progress, items_of, read_by}
-use Rattle.ac_automaton.specs.Stream.StreamIter.{HasGained, NextGives}
-use Rattle.ac_automaton.specs.Stream.StreamPump.{IsSinkChain, Pumps}
-use Rattle.ac_automaton.specs.Stream.StreamReplace.{CostsStream, IsStreamCost, ReplacesStream, replaced_in}
-use Rattle.ac_automaton.specs.Stream.StreamReplaceWith.{ReplacesStreamWith, calling}
+use Rattle.ac_automaton.specs.Stream.Iter.{HasGained, NextGives}
+use Rattle.ac_automaton.specs.Stream.Pump.{IsSinkChain, Pumps}
+use Rattle.ac_automaton.specs.Stream.Replace.{CostsStream, IsStreamCost, ReplacesStream, replaced_in}
+use Rattle.ac_automaton.specs.Stream.ReplaceWith.{ReplacesStreamWith, calling}
 use Rattle.ac_automaton.specs.declared.stream.replace_with.Calling.{Calling}
 use Rattle.ac_automaton.specs.declared.error.StreamError.{StreamError}
 use Rattle.ac_automaton.specs.declared.stream.StreamKinds.{StreamKinds}
-use Rattle.ac_automaton.specs.declared.watched.Watched.{Watched}
+use Rattle.ac_automaton.specs.declared.stream.devices.watched.Watched.{Watched}
 use Rattle.ac_automaton.proofs.lemmas.CursorLemmas.{slice_range-split}
-use Rattle.ac_automaton.proofs.devices.MovedLemmas.{turns-filled}
+use Rattle.ac_automaton.proofs.stream.devices.MovedLemmas.{turns-filled}
 use Rattle.ac_automaton.proofs.lemmas.ReplaceLemmas.{matches-lie}
 use Rattle.aho_corasick.specs.declared.ahocorasick.AhoCorasick.{AhoCorasick}
 use Rattle.aho_corasick.specs.AhoCorasick.{as_built}

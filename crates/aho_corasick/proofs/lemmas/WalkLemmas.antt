@@ -2,11 +2,11 @@
 use Rattle.std.proofs.Common.{◌≡◌, ℕ, List, Result, Ok, ◌∙◌, ap, subst}
 use Rattle.ac_input.specs.declared.search.Anchored.{Anchored}
 use Rattle.ac_input.specs.Input.{Asked, whole_of}
-pub use Rattle.ac_automaton.proofs.iter.ItemsLemmas.{matches-few}
+pub use Rattle.ac_automaton.proofs.in_memory.iter.ItemsLemmas.{matches-few}
 use Rattle.ac_automaton.specs.Automaton.{Built, walk_in}
-use Rattle.ac_automaton.specs.Iter.{AnswersFindIter, Walk, left_of}
+use Rattle.ac_automaton.specs.InMemory.Iter.{AnswersFindIter, Walk, left_of}
 use Rattle.ac_automaton.specs.declared.error.MatchErrorKind.{MatchErrorKind}
-use Rattle.ac_automaton.specs.Replace.{matches_in}
+use Rattle.ac_automaton.specs.InMemory.Replace.{matches_in}
 
 -- a walk that has not begun has all matches of the text left
 pub left-all : (b : Built) (supports : Anchored → Type 0) (text : List ℕ) (asked : Asked)

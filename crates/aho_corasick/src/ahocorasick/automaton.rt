@@ -10,8 +10,8 @@ use ac_automaton::automaton::{Advance, Automaton};
 use ac_automaton::error::MatchError;
 use ac_automaton::overlapping::{Position, Shown};
 use ac_automaton::search::Search;
+use ac_automaton::stream::Progress;
 use ac_automaton::stream::overlapping::{ListPlace, Listed};
-use ac_automaton::stream::{Progress, Searched};
 use ac_input::primitives::{PatternID, StateID};
 use ac_input::search::{Anchored, Input, Match, MatchKind, StartKind};
 use ac_input::steps::Steps;
@@ -211,11 +211,11 @@ impl Search for AhoCorasick {
     fn search_stream(
         &self,
         start: StateID,
-        progress: &Progress,
+        progress: &mut Progress,
         held: &[u8],
         ahead: &mut Ahead,
         steps: &mut Steps,
-    ) -> Searched {
+    ) -> Option<Match> {
         dispatch!(self.search_stream(start, progress, held, ahead, steps))
     }
 

@@ -7,10 +7,10 @@
 //! takes memory.
 ghost use Rattle.std.specs.Prelude.{◌≡◌, ◌↔◌, IfOk, IfSome, IsTrue, length, ◌+◌, ◌≤◌};
 ghost use Rattle.ac_automaton.specs.Automaton.{Finds, CostsFind, IsFound, searched};
-ghost use Rattle.ac_automaton.specs.Iter.{AnswersFindIter, AnswersFindIterFrom, IsPlaceIn, left_of};
-ghost use Rattle.ac_automaton.specs.Overlapping.{ShowsNext, AnswersOverlapping, IsOverlappingCost};
-ghost use Rattle.ac_automaton.specs.Overlapping.OverlappingIter.{AnswersListing, rest_of};
-ghost use Rattle.ac_automaton.specs.Items.{AreFewForEach, MatchesAreInOrder, EachLiesWithin, FindsWithin, LiesWithin};
+ghost use Rattle.ac_automaton.specs.InMemory.Iter.{AnswersFindIter, AnswersFindIterFrom, IsPlaceIn, left_of};
+ghost use Rattle.ac_automaton.specs.InMemory.Overlapping.{ShowsNext, AnswersOverlapping, IsOverlappingCost};
+ghost use Rattle.ac_automaton.specs.InMemory.Overlapping.OverlappingIter.{AnswersListing, rest_of};
+ghost use Rattle.ac_automaton.specs.InMemory.Items.{AreFewForEach, MatchesAreInOrder, EachLiesWithin, FindsWithin, LiesWithin};
 ghost use Rattle.aho_corasick.specs.AhoCorasick.{as_built, kind_of, supported_by, CameFromCalls, HasOccurrence, IsWalkOver, IsRunOver};
 
 use super::{AhoCorasick, FindIter, FindIterAhead, FindOverlappingIter};

@@ -4,11 +4,11 @@ use Rattle.std.specs.Borrow.{Bor}
 use Rattle.std.specs.List.{concat}
 use Rattle.std.proofs.lemmas.List.{append-nil}
 use Rattle.ac_input.specs.declared.search.MatchKind.TheVariants.{Standard}
-use Rattle.ac_automaton.specs.Devices.Moved.{AreFilled}
-use Rattle.ac_automaton.specs.Devices.Output.{Sent}
+use Rattle.ac_automaton.specs.Stream.Devices.Moved.{AreFilled}
+use Rattle.ac_automaton.specs.Stream.Devices.Output.{Sent}
 use Rattle.ac_automaton.specs.Stream.{Sequence, StreamProgress}
-use Rattle.ac_automaton.specs.Stream.StreamIter.{IsReadForItem}
-use Rattle.ac_automaton.specs.declared.watched.Watched.{Watched}
+use Rattle.ac_automaton.specs.Stream.Iter.{IsReadForItem}
+use Rattle.ac_automaton.specs.declared.stream.devices.watched.Watched.{Watched}
 
 -- under standard no piece that was read for a match is empty
 pub filled-standard : {q : Sequence} (s t : StreamProgress q) (gained : List (List ℕ))

@@ -3,9 +3,9 @@ use Rattle.std.proofs.Common.{◌≡◌, ℕ, false, ◌+◌, ◌-◌, ◌<◌, 
 use Rattle.std.specs.List.{concat}
 use Rattle.ac_input.specs.Occurrence.{Occurrence}
 use Rattle.ac_automaton.specs.Automaton.{Built}
-use Rattle.ac_automaton.specs.Replace.{matches_in}
+use Rattle.ac_automaton.specs.InMemory.Replace.{matches_in}
 use Rattle.ac_automaton.specs.Stream.{CanBeCounted, FindsHeld, StreamProgress, closed_by, may_wait, read_by, Picks}
-use Rattle.ac_automaton.specs.Stream.StreamPush.{TakesBytes}
+use Rattle.ac_automaton.specs.Stream.Push.{TakesBytes}
 use Rattle.ac_automaton.proofs.stream.PlacedLemmas.{each-closed}
 use Rattle.example_callers.specs.Pushed.{HasGathered, IsGathered, IsSame, WentOn}
 

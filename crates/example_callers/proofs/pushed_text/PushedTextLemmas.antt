@@ -5,8 +5,8 @@ use Rattle.ac_input.specs.Occurrence.{Occurrence}
 use Rattle.ac_input.specs.Text.{replaced_from}
 use Rattle.ac_automaton.specs.Automaton.{Built}
 use Rattle.ac_automaton.specs.Stream.{CanBeCounted, ReadsNothing, StreamProgress, closed_by, cut_of, read_by, Picks}
-use Rattle.ac_automaton.specs.Stream.StreamReplace.{replaced_in}
-use Rattle.ac_automaton.specs.Stream.StreamReplacer.{HandsOut, PushesText, ReplacerProgress, fresh_replacer, handed_out, decided_to, replaced_by}
+use Rattle.ac_automaton.specs.Stream.Replace.{replaced_in}
+use Rattle.ac_automaton.specs.Stream.Replacer.{HandsOut, PushesText, ReplacerProgress, fresh_replacer, handed_out, decided_to, replaced_by}
 use Rattle.ac_automaton.proofs.stream.PlacedLemmas.{ReadsNothing-then}
 use Rattle.example_callers.specs.PushedText.{AppendsDecided, AppendsNext, IsTextSoFar, IsTextOfPieces, PushingText, TextWentOn}
 

@@ -5,8 +5,7 @@ use Rattle.ac_automaton.proofs.lanes.begin.Goals as goal
 
 pub returns : goal.returns
 returns c =
-    cut-bytes c.args.after.now c.args.bytes.now c.args.at c.args.sid c.args.start c.args.len _ c.args.slots _
-    c.in_ok-b.b c.in_ok-c.c c.in_ok-d.d
+    cut-bytes c.args.at c.args.sid c.args.start c.args.len _ c.args.slots _
     c.begin.result c.begin-2.result c.begin-3.result c.begin-4.result (omega arith) (omega arith)
     c.in_ok-b.ensures c.in_ok-c.ensures c.in_ok-d.ensures c.begin.ensures c.begin-2.ensures c.begin-3.ensures
     c.begin-4.ensures

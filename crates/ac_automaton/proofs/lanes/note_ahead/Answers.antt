@@ -34,13 +34,13 @@ read_lanes-lanes-requires-clause-walked g c =
     let start : IsReached R c.args.start = ∣ ([], c.requires.may.starts) ∣₁ in
     let within = c.requires.within in
     record {
-      a = walked-begun R stops bytes c.args.at c.args.sid slots begun.a begin.a
+      a = walked-begun R stops bytes begin.a
           (omega (arith, begin.cut_b.within, within)) c.requires.reached;
-      b = walked-begun R stops bytes begun.a.end c.args.start slots begun.b begin.b
+      b = walked-begun R stops bytes begin.b
           (omega (arith, begin.cut_c.within, within)) start;
-      c = walked-begun R stops bytes begun.b.end c.args.start slots begun.c begin.c
+      c = walked-begun R stops bytes begin.c
           (omega (arith, begin.cut_d.within, within)) start;
-      d = walked-begun R stops bytes begun.c.end c.args.start slots begun.d begin.d (omega (arith, begin.last, within))
+      d = walked-begun R stops bytes begin.d (omega (arith, begin.last, within))
           start;
     }
 

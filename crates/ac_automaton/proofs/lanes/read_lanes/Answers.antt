@@ -1,10 +1,13 @@
 -- Lanes read on, and store their notes.
-use Rattle.std.proofs.Common.{◌≡◌, length}
+use Rattle.std.proofs.Common.{◌≡◌, ◌≤◌, length}
+use Rattle.std.specs.Prelude.{unwrap_or}
+use Rattle.ac_automaton.specs.Ahead.{HasMore}
+use Rattle.ac_automaton.proofs.lanes.StoreLemmas.{StoreInTurn}
 use Rattle.ac_input.specs.declared.search.Anchored.TheVariants.{No}
 use Rattle.ac_input.specs.declared.search.MatchKind.TheVariants.{Standard}
 use Rattle.ac_automaton.specs.declared.lanes.Lanes.{Lanes}
 use Rattle.ac_automaton.proofs.lanes.CountLemmas.{read-none}
-use Rattle.ac_automaton.proofs.lanes.TurnLemmas.{last-all, last-noted, noted-none, own-places, stays, stays-last, stays-read, turn-noted, turn-walked}
+use Rattle.ac_automaton.proofs.lanes.TurnLemmas.{last-all, last-noted, noted-none, own-places, stay-all, stays-last, stays-read, turn-noted, turn-walked}
 use Rattle.ac_automaton.proofs.lanes.read_lanes.Goals as goal
 
 pub loop-left-init : goal.loop-left-init
@@ -39,25 +42,23 @@ loop-left-preserved g c =
     } in
     let inv = c.loop-left.invariant in
     let went = c.walk-gone.ensures in
-    let sa = c.settle.ensures in
-    let sb = c.settle-in-loop-left.ensures in
-    let sc = c.settle-in-loop-left-2.ensures in
-    let sd = c.settle-in-loop-left-3.ensures in
+    let stored : StoreInTurn (λ lane. lane.sid ≤ c.args.last) (λ lane. unwrap_or c.args.anew lane.sid) _ _ _ _ _ gone
+    after =
+    record {
+      a = c.settle.ensures;
+      b = c.settle-in-loop-left.ensures;
+      c = c.settle-in-loop-left-2.ensures;
+      d = c.settle-in-loop-left-3.ensures;
+    } in
     let own = own-places _ _ _ _ _ _ may.quiet may.some c.args.begun lanes c.args.notes.now c.loop-left.notes
     c.requires.begun inv.noted c.loop-left.auto.notes in
     record {
       left = c.left-left-in-loop-left.ensures;
       walked = turn-walked _ _ _ _ _ _ may.quiet may.some c.args.begun lanes after _ _ _ _ _ c.requires.apart own
-          inv.walked inv.noted gone c.requires.anew went.gone sa sb sc sd;
+          inv.walked inv.noted gone c.requires.anew went.gone stored;
       noted = turn-noted _ _ _ _ _ _ may.quiet may.some c.args.begun lanes after _ _ _ _ _ c.requires.apart own
-          inv.walked inv.noted gone c.loop-left.left c.loop-left-test.true inv.left went.gone sa sb sc sd;
-      read = stays-read c.args.begun lanes gone after _ _ _ inv.read went.read
-          (record {
-            a = stays _ _ _ _ _ _ sa;
-            b = stays _ _ _ _ _ _ sb;
-            c = stays _ _ _ _ _ _ sc;
-            d = stays _ _ _ _ _ _ sd;
-          });
+          inv.walked inv.noted gone c.loop-left.left c.loop-left-test.true inv.left went.gone stored;
+      read = stays-read inv.read went.read (stay-all stored);
     }
 
 pub returns : goal.returns
@@ -67,26 +68,27 @@ returns g c =
     let after : Lanes =
     record { a = c.finish.result; b = c.finish-2.result; c = c.finish-3.result; d = c.finish-4.result } in
     let inv = c.loop-left.invariant in
-    let sa = c.finish.ensures in
-    let sb = c.finish-2.ensures in
-    let sc = c.finish-3.ensures in
-    let sd = c.finish-4.ensures in
+    let stored : StoreInTurn HasMore (λ lane. lane.sid) _ _ _ _ _ lanes after =
+    record {
+      a = c.finish.ensures;
+      b = c.finish-2.ensures;
+      c = c.finish-3.ensures;
+      d = c.finish-4.ensures;
+    } in
     let own = own-places _ _ _ _ _ _ may.quiet may.some c.args.begun lanes c.args.notes.now c.loop-left.notes
     c.requires.begun inv.noted c.loop-left.auto.notes in
     record {
       noted = last-noted _ _ _ _ _ _ may.quiet may.some c.args.begun lanes after _ _ _ _ _ c.requires.apart own
-          inv.walked inv.noted sa sb sc sd;
+          inv.walked inv.noted stored;
       all = record {
-        a = last-all _ _ c.args.anew _ _ _ may.quiet may.some _ _ lanes.a after.a inv.walked.a inv.noted.a.full sa;
-        b = last-all _ _ c.args.anew _ _ _ may.quiet may.some _ _ lanes.b after.b inv.walked.b inv.noted.b.full sb;
-        c = last-all _ _ c.args.anew _ _ _ may.quiet may.some _ _ lanes.c after.c inv.walked.c inv.noted.c.full sc;
-        d = last-all _ _ c.args.anew _ _ _ may.quiet may.some _ _ lanes.d after.d inv.walked.d inv.noted.d.full sd;
+        a = last-all _ _ c.args.anew _ _ _ may.quiet may.some _ _ lanes.a after.a inv.walked.a inv.noted.a.full
+            stored.a;
+        b = last-all _ _ c.args.anew _ _ _ may.quiet may.some _ _ lanes.b after.b inv.walked.b inv.noted.b.full
+            stored.b;
+        c = last-all _ _ c.args.anew _ _ _ may.quiet may.some _ _ lanes.c after.c inv.walked.c inv.noted.c.full
+            stored.c;
+        d = last-all _ _ c.args.anew _ _ _ may.quiet may.some _ _ lanes.d after.d inv.walked.d inv.noted.d.full
+            stored.d;
       };
-      read = stays-last c.args.begun lanes after _ _ inv.read
-          (record {
-            a = stays _ _ _ _ _ _ sa;
-            b = stays _ _ _ _ _ _ sb;
-            c = stays _ _ _ _ _ _ sc;
-            d = stays _ _ _ _ _ _ sd;
-          });
+      read = stays-last inv.read (stay-all stored);
     }

@@ -36,7 +36,7 @@ loop-read-preserved g c =
           (omega (arith, left.c some)) c.step-c.ensures.next past.2;
       d = turn-on R bytes last c.args.lanes.d c.loop-read.read c.loop-read.d c.step-d.result inv.d
           (omega (arith, left.d some)) c.step-d.ensures.next past.3;
-      counted = done-turn c.loop-read.read _ _ _ _ _ _ inv.counted c.step-a.ensures.cost c.step-b.ensures.cost
+      counted = done-turn c.loop-read.read inv.counted c.step-a.ensures.cost c.step-b.ensures.cost
           c.step-c.ensures.cost c.step-d.ensures.cost;
     }
 
@@ -79,13 +79,13 @@ returns-clause-gone g c =
 pub returns-then-any_up_to-clause-read : goal.returns-then-any_up_to-clause-read
 returns-then-any_up_to-clause-read g c =
     let on = c.on.ensures in
-    read-by c.args.lanes c.on.result _ _ _ _ _ _ _ on.a on.b on.c on.d
-    (done-turn c.loop-read.read _ _ _ _ _ _ c.loop-read.invariant.counted c.step-a.ensures.cost c.step-b.ensures.cost
+    read-by c.args.lanes c.on.result _ _ _ _ _ on.a on.b on.c on.d
+    (done-turn c.loop-read.read c.loop-read.invariant.counted c.step-a.ensures.cost c.step-b.ensures.cost
     c.step-c.ensures.cost c.step-d.ensures.cost)
 
 pub returns-clause-read : goal.returns-clause-read
 returns-clause-read g c =
     let on = c.on-2.ensures in
     let all : c.loop-read.read ≡ c.args.len = omega arith in
-    read-by c.args.lanes c.on-2.result c.args.len _ _ _ _ _ _ on.a on.b on.c on.d
+    read-by c.args.lanes c.on-2.result c.args.len _ _ _ _ on.a on.b on.c on.d
     (subst (λ n. Done (4 * n) 0 0 c.args.steps.now c.loop-read.steps) all c.loop-read.invariant.counted)

@@ -1,35 +1,36 @@
 -- A turn finds an item of what was read, or reads once.
 use Rattle.std.proofs.Common.{rules, subst, sym, ◌∙◌}
-use Rattle.ac_automaton.specs.Stream.{StreamCounts}
+use Rattle.ac_automaton.specs.Stream.{GoesOn, StreamCounts}
 use Rattle.ac_automaton.proofs.stream.StreamIterLemmas.{turn-failed}
+use Rattle.ac_automaton.proofs.stream.search_or_read.Given.{Over}
 use Rattle.ac_automaton.proofs.stream.search_or_read.Goals as goal
+use Rattle.ac_automaton.proofs.stream.search_or_read.Goals.{After-read_on}
 use Rattle.ac_automaton.proofs.stream.StreamCountLemmas.{StreamCounts-then}
+
+-- what the search and the read counted
+counted : (g : Over) (c : After-read_on g)
+    → GoesOn (g.S.ItemSearch.progress c.args.stream.now) (g.S.ItemSearch.progress c.read_on.new.self) c.args.steps.now
+    c.read_on.new.steps
+counted g c = (
+  StreamCounts-then (g.S.ItemSearch.progress c.args.stream.now) (g.S.ItemSearch.progress c.next_held.new.self)
+      (g.S.ItemSearch.progress c.read_on.new.self) c.args.steps.now c.next_held.new.steps c.read_on.new.steps
+      c.next_held.ensures.goes.0 c.read_on.ensures.goes.0,
+  c.read_on.ensures.goes.1,
+)
 
 pub returns-in-Ok-eq0-clause-goes : goal.returns-in-Ok-eq0-clause-goes
 returns-in-Ok-eq0-clause-goes g c = (
   subst (λ t. StreamCounts (g.S.ItemSearch.progress c.args.stream.now) t c.args.steps.now c.read_on.new.steps)
       (sym c.close.ensures.closed)
-      (StreamCounts-then (g.S.ItemSearch.progress c.args.stream.now) (g.S.ItemSearch.progress c.next_held.new.self)
-      (g.S.ItemSearch.progress c.read_on.new.self) c.args.steps.now c.next_held.new.steps c.read_on.new.steps
-      c.next_held.ensures.goes.0 c.read_on.ensures.goes.0),
+      (counted g (goal.at.returns-in-Ok-eq0-clause-goes g c).After-read_on).0,
   c.close.ensures.kept,
 )
 
 pub returns-in-Ok-clause-goes : goal.returns-in-Ok-clause-goes
-returns-in-Ok-clause-goes g c = (
-  StreamCounts-then (g.S.ItemSearch.progress c.args.stream.now) (g.S.ItemSearch.progress c.next_held.new.self)
-      (g.S.ItemSearch.progress c.read_on.new.self) c.args.steps.now c.next_held.new.steps c.read_on.new.steps
-      c.next_held.ensures.goes.0 c.read_on.ensures.goes.0,
-  c.read_on.ensures.goes.1,
-)
+returns-in-Ok-clause-goes g c = counted g (goal.at.returns-in-Ok-clause-goes g c).After-read_on
 
 pub returns-in-Err-clause-goes : goal.returns-in-Err-clause-goes
-returns-in-Err-clause-goes g c = (
-  StreamCounts-then (g.S.ItemSearch.progress c.args.stream.now) (g.S.ItemSearch.progress c.next_held.new.self)
-      (g.S.ItemSearch.progress c.read_on.new.self) c.args.steps.now c.next_held.new.steps c.read_on.new.steps
-      c.next_held.ensures.goes.0 c.read_on.ensures.goes.0,
-  c.read_on.ensures.goes.1,
-)
+returns-in-Err-clause-goes g c = counted g (goal.at.returns-in-Err-clause-goes g c).After-read_on
 
 pub returns-in-Err-clause-gives : goal.returns-in-Err-clause-gives
 returns-in-Err-clause-gives g c =

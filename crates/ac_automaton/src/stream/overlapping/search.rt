@@ -11,18 +11,18 @@ ghost use Rattle.ac_input.specs.declared.search.Anchored.TheVariants.{No};
 ghost use Rattle.ac_automaton.specs.Ahead.{IsPaid};
 ghost use Rattle.ac_automaton.specs.Automaton.{IsState};
 ghost use Rattle.ac_automaton.specs.Stream.{AreAllGiven, CanBeCounted, CanStream, CountsNothing, FindsHeld, GoesOn, IsOnCourse, IsOutOfMemory, IsSearched, ReadsMore, fresh_progress, read_by, Occurrences};
-ghost use Rattle.ac_automaton.specs.Stream.StreamListing.{AnswersNewListing, IsListingConfigRefusal};
-ghost use Rattle.ac_automaton.specs.Stream.StreamListingSearch.{FillsFront};
-ghost use Rattle.ac_automaton.specs.Stream.StreamListingWalk.{GivesOfState, IsAheadFor, ListsNext, MayGive, MayList, ReadsHeld};
+ghost use Rattle.ac_automaton.specs.Stream.Overlapping.{AnswersNewListing, IsListingConfigRefusal};
+ghost use Rattle.ac_automaton.specs.Stream.Overlapping.Search.{FillsFront};
+ghost use Rattle.ac_automaton.specs.Stream.Overlapping.Walk.{GivesOfState, IsAheadFor, ListsNext, MayGive, MayList, ReadsHeld};
 ghost use Rattle.ac_automaton.specs.declared.stream.StreamKinds.TheVariants.{OnlyStandard};
 
 use crate::ahead::{Ahead, advance_to_match};
 use crate::automaton::Automaton;
 use crate::error::{MatchError, StreamError};
 use crate::search::Search;
+use crate::stream::devices::watched::Watched;
 use crate::stream::search::given_then;
 use crate::stream::{ItemSearch, LEAST_ROOM};
-use crate::watched::Watched;
 use ac_input::history::{Count, Pieces};
 use ac_input::primitives::StateID;
 use ac_input::search::{Anchored, Match, MatchKind, Span};
@@ -70,7 +70,7 @@ impl<'a, A: Search> Model for ListingSearch<'a, A> {
     ghost use Rattle.std.specs.Prelude.{◌-◌, ◌≤◌, None};
     ghost use Rattle.ac_automaton.specs.Ahead.{IsAhead, bytes_ahead, less_ahead};
     ghost use Rattle.ac_automaton.specs.Stream.{IsOnCourse, Occurrences, StreamProgress};
-    ghost use Rattle.ac_automaton.specs.Stream.StreamListingSearch.{IsListingSearch, listing_at};
+    ghost use Rattle.ac_automaton.specs.Stream.Overlapping.Search.{IsListingSearch, listing_at};
 
     ghost Value = { StreamProgress Occurrences };
 

@@ -5,11 +5,11 @@
 //! is decided where the state is dead, or where nothing more comes. Then the search goes on from its end, and reads again what it has
 //! read past it: at most as much as the longest pattern is long, and one byte.
 ghost use Rattle.std.specs.Prelude.{◌≡◌, Some};
-ghost use Rattle.ac_automaton.specs.Stream.StreamWalk.{MayWalk, WalksOn};
+ghost use Rattle.ac_automaton.specs.Stream.Search.Walk.{MayWalk, WalksOn};
 
-use super::{Progress, Searched, decided};
+use super::{Progress, begin_anew};
 use crate::automaton::Automaton;
-use crate::find::first_match;
+use crate::in_memory::find::first_match;
 use ac_input::primitives::StateID;
 use ac_input::search::{Anchored, Match};
 use ac_input::steps::Steps;
@@ -18,23 +18,25 @@ use ac_input::steps::Steps;
 pub(super) fn decide<A: Automaton>(
     automaton: &A,
     start: StateID,
-    progress: &Progress,
+    progress: &mut Progress,
     met: Match,
     held: &[u8],
     steps: &mut Steps,
-) -> Searched
-    requires walk { MayWalk A.Automaton automaton.now start progress.now held.now }
-    requires met { progress.now.best ≡ Some met }
-    ensures walk { WalksOn A.Automaton automaton.now start progress.now held.now result
-        steps.old steps.new }
+) -> Option<Match>
+    requires walk { MayWalk A.Automaton automaton.now start progress.old held.now }
+    requires met { progress.old.best ≡ Some met }
+    ensures walk { WalksOn A.Automaton automaton.now start progress.old held.now
+        (record { progress = progress.new; found = result }) steps.old steps.new }
 {
+    let from = progress.from;
     let mut sid = progress.sid;
     let mut at = progress.at;
     let mut best = met;
-    while at - progress.from < held.len() {
-        let stop = automaton.advance(Anchored::No, sid, &held[at - progress.from..], steps);
+    while at - from < held.len() {
+        let stop = automaton.advance(Anchored::No, sid, &held[at - from..], steps);
         if automaton.is_dead(stop.sid) {
-            return decided(start, progress, best);
+            begin_anew(start, progress, &best);
+            return Some(best);
         }
         sid = stop.sid;
         at += stop.taken;
@@ -43,17 +45,11 @@ pub(super) fn decide<A: Automaton>(
         }
     }
     if progress.closed {
-        return decided(start, progress, best);
+        begin_anew(start, progress, &best);
+        return Some(best);
     }
-    Searched {
-        progress: Progress {
-            sid,
-            from: progress.from,
-            at,
-            last: progress.last,
-            best: Some(best),
-            closed: false,
-        },
-        found: None,
-    }
+    progress.sid = sid;
+    progress.at = at;
+    progress.best = Some(best);
+    None
 }

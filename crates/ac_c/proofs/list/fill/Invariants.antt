@@ -1,6 +1,6 @@
 -- The buffer begins with the occurrences given so far, and the run has the rest.
 use Rattle.std.proofs.Common.{◌≡◌, ◌<◌, ◌≤◌, length, map, take, drop}
-use Rattle.ac_automaton.specs.Overlapping.OverlappingIter.{CountsRun, LooksNear}
+use Rattle.ac_automaton.specs.InMemory.Overlapping.OverlappingIter.{CountsRun, LooksNear}
 use Rattle.ac_c.specs.Found.{shown}
 use Rattle.ac_c.specs.List.{RunsTo, before_of, later_of, place_after}
 use Rattle.ac_c.proofs.list.fill.Given as goal

@@ -1,6 +1,6 @@
 -- No occurrence passed over is one of those left.
 use Rattle.std.proofs.Common.{◌≡◌, length}
-use Rattle.ac_automaton.specs.Overlapping.OverlappingIter.{rest_of}
+use Rattle.ac_automaton.specs.InMemory.Overlapping.OverlappingIter.{rest_of}
 use Rattle.ac_c.specs.List.{RunsTo, later_of}
 use Rattle.ac_c.proofs.list.next_later.Given as goal
 

@@ -1,8 +1,8 @@
 -- The length so far, and that of the rest with its matches replaced, are the length of the text.
 use Rattle.std.proofs.Common.{◌≡◌, ◌+◌, ◌≤◌, length, map}
 use Rattle.ac_input.specs.Text.{replaced_from}
-use Rattle.ac_automaton.specs.Iter.{left_of}
-use Rattle.ac_automaton.specs.Replace.{LieInOrder}
+use Rattle.ac_automaton.specs.InMemory.Iter.{left_of}
+use Rattle.ac_automaton.specs.InMemory.Replace.{LieInOrder}
 use Rattle.ac_c.specs.Replace.{text_of}
 use Rattle.ac_c.specs.Walking.{WalksTo}
 use Rattle.ac_c.proofs.replace.text_len.Given as goal

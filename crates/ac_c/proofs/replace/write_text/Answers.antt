@@ -1,7 +1,7 @@
 -- Each turn writes the bytes before a match, and those of its replacement.
 use Rattle.std.proofs.Common.{◌≡◌, ◌∷◌, [], sym, rules, arith}
 use Rattle.std.proofs.lemmas.List.{get_or-map}
-use Rattle.ac_automaton.specs.Iter.{left_of}
+use Rattle.ac_automaton.specs.InMemory.Iter.{left_of}
 use Rattle.ac_automaton.proofs.lemmas.ReplaceLemmas.{lies-first}
 use Rattle.ac_c.proofs.replace.ReplaceLemmas.{written-fits, written-none, written-turn}
 use Rattle.ac_c.proofs.walking.WalkingLemmas.{walks-ended, walks-none, walks-on}

@@ -1,8 +1,8 @@
 -- The text is written up to a place, and the rest of it is that of the haystack with its matches replaced.
 use Rattle.std.proofs.Common.{◌≤◌, length, map}
 use Rattle.ac_input.specs.Text.{replaced_from}
-use Rattle.ac_automaton.specs.Iter.{left_of}
-use Rattle.ac_automaton.specs.Replace.{LieInOrder}
+use Rattle.ac_automaton.specs.InMemory.Iter.{left_of}
+use Rattle.ac_automaton.specs.InMemory.Replace.{LieInOrder}
 use Rattle.ac_c.specs.Replace.{text_of}
 use Rattle.ac_c.proofs.replace.ReplaceLemmas.{IsWritten}
 use Rattle.ac_c.specs.Walking.{WalksTo}

@@ -1,6 +1,6 @@
 -- Each turn moves one match into the buffer.
 use Rattle.std.proofs.Common.{◌≡◌, ◌∷◌, drop, length, refl, sym, ◌∙◌, arith}
-use Rattle.ac_automaton.specs.Iter.{left_of}
+use Rattle.ac_automaton.specs.InMemory.Iter.{left_of}
 use Rattle.ac_c.proofs.walk.FillLemmas.{fill-end, fill-enough, fill-given, fill-rest}
 use Rattle.ac_c.proofs.walking.WalkingLemmas.{walks-none, walks-on}
 use Rattle.ac_c.proofs.walk.fill.Goals as goal

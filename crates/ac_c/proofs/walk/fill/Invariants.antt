@@ -1,6 +1,6 @@
 -- The buffer begins with the matches given so far, and the walk has the rest.
 use Rattle.std.proofs.Common.{◌≡◌, ◌≤◌, length, map, take, drop}
-use Rattle.ac_automaton.specs.Iter.{left_of}
+use Rattle.ac_automaton.specs.InMemory.Iter.{left_of}
 use Rattle.ac_c.specs.Found.{shown}
 use Rattle.ac_c.specs.Walking.{WalksTo}
 use Rattle.ac_c.proofs.walk.fill.Given as goal

@@ -1,6 +1,6 @@
 -- The walk goes on from the cursor, which is then moved to where the walk stands.
 use Rattle.std.proofs.Common.{rules}
-use Rattle.ac_automaton.specs.Iter.{IsPlaceIn}
+use Rattle.ac_automaton.specs.InMemory.Iter.{IsPlaceIn}
 use Rattle.ac_c.specs.Walk.{Goes}
 use Rattle.ac_c.proofs.walk.CursorLemmas.{cursor-step, step-cost}
 use Rattle.ac_c.proofs.walk.step_counted.Goals as goal

@@ -1,5 +1,5 @@
 -- The cursor is moved to where the walk stands.
-use Rattle.ac_automaton.specs.Iter.{IsPlaceIn}
+use Rattle.ac_automaton.specs.InMemory.Iter.{IsPlaceIn}
 use Rattle.ac_c.specs.Walk.{Goes}
 use Rattle.ac_c.proofs.walk.taken.Goals as goal
 

@@ -27,8 +27,3 @@ loop-number-preserved c =
       all = opened-more all (pattern-lent patterns d number c.loop-number-test.true) c.loop-number.invariant.all
           c.add.ensures.kept c.add.ensures.own;
     }
-
-pub returns-clause-all : goal.returns-clause-all
-returns-clause-all c = λ number within.
-    let done = c.loop-number-test.false in
-    c.loop-number.invariant.all number (omega (arith, within, done))

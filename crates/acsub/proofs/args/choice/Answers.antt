@@ -1,6 +1,5 @@
 use Rattle.std.proofs.Common.{◌∙◌, ap, [], ◌∷◌}
 use Rattle.clap.specs.Words.{Rule, rule_of}
-use Rattle.clap.specs.declared.builder.arg.Arg.{Arg}
 use Rattle.acsub.proofs.args.BuiltLemmas.{given_own, given_rule}
 use Rattle.acsub.proofs.args.choice.Goals as goal
 

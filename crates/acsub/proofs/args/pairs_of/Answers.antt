@@ -1,6 +1,6 @@
 use Rattle.std.proofs.Common.{◌≡◌, ◌∙◌, sym, ap, Ok, arith}
 use Rattle.hex.specs.Hex.{decode_of}
-use Rattle.std.proofs.Common.{◌⊎◌, Err, List, subst, ℕ}
+use Rattle.std.proofs.Common.{◌⊎◌, Err, subst}
 use Rattle.hex.specs.declared.error.FromHexError.TheVariants.{OutOfMemory}
 use Rattle.acsub.specs.Args.Words.{Misspells}
 use Rattle.acsub.proofs.args.PairsLemmas.{misspells, spells_nothing, spells_odd, spells_these}

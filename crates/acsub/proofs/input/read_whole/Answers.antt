@@ -2,8 +2,8 @@
 use Rattle.std.proofs.Common.{◌≡◌, ◌+◌, ◌-◌, ◌≤◌, [], ◌∷◌, ◌++◌, length, take, length-take, length-drop, refl, sym, ap, ◌∙◌, arith}
 use Rattle.std.specs.List.{concat}
 use Rattle.std.proofs.lemmas.List.{append-nil}
-use Rattle.ac_automaton.proofs.devices.MovedLemmas.{AreFilled-push, given-none, given-gave, given-failed, given-push, still-open}
-use Rattle.ac_automaton.proofs.devices.BufferLemmas.{front-more}
+use Rattle.ac_automaton.proofs.stream.devices.MovedLemmas.{AreFilled-push, given-none, given-gave, given-failed, given-push, still-open}
+use Rattle.ac_automaton.proofs.stream.devices.BufferLemmas.{front-more}
 use Rattle.acsub.proofs.input.InputLemmas.{filled-same, piece_filled, concat-push}
 use Rattle.acsub.proofs.input.read_whole.Goals as goal
 

@@ -1,6 +1,6 @@
 use Rattle.std.proofs.Common.{◌≡◌, ℕ, ◌-◌, ◌≤◌, ◌^◌, List, false, take, vec_len}
 use Rattle.std.specs.List.{concat}
-use Rattle.ac_automaton.specs.Devices.Moved.{AreFilled, HasGiven}
+use Rattle.ac_automaton.specs.Stream.Devices.Moved.{AreFilled, HasGiven}
 use Rattle.acsub.proofs.input.read_whole.Given as goal
 
 abbrev pub invariant-loop-input : goal.invariant-loop-input

@@ -1,9 +1,8 @@
 -- The builder is given the settings and the rules' patterns.
-use Rattle.std.proofs.Common.{ℕ, List, ap, ◌∙◌, subst}
+use Rattle.std.proofs.Common.{ap, ◌∙◌, subst}
 use Rattle.std.proofs.lemmas.Result.{err_from_is_err_and}
 use Rattle.ac_literal.specs.Packed.{bytes_of}
 use Rattle.aho_corasick.specs.Served.{IsFrontBuilt, IsFrontBuildRefused}
-use Rattle.aho_corasick.specs.declared.ahocorasick.builder.AhoCorasickBuilder.{AhoCorasickBuilder}
 use Rattle.acsub.specs.Served.{builder_by}
 use Rattle.acsub.proofs.prepared.ServedLemmas.{built-serves, refused-fails}
 use Rattle.acsub.proofs.prepared.automaton_for.Goals as goal

@@ -1,7 +1,7 @@
 -- What is built has the patterns that were added.
-use Rattle.std.proofs.Common.{◌≡◌, Option, ap, sym, ◌∙◌, subst}
+use Rattle.std.proofs.Common.{◌≡◌, ap, sym, ◌∙◌, subst}
 use Rattle.std.specs.Prelude.{IfSome}
-use Rattle.ac_literal.specs.Packed.{AreServed, Packed, bytes_of, search_kind}
+use Rattle.ac_literal.specs.Packed.{AreServed, bytes_of, search_kind}
 use Rattle.ac_literal.proofs.packed.PatternLemmas.{built-fresh}
 use Rattle.acsub.proofs.prepared.packed_for.Goals as goal
 

@@ -3,7 +3,7 @@ use Rattle.std.proofs.Common.{◌++◌, [], refl, ◌∙◌}
 use Rattle.std.proofs.lemmas.List.{append-nil}
 use Rattle.std.proofs.lemmas.Result.{err_from_is_err_and}
 use Rattle.ac_input.specs.Text.{line, listed}
-use Rattle.ac_automaton.proofs.devices.OutputLemmas.{Sent-none, Sent-then}
+use Rattle.ac_automaton.proofs.stream.devices.OutputLemmas.{Sent-none, Sent-then}
 use Rattle.acsub.specs.Matches.{left_in}
 use Rattle.acsub.proofs.rewrite.RewriteLemmas.{listed-end, listed-step}
 use Rattle.acsub.proofs.rewrite.SendingLemmas.{sends-last, sends-stopped}

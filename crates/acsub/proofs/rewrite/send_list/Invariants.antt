@@ -1,6 +1,6 @@
 use Rattle.std.proofs.Common.{◌≡◌, ℕ, List, [], ◌++◌, length}
 use Rattle.ac_input.specs.Text.{listed}
-use Rattle.ac_automaton.specs.Devices.Output.{Sent}
+use Rattle.ac_automaton.specs.Stream.Devices.Output.{Sent}
 use Rattle.acsub.specs.Matches.{KeepsCount, left_in}
 use Rattle.acsub.proofs.rewrite.send_list.Given as goal
 

@@ -1,12 +1,12 @@
 -- Each turn sends the bytes before the next match, and then its replacement.
-use Rattle.std.proofs.Common.{ℕ, ◌++◌, List, [], length, refl, ap, ◌∙◌, arith}
+use Rattle.std.proofs.Common.{◌++◌, [], refl, ap, ◌∙◌, arith}
 use Rattle.std.specs.Prelude.{slice_range}
 use Rattle.std.proofs.lemmas.Result.{err_from_is_err_and}
 use Rattle.std.proofs.lemmas.List.{take_rest}
 use Rattle.acsub.specs.Rules.Lines.{rule_at}
 use Rattle.acsub.specs.Matches.{left_in}
 use Rattle.acsub.specs.Rules.Sides.{replacements_of}
-use Rattle.ac_automaton.proofs.devices.OutputLemmas.{Sent-none, Sent-then}
+use Rattle.ac_automaton.proofs.stream.devices.OutputLemmas.{Sent-none, Sent-then}
 use Rattle.acsub.proofs.rewrite.RewriteLemmas.{replaced-step, replacement_of_rule}
 use Rattle.ac_automaton.proofs.lemmas.ReplaceLemmas.{lies-first, replaced-end}
 use Rattle.acsub.proofs.rewrite.SendingLemmas.{sends-last, sends-stopped}

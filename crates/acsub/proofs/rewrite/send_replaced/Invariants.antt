@@ -1,7 +1,7 @@
 use Rattle.std.proofs.Common.{◌≡◌, ℕ, ◌≤◌, List, [], ◌++◌, length}
 use Rattle.ac_input.specs.Text.{replaced_from}
-use Rattle.ac_automaton.specs.Devices.Output.{Sent}
-use Rattle.ac_automaton.specs.Replace.{LieInOrder}
+use Rattle.ac_automaton.specs.Stream.Devices.Output.{Sent}
+use Rattle.ac_automaton.specs.InMemory.Replace.{LieInOrder}
 use Rattle.acsub.specs.Matches.{KeepsCount, left_in}
 use Rattle.acsub.specs.Rules.Sides.{replacements_of}
 use Rattle.acsub.proofs.rewrite.send_replaced.Given as goal

@@ -1,4 +1,4 @@
-use Rattle.std.proofs.Common.{ℕ, List, ◌∷◌, ◌++◌, refl, ap, ◌∙◌}
+use Rattle.std.proofs.Common.{◌∷◌, ◌++◌, refl, ap, ◌∙◌}
 use Rattle.std.proofs.lemmas.Bool.{false≢true}
 use Rattle.acsub.proofs.rules.LineLemmas.{BeginsWithNoRule-no_tab, BeginsWithNoRule-no_feed, BeginsWithNoRule-no_digits}
 use Rattle.acsub.proofs.rules.first_in_hex.Goals as goal

@@ -1,5 +1,5 @@
 -- A side of plain text is copied, and one of hex is decoded.
-use Rattle.std.proofs.Common.{Bool, rules, subst, sym}
+use Rattle.std.proofs.Common.{rules, subst, sym}
 use Rattle.std.specs.Prelude.{IfOk}
 use Rattle.acsub.specs.Rules.File.{grammar_of}
 use Rattle.acsub.proofs.rules.SpellingLemmas.{Spells-from_decode_of}

@@ -1,4 +1,4 @@
-use Rattle.std.proofs.Common.{◌≡◌, ℕ, Err, ap, subst}
+use Rattle.std.proofs.Common.{◌≡◌, Err, ap, subst}
 use Rattle.std.proofs.lemmas.Result.{IfErr-at_err}
 use Rattle.acsub.specs.Rules.File.{grammar_of}
 use Rattle.acsub.specs.declared.rules.RuleError.{RuleError}

@@ -4,12 +4,12 @@ use Rattle.std.proofs.lemmas.Bool.{false≢true}
 use Rattle.std.proofs.lemmas.Result.{err_from_is_err_and}
 use Rattle.acsub.specs.Matches.{IsHeldCost}
 use Rattle.acsub.specs.Plan.{Plan, plan_of}
-use Rattle.acsub.specs.Run.{CostsRun, RanRules, RunsOutFirst}
+use Rattle.acsub.specs.Run.{CostsRun, RanRules}
 use Rattle.acsub.specs.Run.Sending.{SendsText}
 use Rattle.acsub.specs.Run.Transformed.{IsStreamed}
 use Rattle.acsub.specs.Args.Settings.{IsAccepted}
 use Rattle.acsub.proofs.run.CountLemmas.{held-cost, nothing_cost, unread-cost}
-use Rattle.acsub.proofs.run.RunLemmas.{HasMoved-nothing, held_answer, memory_ran, nothing_short, prepared_answer, prepared_refuses, read_answer, sends-accepted, unprepared_begun, nothing_moved}
+use Rattle.acsub.proofs.run.RunLemmas.{held_answer, memory_ran, read_answer, sends-accepted, unprepared_ran}
 use Rattle.acsub.proofs.run.run_rules_counted.Goals as goal
 
 -- ---- nothing was prepared
@@ -17,23 +17,9 @@ use Rattle.acsub.proofs.run.run_rules_counted.Goals as goal
 pub returns-in_err-prepared-clause-answered : goal.returns-in_err-prepared-clause-answered
 returns-in_err-prepared-clause-answered g c =
     let p = err_from_is_err_and c.from_residual.result c.from_residual.ensures.1 in
-    let asked = plan_of c.args.stream c.args.settings.now c.args.rules.now in
-    rw (p.1, p.2) (
-      nothing_moved,
-      HasMoved-nothing g.R.Read.remaining g.W.Write.contents c.args.reader.now c.args.writer.now,
-      nothing_short asked,
-      prepared_answer asked c.in_err-prepared.field-0.0 c.in_err-prepared.ensures,
-    )
-
-pub returns-in_err-prepared-clause-fault : goal.returns-in_err-prepared-clause-fault
-returns-in_err-prepared-clause-fault g c =
-    let p = err_from_is_err_and c.from_residual.result c.from_residual.ensures.1 in
-    let asked = plan_of c.args.stream c.args.settings.now c.args.rules.now in
-    rw (p.1, p.2) (record {
-      untouched = λ refusal. (refl, refl);
-      memory = λ out streamed. (refl, refl);
-      within = λ begun. absurd (unprepared_begun asked c.in_err-prepared.field-0.0 c.in_err-prepared.ensures begun);
-    })
+    rw (p.1, p.2)
+    (unprepared_ran g.R.Read.remaining g.W.Write.contents (c.args.reader.now, c.args.writer.now)
+    (plan_of c.args.stream c.args.settings.now c.args.rules.now) c.in_err-prepared.field-0.0 c.in_err-prepared.ensures)
 
 pub returns-in_err-prepared-clause-cost : goal.returns-in_err-prepared-clause-cost
 returns-in_err-prepared-clause-cost g c =
@@ -52,20 +38,10 @@ stream_text-requires-clause-streamed g c = c.in-Some.ensures.some.0 refl
 
 pub returns-in-Some-clause-answered : goal.returns-in-Some-clause-answered
 returns-in-Some-clause-answered g c =
-    let ran = c.stream_text.ensures.ran in
-    subst (λ p.
-    RanRules g.R.Read.remaining g.W.Write.contents c.args.reader.now c.stream_text.new.reader c.args.writer.now
-    c.stream_text.new.writer p c.stream_text.result) c.in_ok-prepared.ensures.0 (ran.0, ran.1, ran.2, ran.4)
-
-pub returns-in-Some-clause-fault : goal.returns-in-Some-clause-fault
-returns-in-Some-clause-fault g c =
     let text = c.stream_text in
-    let asked = plan_of c.args.stream c.args.settings.now c.args.rules.now in
-    prepared_refuses asked c.args.reader.now text.new.reader c.args.writer.now text.new.writer text.result
-    text.ensures.ran.3
-    (subst (λ p. RunsOutFirst p c.args.reader.now text.new.reader c.args.writer.now text.new.writer text.result)
-    c.in_ok-prepared.ensures.0 text.ensures.memory)
-    c.in_ok-prepared.ensures.2
+    subst (λ p.
+    RanRules g.R.Read.remaining g.W.Write.contents (c.args.reader.now, c.args.writer.now)
+    (text.new.reader, text.new.writer) p text.result) c.in_ok-prepared.ensures.0 text.ensures.ran
 
 pub returns-in-Some-clause-cost : goal.returns-in-Some-clause-cost
 returns-in-Some-clause-cost g c =
@@ -83,21 +59,9 @@ pub returns-in_err-output-in-None-clause-answered : goal.returns-in_err-output-i
 returns-in_err-output-in-None-clause-answered g c =
     let p = err_from_is_err_and c.from_residual-in_err-output-in-None.result
     c.from_residual-in_err-output-in-None.ensures.1 in
-    let ran = memory_ran g.R.Read.remaining g.W.Write.contents
-    (plan_of c.args.stream c.args.settings.now c.args.rules.now) c.args.reader.now c.args.writer.now
-    c.in_ok-prepared.ensures.1 in
-    rw (p.1, p.2) (ran.0, ran.1, ran.2, ran.4)
-
-pub returns-in_err-output-in-None-clause-fault : goal.returns-in_err-output-in-None-clause-fault
-returns-in_err-output-in-None-clause-fault g c =
-    let p = err_from_is_err_and c.from_residual-in_err-output-in-None.result
-    c.from_residual-in_err-output-in-None.ensures.1 in
     rw (p.1, p.2)
-    (record {
-      untouched = λ refusal. (refl, refl);
-      memory = λ out streamed. (refl, refl);
-      within = λ _. c.in_ok-prepared.ensures.2;
-    })
+    (memory_ran g.R.Read.remaining g.W.Write.contents (c.args.reader.now, c.args.writer.now)
+    (plan_of c.args.stream c.args.settings.now c.args.rules.now) c.in_ok-prepared.ensures.1)
 
 pub returns-in_err-output-in-None-clause-cost : goal.returns-in_err-output-in-None-clause-cost
 returns-in_err-output-in-None-clause-cost g c =
@@ -112,23 +76,10 @@ returns-in_err-input-in-None-clause-answered g c =
     c.from_residual-in_err-input-in-None.ensures.1 in
     let asked = plan_of c.args.stream c.args.settings.now c.args.rules.now in
     let held = held_by asked _ c.in_ok-prepared.ensures.0 c.in-None.ensures.some in
-    let ran = read_answer g.R.Read.remaining g.W.Write.contents asked c.args.reader.now c.read_whole.new.reader
-    c.args.writer.now c.in_err-input-in-None.field-0.0 c.in_ok-prepared.ensures.1 c.in_ok-prepared.ensures.2 held
-    c.in_err-input-in-None.ensures in
-    rw (p.1, p.2) (ran.0, ran.1, ran.2, ran.4)
-
-pub returns-in_err-input-in-None-clause-fault : goal.returns-in_err-input-in-None-clause-fault
-returns-in_err-input-in-None-clause-fault g c =
-    let p = err_from_is_err_and c.from_residual-in_err-input-in-None.result
-    c.from_residual-in_err-input-in-None.ensures.1 in
-    let asked = plan_of c.args.stream c.args.settings.now c.args.rules.now in
-    let held = held_by asked _ c.in_ok-prepared.ensures.0 c.in-None.ensures.some in
-    let ran = read_answer g.R.Read.remaining g.W.Write.contents asked c.args.reader.now c.read_whole.new.reader
-    c.args.writer.now c.in_err-input-in-None.field-0.0 c.in_ok-prepared.ensures.1 c.in_ok-prepared.ensures.2 held
-    c.in_err-input-in-None.ensures in
     rw (p.1, p.2)
-    (prepared_refuses asked c.args.reader.now c.read_whole.new.reader c.args.writer.now c.args.writer.now _ ran.3
-    (λ out streamed. absurd (held streamed)) c.in_ok-prepared.ensures.2)
+    (read_answer g.R.Read.remaining g.W.Write.contents asked c.args.reader.now c.read_whole.new.reader
+    c.args.writer.now c.in_err-input-in-None.field-0.0 c.in_ok-prepared.ensures.1 c.in_ok-prepared.ensures.2 held
+    c.in_err-input-in-None.ensures)
 
 pub returns-in_err-input-in-None-clause-cost : goal.returns-in_err-input-in-None-clause-cost
 returns-in_err-input-in-None-clause-cost g c =
@@ -158,25 +109,10 @@ returns-clause-answered g c =
     let sent =
     subst (λ p. SendsText g.W.Write.contents p c.as_slice.result.now c.args.writer.now text.new.writer text.result)
     c.in_ok-prepared.ensures.0 text.ensures.sent in
-    let ran = held_answer g.R.Read.remaining g.W.Write.contents asked c.args.reader.now c.read_whole.new.reader
-    c.args.writer.now text.new.writer read.0 c.as_slice.result.now c.in_ok-prepared.ensures.1 held read.1 read.2
-    (c.as_slice.ensures.value ∙ read.3) text.result c.told.result c.told.ensures sent in
-    (ran.0, ran.1, ran.2, ran.4)
-
-pub returns-clause-fault : goal.returns-clause-fault
-returns-clause-fault g c =
-    let text = c.write_text-text in
-    let read = c.in_ok-input-in-None.ensures in
-    let asked = plan_of c.args.stream c.args.settings.now c.args.rules.now in
-    let held = held_by asked _ c.in_ok-prepared.ensures.0 c.in-None.ensures.some in
-    let sent =
-    subst (λ p. SendsText g.W.Write.contents p c.as_slice.result.now c.args.writer.now text.new.writer text.result)
-    c.in_ok-prepared.ensures.0 text.ensures.sent in
-    let ran = held_answer g.R.Read.remaining g.W.Write.contents asked c.args.reader.now c.read_whole.new.reader
-    c.args.writer.now text.new.writer read.0 c.as_slice.result.now c.in_ok-prepared.ensures.1 held read.1 read.2
-    (c.as_slice.ensures.value ∙ read.3) text.result c.told.result c.told.ensures sent in
-    prepared_refuses asked c.args.reader.now c.read_whole.new.reader c.args.writer.now text.new.writer c.told.result
-    ran.3 (λ out streamed. absurd (held streamed)) c.in_ok-prepared.ensures.2
+    held_answer g.R.Read.remaining g.W.Write.contents (c.args.reader.now, c.args.writer.now)
+    (c.read_whole.new.reader, text.new.writer) asked read.0 c.as_slice.result.now c.in_ok-prepared.ensures.1
+    c.in_ok-prepared.ensures.2 held read.1 read.2 (c.as_slice.ensures.value ∙ read.3) text.result c.told.result
+    c.told.ensures sent
 
 pub returns-clause-cost : goal.returns-clause-cost
 returns-clause-cost g c =

@@ -1,16 +1,18 @@
 -- Each mode's search of the stream is supported, and writes the text of the plan. The run returns its result.
-use Rattle.std.proofs.Common.{List, ap, subst, sym, ◌∙◌, ℕ}
+use Rattle.std.proofs.Common.{ap, subst, sym, ◌∙◌}
 use Rattle.std.proofs.lemmas.Result.{err_from_is_err_and}
 use Rattle.ac_automaton.specs.Stream.{Occurrences, Picks}
-use Rattle.ac_automaton.specs.Stream.StreamReplace.{ReplacesStream}
+use Rattle.ac_automaton.specs.Stream.Replace.{ReplacesStream}
 use Rattle.ac_automaton.proofs.stream.SequenceLemmas.{picks≢occurrences}
 use Rattle.ac_literal.specs.Packed.{bytes_of}
 use Rattle.aho_corasick.specs.AhoCorasick.{as_built, supported_by}
 use Rattle.acsub.specs.Rules.Sides.{replacements_of}
+use Rattle.acsub.specs.declared.prepared.Finder.TheVariants as finders
 use Rattle.acsub.proofs.run.CountLemmas.{nothing_cost}
+use Rattle.acsub.proofs.prepared.ServedLemmas.{finder-buildable}
 use Rattle.acsub.proofs.run.RunLemmas.{memory_ran}
 use Rattle.acsub.proofs.stream.StreamListLemmas.{every-can, list-plan}
-use Rattle.acsub.proofs.stream.StreamedLemmas.{replace-plan, replaces-accepted, replaces-memory, streamed-can, streamed_answer, streamed_cost, streamed_memory}
+use Rattle.acsub.proofs.stream.StreamedLemmas.{replace-plan, replaces-accepted, replaces-memory, streamed-can, streamed_answer, streamed_cost}
 use Rattle.acsub.proofs.stream.stream_text.Goals as goal
 
 -- ---- the matches are replaced
@@ -19,7 +21,7 @@ pub returns-in_err-replacements-in-Replace-clause-ran : goal.returns-in_err-repl
 returns-in_err-replacements-in-Replace-clause-ran g c =
     let p = err_from_is_err_and c.from_residual.result c.from_residual.ensures.1 in
     rw (p.1, p.2)
-    (memory_ran g.R.Read.remaining g.W.Write.contents c.args.prepared.now c.args.reader.now c.args.writer.now
+    (memory_ran g.R.Read.remaining g.W.Write.contents (c.args.reader.now, c.args.writer.now) c.args.prepared.now
     c.requires.accepted)
 
 pub returns-in_err-replacements-in-Replace-clause-cost : goal.returns-in_err-replacements-in-Replace-clause-cost
@@ -45,18 +47,14 @@ returns-in_ok-replacements-in-Replace-clause-ran g c =
     c.args.reader.now replaced.new.reader c.args.writer.now replaced.new.writer replaced.result) same
     replaced.ensures.moved in
     streamed_answer g.R.Read.remaining g.W.Write.contents plan c.args.reader.now replaced.new.reader c.args.writer.now
-    replaced.new.writer replaced.result c.told.result c.requires.accepted c.requires.streamed c.told.ensures
-    (replace-plan g.R.Read.remaining g.W.Write.contents (as_built c.args.engine.now) plan c.args.reader.now
-    replaced.new.reader c.args.writer.now replaced.new.writer replaced.result c.requires.serves.built.dictionary
-    (sym c.mode.ensures ∙ c.in-Replace.is) moved)
-
-pub returns-in_ok-replacements-in-Replace-clause-memory : goal.returns-in_ok-replacements-in-Replace-clause-memory
-returns-in_ok-replacements-in-Replace-clause-memory g c =
-    let replaced = c.try_stream_replace_all_any_kind_counted-replaced in
-    streamed_memory c.args.prepared.now c.args.reader.now replaced.new.reader c.args.writer.now replaced.new.writer
-    replaced.result c.told.result c.told.ensures
+    replaced.new.writer replaced.result c.told.result c.requires.accepted
+    (finder-buildable plan.settings plan.rules (finders.Automaton c.args.engine.now) c.requires.serves)
+    c.requires.streamed c.told.ensures
     (replaces-memory g.R.Read.remaining g.W.Write.contents (as_built c.args.engine.now) _ c.args.reader.now
     replaced.new.reader c.args.writer.now replaced.new.writer replaced.result replaced.ensures.moved)
+    (replace-plan g.R.Read.remaining g.W.Write.contents (as_built c.args.engine.now) plan
+    (c.args.reader.now, c.args.writer.now) (replaced.new.reader, replaced.new.writer) replaced.result
+    c.requires.serves.built.dictionary (sym c.mode.ensures ∙ c.in-Replace.is) moved)
 
 pub returns-in_ok-replacements-in-Replace-clause-cost : goal.returns-in_ok-replacements-in-Replace-clause-cost
 returns-in_ok-replacements-in-Replace-clause-cost g c =
@@ -76,16 +74,13 @@ returns-in-List-clause-ran g c =
     let plan = c.args.prepared.now in
     let listed = c.list_stream in
     streamed_answer g.R.Read.remaining g.W.Write.contents plan c.args.reader.now listed.new.reader c.args.writer.now
-    listed.new.writer listed.result c.told-in-List.result c.requires.accepted c.requires.streamed c.told-in-List.ensures
+    listed.new.writer listed.result c.told-in-List.result c.requires.accepted
+    (finder-buildable plan.settings plan.rules (finders.Automaton c.args.engine.now) c.requires.serves)
+    c.requires.streamed c.told-in-List.ensures listed.ensures.memory
     (list-plan plan (as_built c.args.engine.now) c.requires.serves.built.dictionary Picks
-    (sym c.mode.ensures ∙ c.in-List.is) (λ e. absurd (picks≢occurrences e)) g.R.Read.remaining g.W.Write.contents
-    c.args.reader.now listed.new.reader c.args.writer.now listed.new.writer listed.result listed.ensures.lists)
-
-pub returns-in-List-clause-memory : goal.returns-in-List-clause-memory
-returns-in-List-clause-memory g c =
-    let listed = c.list_stream in
-    streamed_memory c.args.prepared.now c.args.reader.now listed.new.reader c.args.writer.now listed.new.writer
-    listed.result c.told-in-List.result c.told-in-List.ensures listed.ensures.memory
+    (sym c.mode.ensures ∙ c.in-List.is) (λ e. absurd (picks≢occurrences e))
+    g.R.Read.remaining g.W.Write.contents (c.args.reader.now, c.args.writer.now)
+    (listed.new.reader, listed.new.writer) listed.result listed.ensures.lists)
 
 pub returns-in-List-clause-cost : goal.returns-in-List-clause-cost
 returns-in-List-clause-cost g c =
@@ -106,19 +101,14 @@ returns-in-Overlap-clause-ran g c =
     let plan = c.args.prepared.now in
     let listed = c.list_every in
     streamed_answer g.R.Read.remaining g.W.Write.contents plan c.args.reader.now listed.new.reader c.args.writer.now
-    listed.new.writer listed.result c.told-in-Overlap.result c.requires.accepted c.requires.streamed
-    c.told-in-Overlap.ensures
+    listed.new.writer listed.result c.told-in-Overlap.result c.requires.accepted
+    (finder-buildable plan.settings plan.rules (finders.Automaton c.args.engine.now) c.requires.serves)
+    c.requires.streamed c.told-in-Overlap.ensures listed.ensures.memory
     (list-plan plan (as_built c.args.engine.now) c.requires.serves.built.dictionary Occurrences
-    (sym c.mode.ensures ∙ c.in-Overlap.is)
-    (λ _. (every-can c.args.engine.now plan c.requires.serves c.requires.accepted (sym c.mode.ensures ∙ c.in-Overlap.is)
-    c.requires.streamed).1) g.R.Read.remaining g.W.Write.contents c.args.reader.now listed.new.reader c.args.writer.now
-    listed.new.writer listed.result listed.ensures.lists)
-
-pub returns-in-Overlap-clause-memory : goal.returns-in-Overlap-clause-memory
-returns-in-Overlap-clause-memory g c =
-    let listed = c.list_every in
-    streamed_memory c.args.prepared.now c.args.reader.now listed.new.reader c.args.writer.now listed.new.writer
-    listed.result c.told-in-Overlap.result c.told-in-Overlap.ensures listed.ensures.memory
+    (sym c.mode.ensures ∙ c.in-Overlap.is) (λ _. (every-can c.args.engine.now plan c.requires.serves c.requires.accepted
+    (sym c.mode.ensures ∙ c.in-Overlap.is) c.requires.streamed).1)
+    g.R.Read.remaining g.W.Write.contents (c.args.reader.now, c.args.writer.now)
+    (listed.new.reader, listed.new.writer) listed.result listed.ensures.lists)
 
 pub returns-in-Overlap-clause-cost : goal.returns-in-Overlap-clause-cost
 returns-in-Overlap-clause-cost g c =

@@ -10,8 +10,8 @@ returns-in_err-rules-in-Ok g c =
     rw (p.1, p.2) (
       Ok c.in-Ok.asked,
       c.in-Ok.ensures,
-      file-unread g.F.File.Read.remaining g.R.Read.remaining g.W.Write.contents c.in-Ok.asked c.args.reader.now
-          c.args.writer.now c.in_err-rules-in-Ok.field-0.0 c.in_err-rules-in-Ok.ensures,
+      file-unread g.F.File.Read.remaining g.R.Read.remaining g.W.Write.contents c.in-Ok.asked
+          (c.args.reader.now, c.args.writer.now) c.in_err-rules-in-Ok.field-0.0 c.in_err-rules-in-Ok.ensures,
     )
 
 pub returns-in_ok-rules-in-Ok : goal.returns-in_ok-rules-in-Ok
@@ -19,8 +19,9 @@ returns-in_ok-rules-in-Ok g c =
     let ran = c.run_in-ran in (
       Ok c.in-Ok.asked,
       c.in-Ok.ensures,
-      run-finished g.F.File.Read.remaining g.R.Read.remaining g.W.Write.contents c.in-Ok.asked c.args.reader.now
-          ran.new.reader c.args.writer.now ran.new.writer c.finish.new.writer ran.result c.finish.result
+      run-finished g.F.File.Read.remaining g.R.Read.remaining g.W.Write.contents c.in-Ok.asked
+          (c.args.reader.now, c.args.writer.now) ran.new.reader ran.new.writer c.finish.new.writer ran.result
+          c.finish.result
           (record {
             file = c.as_slice.result.now;
             is_file = rw c.as_slice.ensures.value c.in_ok-rules-in-Ok.ensures;

@@ -1,6 +1,6 @@
 use Rattle.std.proofs.Common.{◌≡◌, ◌+◌}
-use Rattle.ac_automaton.specs.Iter.{left_of}
-use Rattle.ac_automaton.specs.Replace.{matches_in}
+use Rattle.ac_automaton.specs.InMemory.Iter.{left_of}
+use Rattle.ac_automaton.specs.InMemory.Replace.{matches_in}
 use Rattle.example_callers.specs.Callers.{bytes_in}
 use Rattle.example_callers.proofs.generic_iterate.bytes_matched.Given as goal
 

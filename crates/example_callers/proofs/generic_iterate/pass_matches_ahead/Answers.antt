@@ -1,6 +1,6 @@
 -- Each call leaves one match less.
 use Rattle.std.proofs.Common.{Some, ap, length, arith}
-use Rattle.ac_automaton.proofs.iter.IterLemmas.{pick-yields}
+use Rattle.ac_automaton.proofs.in_memory.iter.IterLemmas.{pick-yields}
 use Rattle.example_callers.proofs.generic_iterate.pass_matches_ahead.Goals as goal
 
 pub loop-smaller : goal.loop-smaller

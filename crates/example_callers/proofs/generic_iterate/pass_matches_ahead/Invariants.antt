@@ -1,5 +1,5 @@
 use Rattle.std.proofs.Common.{length}
-use Rattle.ac_automaton.specs.Iter.{left_of}
+use Rattle.ac_automaton.specs.InMemory.Iter.{left_of}
 use Rattle.example_callers.proofs.generic_iterate.WalkLemmas.{HasPassed}
 use Rattle.example_callers.proofs.generic_iterate.pass_matches_ahead.Given as goal
 

@@ -4,7 +4,7 @@ use Rattle.std.proofs.lemmas.Iterator.Consumers.{YieldsList-from_first}
 use Rattle.std.proofs.lemmas.Result.{IfOk-weaker}
 use Rattle.ac_input.specs.Input.{whole_of}
 use Rattle.ac_automaton.specs.Automaton.{listing_in}
-use Rattle.ac_automaton.specs.Overlapping.OverlappingIter.{rest_of}
+use Rattle.ac_automaton.specs.InMemory.Overlapping.OverlappingIter.{rest_of}
 use Rattle.aho_corasick.proofs.lemmas.OverlapLemmas.{collected-listing, left-listing}
 use Rattle.example_callers.proofs.generic_overlap.all_occurrences.Goals as goal
 

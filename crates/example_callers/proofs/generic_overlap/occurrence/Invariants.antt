@@ -1,7 +1,7 @@
 use Rattle.std.proofs.Common.{◌≡◌, min, length}
 use Rattle.ac_input.specs.Input.{whole_of}
 use Rattle.ac_automaton.specs.Automaton.{listing_in}
-use Rattle.ac_automaton.specs.Overlapping.{CameFrom}
+use Rattle.ac_automaton.specs.InMemory.Overlapping.{CameFrom}
 use Rattle.example_callers.proofs.generic_overlap.occurrence.Given as goal
 
 abbrev pub invariant-loop : goal.invariant-loop

@@ -1,6 +1,6 @@
 use Rattle.std.proofs.Common.{◌≡◌, ◌+◌, length}
 use Rattle.ac_input.specs.Input.{whole_of}
-use Rattle.ac_automaton.specs.Overlapping.OverlappingIter.{rest_of}
+use Rattle.ac_automaton.specs.InMemory.Overlapping.OverlappingIter.{rest_of}
 use Rattle.example_callers.proofs.generic_overlap.pass_occurrences.Given as goal
 
 abbrev pub invariant-loop : goal.invariant-loop

@@ -1,7 +1,7 @@
 -- The closure appends what matched.
 use Rattle.std.proofs.Common.{rules}
 use Rattle.std.proofs.lemmas.Result.{on_ok_weaker}
-use Rattle.ac_automaton.specs.Replace.{matches_in}
+use Rattle.ac_automaton.specs.InMemory.Replace.{matches_in}
 use Rattle.aho_corasick.proofs.lemmas.ReplaceLemmas.{if-replaced_with, replaced-copies}
 use Rattle.example_callers.proofs.generic_replace.append_matched.Goals as goal
 

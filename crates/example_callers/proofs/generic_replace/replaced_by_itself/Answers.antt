@@ -1,6 +1,6 @@
 use Rattle.std.proofs.Common.{map, ◌∙◌}
 use Rattle.std.proofs.lemmas.Result.{IfOk-weaker}
-use Rattle.ac_automaton.specs.Replace.{matches_in}
+use Rattle.ac_automaton.specs.InMemory.Replace.{matches_in}
 use Rattle.aho_corasick.proofs.lemmas.ReplaceLemmas.{if-replaced, replaced-same}
 use Rattle.example_callers.proofs.generic_replace.replaced_by_itself.Goals as goal
 

@@ -1,7 +1,7 @@
 use Rattle.std.proofs.Common.{map, ◌∙◌}
 use Rattle.std.proofs.lemmas.Result.{IfOk-weaker}
 use Rattle.std.specs.String.{string_bytes}
-use Rattle.ac_automaton.specs.Replace.{text_matches_in}
+use Rattle.ac_automaton.specs.InMemory.Replace.{text_matches_in}
 use Rattle.aho_corasick.proofs.lemmas.ReplaceLemmas.{if-replaced, replaced-none}
 use Rattle.example_callers.proofs.generic_replace.replaced_text.Goals as goal
 

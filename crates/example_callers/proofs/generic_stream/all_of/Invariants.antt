@@ -1,5 +1,5 @@
 use Rattle.std.proofs.Common.{◌-◌}
-use Rattle.ac_automaton.specs.Stream.StreamIter.{progress_of, reader_of}
+use Rattle.ac_automaton.specs.Stream.Iter.{progress_of, reader_of}
 use Rattle.aho_corasick.proofs.lemmas.StreamLemmas.{HasFound}
 use Rattle.example_callers.proofs.generic_stream.all_of.Given as goal
 

@@ -1,8 +1,8 @@
 -- A read that returned some bytes hasn't ended the reader.
 use Rattle.std.proofs.Common.{ap, ◌∙◌}
 use Rattle.ac_automaton.specs.Automaton.{Built}
-use Rattle.ac_automaton.specs.Stream.StreamIter.{reader_of}
-use Rattle.ac_automaton.proofs.devices.MovedLemmas.{turns-filled}
+use Rattle.ac_automaton.specs.Stream.Iter.{reader_of}
+use Rattle.ac_automaton.proofs.stream.devices.MovedLemmas.{turns-filled}
 use Rattle.example_callers.proofs.generic_stream.StreamLemmas.{filled-standard}
 use Rattle.example_callers.proofs.generic_stream.next_match.Goals as goal
 

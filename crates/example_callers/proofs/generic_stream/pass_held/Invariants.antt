@@ -1,6 +1,6 @@
 use Rattle.std.proofs.Common.{◌≡◌, ◌-◌, length}
 use Rattle.ac_automaton.specs.Stream.{read_by}
-use Rattle.ac_automaton.specs.Stream.StreamIter.{progress_of, reader_of}
+use Rattle.ac_automaton.specs.Stream.Iter.{progress_of, reader_of}
 use Rattle.example_callers.proofs.generic_stream.pass_held.Given as goal
 
 abbrev pub invariant-loop : goal.invariant-loop

@@ -1,6 +1,6 @@
 -- The occurrences collected are those that the search returned.
 use Rattle.ac_automaton.specs.Stream.{Occurrences}
-use Rattle.ac_automaton.specs.Stream.StreamIter.{progress_of, items_left, reader_of}
+use Rattle.ac_automaton.specs.Stream.Iter.{progress_of, items_left, reader_of}
 use Rattle.aho_corasick.proofs.lemmas.StreamLemmas.{HasFound}
 use Rattle.example_callers.proofs.generic_stream_overlap.all_occurrences.Given as goal
 

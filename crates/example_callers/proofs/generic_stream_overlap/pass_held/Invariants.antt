@@ -1,7 +1,7 @@
 -- Nothing was read, and fewer occurrences are left.
 use Rattle.std.proofs.Common.{◌≡◌, ◌-◌, length}
 use Rattle.ac_automaton.specs.Stream.{Occurrences, items_of, read_by}
-use Rattle.ac_automaton.specs.Stream.StreamIter.{progress_of, reader_of}
+use Rattle.ac_automaton.specs.Stream.Iter.{progress_of, reader_of}
 use Rattle.example_callers.proofs.generic_stream_overlap.pass_held.Given as goal
 
 abbrev pub invariant-loop : goal.invariant-loop

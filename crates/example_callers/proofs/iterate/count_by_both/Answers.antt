@@ -4,7 +4,7 @@ use Rattle.std.proofs.lemmas.Iterator.Consumers.{YieldsList-from_first, count_fr
 use Rattle.ac_input.specs.Input.{whole_of}
 use Rattle.ac_literal.specs.Packed.{matches_of}
 use Rattle.ac_automaton.specs.Automaton.{walk_in}
-use Rattle.ac_automaton.specs.Iter.{left_of}
+use Rattle.ac_automaton.specs.InMemory.Iter.{left_of}
 use Rattle.aho_corasick.specs.AhoCorasick.{as_built}
 use Rattle.aho_corasick.proofs.lemmas.WalkLemmas.{matches-few}
 use Rattle.example_callers.proofs.iterate.count_by_both.Goals as goal

@@ -1,7 +1,7 @@
 -- The occurrences collected are those that the search returned.
 use Rattle.aho_corasick.specs.AhoCorasick.{as_built}
 use Rattle.ac_automaton.specs.Stream.{Occurrences}
-use Rattle.ac_automaton.specs.Stream.StreamIter.{progress_of, items_left, reader_of}
+use Rattle.ac_automaton.specs.Stream.Iter.{progress_of, items_left, reader_of}
 use Rattle.aho_corasick.proofs.lemmas.StreamLemmas.{HasFound}
 use Rattle.example_callers.proofs.streams.all_occurrences.Given as goal
 

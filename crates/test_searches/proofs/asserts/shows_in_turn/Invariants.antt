@@ -1,5 +1,5 @@
 -- The state came from calls of this automaton over this input.
-use Rattle.ac_automaton.specs.Overlapping.{CameFrom}
+use Rattle.ac_automaton.specs.InMemory.Overlapping.{CameFrom}
 use Rattle.test_searches.proofs.asserts.shows_in_turn.Given as goal
 
 abbrev pub invariant-loop-at : goal.invariant-loop-at

@@ -1,6 +1,6 @@
 -- The walk begins with all picks of its input left.
 use Rattle.std.proofs.Common.{rules}
-use Rattle.ac_automaton.proofs.iter.ItemsLemmas.{from-answers, from-few, from-in-order}
+use Rattle.ac_automaton.proofs.in_memory.iter.ItemsLemmas.{from-answers, from-few, from-in-order}
 use Rattle.ac_automaton.proofs.automaton.Automaton.try_find_iter.Goals as goal
 
 pub returns-clause-answer : goal.returns-clause-answer

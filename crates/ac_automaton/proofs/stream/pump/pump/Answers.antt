@@ -2,7 +2,7 @@
 use Rattle.std.proofs.Common.{◌≡◌, ◌++◌, ap, refl, subst, sym}
 use Rattle.std.proofs.lemmas.Result.{err_from_is_err_and}
 use Rattle.ac_automaton.specs.Stream.{StreamCounts, StreamProgress}
-use Rattle.ac_automaton.proofs.devices.MovedLemmas.{still-open}
+use Rattle.ac_automaton.proofs.stream.devices.MovedLemmas.{still-open}
 use Rattle.ac_automaton.proofs.stream.PlacedLemmas.{given-closed, less-left, nothing-read, piece-none, piece-some}
 use Rattle.ac_automaton.proofs.stream.PumpReadLemmas.{closing, filled-read, pumped-fresh, pumped-on, read-kept, read-on, read-stopped, rest-answered, searched-all, searched-since, stopped-on, unclosed-read, whole-read}
 use Rattle.ac_automaton.proofs.stream.SinkChainLemmas.{IsLawful}

@@ -2,7 +2,7 @@
 use Rattle.std.proofs.Common.{map, refl}
 use Rattle.std.proofs.lemmas.Result.{err_from_is_err_and}
 use Rattle.ac_automaton.specs.Stream.SinkLaws.{replacing-piecewise}
-use Rattle.ac_automaton.specs.Stream.StreamTexts.{replacing}
+use Rattle.ac_automaton.specs.Stream.Texts.{replacing}
 use Rattle.ac_automaton.specs.declared.error.StreamError.TheVariants.{Config, Memory}
 use Rattle.ac_automaton.proofs.stream.StreamAnswerLemmas.{cost-none, matches-cost, matches-replaced, nothing-moved}
 use Rattle.ac_automaton.proofs.stream.replace.replace_all_counted.Goals as goal

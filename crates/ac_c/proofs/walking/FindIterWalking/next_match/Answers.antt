@@ -1,6 +1,6 @@
 -- The pick of the walk is the first of what was left of it.
 use Rattle.std.proofs.Common.{false}
-use Rattle.ac_automaton.proofs.iter.IterLemmas.{pick-yields}
+use Rattle.ac_automaton.proofs.in_memory.iter.IterLemmas.{pick-yields}
 use Rattle.ac_c.proofs.walking.WalkingLemmas.{walks-pick}
 use Rattle.ac_c.proofs.walking.FindIterWalking.next_match.Goals as goal
 

@@ -1,11 +1,7 @@
 -- No place that is passed has a mark.
 use Rattle.std.proofs.Common.{arith}
-use Rattle.ac_literal.proofs.openings.OpeningLemmas.{passed-none, block-before, block-passed}
+use Rattle.ac_literal.proofs.openings.OpeningLemmas.{passed-none, block-passed}
 use Rattle.ac_literal.proofs.openings.Openings.pass.Goals as goal
-
-pub returns-then-marks-eq0-clause-passed : goal.returns-then-marks-eq0-clause-passed
-returns-then-marks-eq0-clause-passed c =
-    passed-none (block-before c.next_marks-block.ensures c.loop-at.invariant.passed)
 
 pub returns-then-place-lt-LANES-clause-passed : goal.returns-then-place-lt-LANES-clause-passed
 returns-then-place-lt-LANES-clause-passed c =

@@ -1,4 +1,4 @@
-use Rattle.std.proofs.Common.{◌-◌, arith}
+use Rattle.std.proofs.Common.{arith}
 use Rattle.ac_literal.proofs.packed.HashLemmas.{power-past}
 use Rattle.ac_literal.proofs.packed.rabinkarp.power_of.Goals as goal
 

@@ -1,9 +1,7 @@
 -- What a scan for needles ensures is what the prefilter ensures: its model names those needles.
 use Rattle.std.proofs.Common.{sym, subst}
 use Rattle.ac_input.specs.Dictionary.{Dictionary}
-use Rattle.ac_input.specs.Candidate.{Filter}
-use Rattle.ac_literal.specs.Prefilter.{IsStrategyOf, needles_of, IsNoneWithoutByte, IsCountedIn}
-use Rattle.ac_literal.specs.declared.prefilter.strategy.Strategy.{Strategy}
+use Rattle.ac_literal.specs.Prefilter.{IsStrategyOf, needles_of, IsCountedIn}
 use Rattle.ac_literal.proofs.prefilter.Prefilter.find_in_counted.Goals as goal
 
 pub returns-in-StartBytes-clause-counted : goal.returns-in-StartBytes-clause-counted
@@ -28,11 +26,3 @@ returns-in-RareBytes-clause-counted c =
     (subst (λ x. IsCountedIn (record { dictionary = m; needles = needles_of x }) c.args.haystack.now c.args.span
     c.find_start-in-RareBytes.result c.args.steps.now c.find_start-in-RareBytes.new.steps) (sym c.in-RareBytes.is)
     scanned.counted)
-
-pub returns-in-RareBytes-clause-none : goal.returns-in-RareBytes-clause-none
-returns-in-RareBytes-clause-none c =
-    let m : Dictionary =
-    record { patterns = c.self.inside.patterns.items; pairing = c.self.inside.pairing; kind = c.self.inside.kind } in
-    let scanned = c.find_start-in-RareBytes.ensures m (subst (IsStrategyOf m) c.in-RareBytes.is c.self.invariant) in
-    subst (λ f. IsNoneWithoutByte f c.args.haystack.now c.args.span c.find_start-in-RareBytes.result)
-    c.self.view_is scanned.answer.none

@@ -1,12 +1,11 @@
 -- The automaton is made from the tables, the lengths and the prefilter of the patterns.
-use Rattle.std.proofs.Common.{◌≡◌, ℕ, List, ap, subst, sym, ◌∙◌}
+use Rattle.std.proofs.Common.{◌≡◌, ap, subst, sym, ◌∙◌}
 use Rattle.ac_input.specs.Dictionary.{dictionary_of}
 use Rattle.ac_literal.specs.Packed.{bytes_of}
 use Rattle.std.specs.Prelude.{IfSome}
 use Rattle.ac_literal.specs.Openings.{AreOpenings}
 use Rattle.ac_noncontiguous.specs.Builder.{dictionary_by, noncontiguous_dense_depth}
 use Rattle.ac_noncontiguous.specs.Nfa.{AreRowsBelow}
-use Rattle.ac_noncontiguous.specs.declared.settings.Settings.{Settings}
 use Rattle.ac_noncontiguous.proofs.builder.BuilderLemmas.{opened-kind, parts-of}
 use Rattle.ac_noncontiguous.proofs.builder.Builder.build.Goals as goal
 

@@ -1,7 +1,5 @@
 -- A prefilter is built from the patterns that were collected.
 use Rattle.std.proofs.Common.{◌≡◌, true, ap, sym, ◌∙◌}
-use Rattle.ac_noncontiguous.specs.Builder.{dictionary_by}
-use Rattle.ac_noncontiguous.specs.declared.settings.Settings.{Settings}
 use Rattle.ac_noncontiguous.proofs.builder.BuilderLemmas.{some-held}
 use Rattle.ac_noncontiguous.proofs.builder.Builder.build_prefilter.Goals as goal
 

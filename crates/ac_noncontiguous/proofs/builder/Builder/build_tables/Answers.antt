@@ -2,7 +2,6 @@
 use Rattle.std.proofs.Common.{subst}
 use Rattle.ac_input.specs.Limits.{IsWithinLimits}
 use Rattle.ac_noncontiguous.specs.Builder.{AreCompiled, dictionary_by}
-use Rattle.ac_noncontiguous.specs.declared.settings.Settings.{Settings}
 use Rattle.ac_noncontiguous.proofs.trie.TrieLemmas.{trie-within}
 use Rattle.ac_noncontiguous.proofs.builder.Builder.build_tables.Goals as goal
 

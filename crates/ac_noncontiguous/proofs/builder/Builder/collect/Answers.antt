@@ -2,7 +2,6 @@
 use Rattle.std.proofs.Common.{ℕ, ◌≤◌, List, [], length, get_or, sym, ap, arith, ◌∙◌}
 use Rattle.std.proofs.lemmas.List.{length-map}
 use Rattle.std.specs.Borrow.{Bor}
-use Rattle.ac_input.specs.Dictionary.{Dictionary}
 use Rattle.ac_input.specs.Limits.{with_pattern}
 use Rattle.ac_noncontiguous.specs.Builder.{dictionary_by}
 use Rattle.ac_noncontiguous.proofs.builder.BuildLemmas.{first-more, pattern-at}

@@ -1,5 +1,5 @@
 -- Each byte leads to the trie state's child for it, or to the number given for no child.
-use Rattle.std.proofs.Common.{◌≡◌, ℕ, ◌<◌, ◌∙◌, sym, subst, arith, slice_index, length}
+use Rattle.std.proofs.Common.{◌≡◌, ◌<◌, ◌∙◌, sym, subst, arith, slice_index, length}
 use Rattle.std.proofs.lemmas.List.{get_or_read}
 use Rattle.ac_noncontiguous.specs.Compiler.Edges.{missing, IsEdgeTo}
 use Rattle.ac_noncontiguous.proofs.compiler.EdgeLemmas.{edge-target, edge-dead, missing-start, missing-other}

@@ -1,9 +1,8 @@
 -- The children come in rising order of byte.
-use Rattle.std.proofs.Common.{◌≡◌, ◌<◌, rules, ap, ◌∙◌, sym, subst, arith, length, ◌+◌, length-set, slice_index}
+use Rattle.std.proofs.Common.{◌≡◌, ◌<◌, rules, ap, ◌∙◌, sym, subst, arith, length, ◌+◌, length-set}
 use Rattle.std.proofs.lemmas.Bool.Decides.{nat_tests}
-use Rattle.std.proofs.lemmas.List.{get_or_read}
-use Rattle.ac_noncontiguous.specs.declared.trie.State.{State}
 use Rattle.ac_noncontiguous.specs.Trie.Tree.{IsFirstChild, parent, byte, child, sibling}
+use Rattle.ac_noncontiguous.proofs.lemmas.IndexLemmas.{read-there}
 use Rattle.ac_noncontiguous.proofs.compiler.EdgeLemmas.{targets-none, targets-set, targets-all, sibling-first, sibling-rises}
 use Rattle.ac_noncontiguous.proofs.compiler.edges.targets.Goals as goal
 
@@ -21,7 +20,6 @@ loop-at-init c =
 pub loop-at-preserved : goal.loop-at-preserved
 loop-at-preserved c =
     let states = c.args.trie.now.states.items in
-    let numbers = c.args.numbering.now.of.items in
     let at = c.loop-at.at in
     let targets = c.loop-at.targets in
     let some : 0 < at = grind (arith, nat_tests) in
@@ -29,10 +27,8 @@ loop-at-preserved c =
     let within : at < length states = (f.is_child some).0 in
     let low : c.state-child.result.byte ≡ byte states at = ap (λ s. s.byte) c.state-child.ensures in
     let next : c.state-child.result.sibling ≡ sibling states at = ap (λ s. s.sibling) c.state-child.ensures in
-    let read : c.index.result.now
-    ≡ slice_index numbers at = get_or_read numbers c.as_usize.result c.index.result.now
-    (omega (arith, c.requires.numbers, c.as_usize.ensures.value)) c.index.ensures 0
-    ∙ ap (slice_index numbers) c.as_usize.ensures.value in (
+    let read = read-there c.args.numbering.now.of.items (omega (arith, within, c.requires.numbers))
+    c.as_usize.ensures.value c.index.ensures in (
       byte states at + 1,
       subst (IsFirstChild (length states) (parent states) (byte states) c.args.of (byte states at + 1)) (sym next)
           (sibling-first states c.args.trie.now.tree some f),

@@ -1,5 +1,5 @@
 -- From the last state back, so that the first one that stands for a trie state gives it its number.
-use Rattle.std.proofs.Common.{◌≡◌, ℕ, ◌+◌, ◌-◌, ◌<◌, length, subst, ◌∙◌, arith, length-set}
+use Rattle.std.proofs.Common.{◌≡◌, ◌+◌, ◌-◌, ◌<◌, length, subst, ◌∙◌, arith, length-set}
 use Rattle.std.proofs.lemmas.List.{get_or_read}
 use Rattle.ac_noncontiguous.specs.Compiler.Numbering.{AreFirstNumbers}
 use Rattle.ac_noncontiguous.proofs.compiler.NumberingLemmas.{first-none, first-set}

@@ -1,6 +1,5 @@
 -- Each byte of a state, and its partner, is parted from all others, and no other byte is.
 use Rattle.std.proofs.Common.{◌≡◌, ap, subst, ◌∙◌, ℕ, length, arith}
-use Rattle.ac_noncontiguous.specs.declared.trie.State.{State}
 use Rattle.ac_noncontiguous.specs.Trie.Tree.{byte}
 use Rattle.ac_noncontiguous.specs.Compiler.Layout.{AreStateEdges}
 use Rattle.ac_noncontiguous.proofs.compiler.RowLemmas.{parted-more, parted-all}

@@ -1,5 +1,5 @@
 -- Bytes of one class write one number.
-use Rattle.std.proofs.Common.{◌≡◌, ◌+◌, ◌<◌, ℕ, length, get_or, subst, ◌∙◌, arith, length-set}
+use Rattle.std.proofs.Common.{◌≡◌, ◌+◌, ◌<◌, length, get_or, subst, ◌∙◌, arith, length-set}
 use Rattle.std.proofs.lemmas.List.{get_or_default}
 use Rattle.ac_input.specs.Alphabet.{class}
 use Rattle.ac_noncontiguous.specs.Compiler.Layout.{IsRowAppended}

@@ -1,8 +1,6 @@
 -- What is stored for a state is read from the numbering, the links and the trie.
 use Rattle.std.proofs.Common.{◌≡◌, ℕ, ◌<◌, ◌∙◌, length, slice_index, slice_index_or, refl, ap, subst, arith}
 use Rattle.std.proofs.lemmas.List.{get_or_read}
-use Rattle.ac_noncontiguous.specs.declared.links.Range.{Range}
-use Rattle.ac_noncontiguous.specs.declared.trie.State.{State}
 use Rattle.ac_noncontiguous.specs.Trie.Tree.{depth}
 use Rattle.ac_noncontiguous.specs.Links.{no_range}
 use Rattle.ac_noncontiguous.specs.Compiler.Numbering.{IsNumbering}

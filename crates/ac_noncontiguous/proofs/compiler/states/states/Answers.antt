@@ -1,5 +1,5 @@
 -- The entries of one state after another are appended, and then the end entry.
-use Rattle.std.proofs.Common.{◌≡◌, ◌+◌, List, length, slice_index, subst, sym, ap, refl, arith}
+use Rattle.std.proofs.Common.{◌≡◌, ◌+◌, length, slice_index, subst, sym, ap, refl, arith}
 use Rattle.ac_noncontiguous.specs.declared.nfa.tables.State.{State}
 use Rattle.ac_noncontiguous.specs.Nfa.{no_row}
 use Rattle.ac_noncontiguous.specs.Compiler.Assembly.{AreKept}

@@ -1,7 +1,6 @@
 -- Each byte in turn gets a transition, or none.
-use Rattle.std.proofs.Common.{◌≡◌, ◌≢◌, ◌+◌, List, get_or, true, false, slice_index, subst, sym, ap, ◌∙◌, arith}
+use Rattle.std.proofs.Common.{◌≡◌, ◌≢◌, ◌+◌, get_or, true, false, slice_index, subst, sym, ap, ◌∙◌, arith}
 use Rattle.std.proofs.lemmas.List.{get_or_default}
-use Rattle.ac_noncontiguous.specs.declared.nfa.tables.Transition.{Transition}
 use Rattle.ac_noncontiguous.specs.Compiler.Layout.{AreAppended}
 use Rattle.ac_noncontiguous.proofs.compiler.LayoutLemmas.{appended-push, appended-skip}
 use Rattle.ac_noncontiguous.proofs.compiler.transitions.push_edges.Goals as goal

@@ -1,8 +1,7 @@
 -- A state gets the transitions to its only child, or those of its edges; the fail state gets none.
-use Rattle.std.proofs.Common.{◌<◌, List, length, sym, subst, arith}
+use Rattle.std.proofs.Common.{◌<◌, length, sym, subst, arith}
 use Rattle.std.proofs.lemmas.List.{get_or_read}
 use Rattle.std.proofs.lemmas.Result.{IfOk-weaker}
-use Rattle.ac_noncontiguous.specs.declared.nfa.tables.Transition.{Transition}
 use Rattle.ac_noncontiguous.specs.Compiler.Layout.{HasAll, IsAppended}
 use Rattle.ac_noncontiguous.proofs.compiler.LayoutLemmas.{laid-edges, laid-fail}
 use Rattle.ac_noncontiguous.proofs.compiler.OnlyLemmas.{laid-only}

@@ -1,11 +1,10 @@
-use Rattle.std.proofs.Common.{sym, subst, ap, ◌∙◌, List, ℕ}
+use Rattle.std.proofs.Common.{sym, subst, ◌∙◌, List, ℕ}
 use Rattle.ac_input.specs.Alphabet.Classes.{AreByteClasses}
 use Rattle.ac_input.specs.Dictionary.{dictionary_of}
 use Rattle.ac_input.specs.Limits.{IsWithinLimits}
-use Rattle.std.specs.Prelude.{IfSome}
-use Rattle.ac_literal.specs.Openings.{AreOpenings}
 use Rattle.ac_noncontiguous.specs.Nfa.{AreTables}
 use Rattle.ac_noncontiguous.specs.Nfa.Reads.{dictionary}
+use Rattle.ac_noncontiguous.proofs.lemmas.CopyLemmas.{opened-same, held-same}
 use Rattle.ac_noncontiguous.proofs.nfa.ReadCallLemmas.{same-tables}
 use Rattle.ac_noncontiguous.proofs.nfa.NFA.clone.Goals as goal
 
@@ -25,13 +24,11 @@ from_parts-requires-clause-parts c =
           ∥ AreByteClasses (dictionary_of patterns a.pairing a.kind) c.in_ok-tables.tables.classes ∥₁) same
           (subst (λ classes. ∥ AreByteClasses (dictionary a) classes ∥₁) (sym c.in_ok-tables.ensures.classes)
           a.classed);
-      held = λ f is. a.held f (sym (c.in_ok-prefilter.ensures ∙ c.as_ref.ensures.value) ∙ is)
-          ∙ ap (λ patterns. dictionary_of patterns a.pairing a.kind) same;
+      held = held-same a.pairing a.kind c.in_ok-lens.ensures (c.in_ok-prefilter.ensures ∙ c.as_ref.ensures.value)
+          a.held;
       paired = a.paired;
     }
 
 pub from_parts-requires-clause-opened : goal.from_parts-requires-clause-opened
-from_parts-requires-clause-opened c =
-    let a = c.args.self.now in
-    subst (λ patterns. ∥ IfSome a.skips.openings (AreOpenings (dictionary_of patterns a.pairing a.kind)) ∥₁)
-    (sym c.in_ok-lens.ensures) a.opened
+from_parts-requires-clause-opened c = let a = c.args.self.now in
+    opened-same a.skips.openings a.pairing a.kind c.in_ok-lens.ensures a.opened

@@ -1,5 +1,4 @@
 use Rattle.std.proofs.Common.{◌≡◌, ap, subst}
-use Rattle.ac_noncontiguous.specs.declared.nfa.tables.State.{State}
 use Rattle.ac_noncontiguous.specs.Nfa.ReadCalls.{fail_in, FailsIn}
 use Rattle.ac_noncontiguous.proofs.nfa.LookupLemmas.{kept-read}
 use Rattle.ac_noncontiguous.proofs.nfa.ReadCallLemmas.{below-kept, fails-in}

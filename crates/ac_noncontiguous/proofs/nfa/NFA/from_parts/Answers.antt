@@ -1,4 +1,3 @@
-use Rattle.ac_input.specs.Dictionary.{dictionary_of}
 use Rattle.ac_noncontiguous.proofs.nfa.IdleLemmas.{start-kept}
 use Rattle.ac_noncontiguous.proofs.nfa.NFA.from_parts.Goals as goal
 

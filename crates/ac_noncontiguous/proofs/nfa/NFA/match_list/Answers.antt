@@ -1,5 +1,4 @@
-use Rattle.std.proofs.Common.{◌≡◌, ℕ, List, take, drop, ap, ap₂, sym, subst, ◌∙◌, length, arith}
-use Rattle.ac_noncontiguous.specs.declared.nfa.tables.State.{State}
+use Rattle.std.proofs.Common.{◌≡◌, take, drop, ap, ap₂, sym, subst, ◌∙◌, length, arith}
 use Rattle.ac_noncontiguous.specs.Nfa.Reads.{matches_at}
 use Rattle.ac_noncontiguous.specs.Nfa.ReadCalls.{ListsIn}
 use Rattle.ac_noncontiguous.proofs.nfa.LookupLemmas.{kept-read}

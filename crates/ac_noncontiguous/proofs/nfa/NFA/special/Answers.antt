@@ -1,4 +1,4 @@
-use Rattle.std.proofs.Common.{◌≡◌, ℕ, ◌+◌, sym, subst, ◌∙◌}
+use Rattle.std.proofs.Common.{◌≡◌, ◌+◌, sym, subst, ◌∙◌}
 use Rattle.ac_noncontiguous.specs.Nfa.ReadCalls.{special_in, OfTexts, AreBounds}
 use Rattle.ac_noncontiguous.proofs.nfa.ReadCallLemmas.{special-in, readable-in}
 use Rattle.ac_noncontiguous.proofs.nfa.NFA.special.Goals as goal

@@ -1,8 +1,6 @@
 -- The state that is pushed and linked in is one more state of the trie.
-use Rattle.std.proofs.Common.{◌≡◌, ◌<◌, ◌+◌, ◌++◌, ◌∷◌, [], List, length, length-append, arith, rules, ap, sym, subst, ◌∙◌}
+use Rattle.std.proofs.Common.{◌≡◌, ◌<◌, ◌+◌, ◌++◌, ◌∷◌, [], length, length-append, arith, rules, ap, sym, subst, ◌∙◌}
 use Rattle.std.proofs.lemmas.Bool.Decides.{nat_tests}
-use Rattle.ac_noncontiguous.specs.declared.trie.State.{State}
-use Rattle.ac_noncontiguous.specs.declared.trie.Trie.{Trie}
 use Rattle.ac_noncontiguous.specs.Trie.Tree.{depth, IsAdded}
 use Rattle.ac_noncontiguous.proofs.trie.OwnLemmas.{ends-set}
 use Rattle.ac_noncontiguous.proofs.trie.GrownLemmas.{tree-grown, added-grown, no-such}
@@ -16,29 +14,43 @@ overflow_add-state c =
     let was = ap (λ s. s.depth) c.state.ensures in
     omega arith
 
-pub invariant_of-self-then-eq-clause-tree : goal.invariant_of-self-then-eq-clause-tree
-invariant_of-self-then-eq-clause-tree c =
+pub invariant_of-self-then-eq : goal.invariant_of-self-then-eq
+invariant_of-self-then-eq c =
     let old = c.args.self.now.states.items in
     let pushed : c.push.new.self.items
     ≡ old ++ fresh c.args.of c.args.byte c.args.place.at (c.state.result.depth + 1) ∷ [] = search rules in
+    let len = ap length pushed ∙ length-append old (fresh _ _ _ _ ∷ []) in
     let deeper : c.state.result.depth + 1 ≡ depth old c.args.of + 1 = ap (λ s. s.depth + 1) c.state.ensures in
     let last : c.must-id.result ≡ length old = omega arith in
     let none : c.args.place.before ≡ 0 = grind (arith, nat_tests) in
     let g = linked-child c.requires.within none pushed deeper c.as_usize.ensures.value last c.index_mut.ensures.value in
-    tree-grown g c.args.self.now.tree c.requires.within c.requires.place c.requires.missing
+    record {
+      tree = tree-grown g c.args.self.now.tree c.requires.within c.requires.place c.requires.missing;
+      few = few-set _ _ _ (omega arith);
+      counted = c.args.self.now.counted;
+      paired = c.args.self.now.paired;
+      placed = ends-set _ _ _ _ (omega arith) c.args.self.now.placed;
+    }
 
-pub invariant_of-self-else-eq-clause-tree : goal.invariant_of-self-else-eq-clause-tree
-invariant_of-self-else-eq-clause-tree c =
+pub invariant_of-self-else-eq : goal.invariant_of-self-else-eq
+invariant_of-self-else-eq c =
     let old = c.args.self.now.states.items in
     let pushed : c.push.new.self.items
     ≡ old ++ fresh c.args.of c.args.byte c.args.place.at (c.state.result.depth + 1) ∷ [] = search rules in
+    let len = ap length pushed ∙ length-append old (fresh _ _ _ _ ∷ []) in
     let deeper : c.state.result.depth + 1 ≡ depth old c.args.of + 1 = ap (λ s. s.depth + 1) c.state.ensures in
     let last : c.must-id.result ≡ length old = omega arith in
     let some : 0 < c.args.place.before = grind (arith, nat_tests) in
     let w = c.requires.place.way.next some in
     let g = linked-sibling c.requires.within w.0 some pushed deeper c.as_usize-else-eq.ensures.value last
     c.index_mut-else-eq.ensures.value in
-    tree-grown g c.args.self.now.tree c.requires.within c.requires.place c.requires.missing
+    record {
+      tree = tree-grown g c.args.self.now.tree c.requires.within c.requires.place c.requires.missing;
+      few = few-set _ _ _ (omega arith);
+      counted = c.args.self.now.counted;
+      paired = c.args.self.now.paired;
+      placed = ends-set _ _ _ _ (omega arith) c.args.self.now.placed;
+    }
 
 pub returns-clause-added : goal.returns-clause-added
 returns-clause-added c =
@@ -73,43 +85,3 @@ returns-then-len-ge-MOST_STATES-clause-refused c =
       omega arith,
       no-such c.args.self.now.tree c.requires.within c.requires.place c.requires.missing,
     )
-
-pub invariant_of-self-then-eq-clause-few : goal.invariant_of-self-then-eq-clause-few
-invariant_of-self-then-eq-clause-few c =
-    let pushed : c.push.new.self.items
-    ≡ c.args.self.now.states.items ++ fresh c.args.of c.args.byte c.args.place.at (c.state.result.depth + 1) ∷ [] =
-    search rules in
-    let len : length c.push.new.self.items ≡ length c.args.self.now.states.items + 1 = ap length pushed
-    ∙ length-append c.args.self.now.states.items
-    (fresh c.args.of c.args.byte c.args.place.at (c.state.result.depth + 1) ∷ []) in
-    few-set _ _ _ (omega arith)
-
-pub invariant_of-self-else-eq-clause-few : goal.invariant_of-self-else-eq-clause-few
-invariant_of-self-else-eq-clause-few c =
-    let pushed : c.push.new.self.items
-    ≡ c.args.self.now.states.items ++ fresh c.args.of c.args.byte c.args.place.at (c.state.result.depth + 1) ∷ [] =
-    search rules in
-    let len : length c.push.new.self.items ≡ length c.args.self.now.states.items + 1 = ap length pushed
-    ∙ length-append c.args.self.now.states.items
-    (fresh c.args.of c.args.byte c.args.place.at (c.state.result.depth + 1) ∷ []) in
-    few-set _ _ _ (omega arith)
-
-pub invariant_of-self-then-eq-clause-placed : goal.invariant_of-self-then-eq-clause-placed
-invariant_of-self-then-eq-clause-placed c =
-    let pushed : c.push.new.self.items
-    ≡ c.args.self.now.states.items ++ fresh c.args.of c.args.byte c.args.place.at (c.state.result.depth + 1) ∷ [] =
-    search rules in
-    let len : length c.push.new.self.items ≡ length c.args.self.now.states.items + 1 = ap length pushed
-    ∙ length-append c.args.self.now.states.items
-    (fresh c.args.of c.args.byte c.args.place.at (c.state.result.depth + 1) ∷ []) in
-    ends-set _ _ _ _ (omega arith) c.args.self.now.placed
-
-pub invariant_of-self-else-eq-clause-placed : goal.invariant_of-self-else-eq-clause-placed
-invariant_of-self-else-eq-clause-placed c =
-    let pushed : c.push.new.self.items
-    ≡ c.args.self.now.states.items ++ fresh c.args.of c.args.byte c.args.place.at (c.state.result.depth + 1) ∷ [] =
-    search rules in
-    let len : length c.push.new.self.items ≡ length c.args.self.now.states.items + 1 = ap length pushed
-    ∙ length-append c.args.self.now.states.items
-    (fresh c.args.of c.args.byte c.args.place.at (c.state.result.depth + 1) ∷ []) in
-    ends-set _ _ _ _ (omega arith) c.args.self.now.placed

@@ -1,36 +1,26 @@
 -- Each place looked at holds a child of the state, and in the end all of them were looked at.
-use Rattle.std.proofs.Common.{◌+◌, ◌∙◌, arith, sym}
+use Rattle.std.proofs.Common.{◌∙◌, arith, sym}
 use Rattle.std.proofs.lemmas.List.{get_or_read}
-use Rattle.ac_noncontiguous.proofs.trie.ChildrenLemmas.{first-read, among-within, one-among, none-among}
+use Rattle.ac_noncontiguous.proofs.trie.ChildrenLemmas.{first-read, among-within, read-among, one-among, none-among}
 use Rattle.ac_noncontiguous.proofs.trie.Trie.child_among.Goals as goal
 
 pub index-requires : goal.index-requires
-index-requires c =
-    let a = c.requires.children in
-    let end = first-read _ _ _ _ _ _ {i = c.args.of + 1} _ a (omega (arith, c.requires.within)) (omega arith)
-    c.index-end.ensures in
-    omega (
-      arith,
-      among-within _ _ _ _ c.args.of c.index-end.result.now c.loop-at.at a c.requires.within end (omega arith),
-    )
+index-requires c = let in_ =
+    read-among c.loop-at.at c.requires.children c.requires.within (omega arith) c.index-end.ensures (omega arith) in
+    omega (arith, in_)
 
 pub index-requires-then-index-byte : goal.index-requires-then-index-byte
-index-requires-then-index-byte c =
-    let a = c.requires.children in
-    let end = first-read _ _ _ _ _ _ {i = c.args.of + 1} _ a (omega (arith, c.requires.within)) (omega arith)
-    c.index-end.ensures in
-    omega (
-      arith,
-      among-within _ _ _ _ c.args.of c.index-end.result.now c.loop-at.at a c.requires.within end (omega arith),
-    )
+index-requires-then-index-byte c = let in_ =
+    read-among c.loop-at.at c.requires.children c.requires.within (omega arith) c.index-end.ensures (omega arith) in
+    omega (arith, in_)
 
 pub returns-then-index-byte : goal.returns-then-index-byte
 returns-then-index-byte c =
     let a = c.requires.children in
     let at = c.loop-at.at in
-    let from = first-read _ _ _ _ _ _ _ a (omega (arith, c.requires.within)) (omega arith) c.index-from.ensures in
-    let end = first-read _ _ _ _ _ _ _ a (omega (arith, c.requires.within)) (omega arith) c.index-end.ensures in
-    let in_ = among-within _ _ _ _ c.args.of c.index-end.result.now at a c.requires.within end (omega arith) in
+    let from = first-read a (omega (arith, c.requires.within)) (omega arith) c.index-from.ensures in
+    let end = first-read a (omega (arith, c.requires.within)) (omega arith) c.index-end.ensures in
+    let in_ = among-within at a c.requires.within end (omega arith) in
     let byte = get_or_read c.args.children.now.bytes.items at c.index.result.now in_.1 c.index.ensures 0 in
     let id = get_or_read c.args.children.now.ids.items at c.index-then-index-byte.result.now in_.0
     c.index-then-index-byte.ensures 0 in
@@ -39,6 +29,6 @@ returns-then-index-byte c =
 pub returns : goal.returns
 returns c =
     let a = c.requires.children in
-    let from = first-read _ _ _ _ _ _ _ a (omega (arith, c.requires.within)) (omega arith) c.index-from.ensures in
-    let end = first-read _ _ _ _ _ _ _ a (omega (arith, c.requires.within)) (omega arith) c.index-end.ensures in
+    let from = first-read a (omega (arith, c.requires.within)) (omega arith) c.index-from.ensures in
+    let end = first-read a (omega (arith, c.requires.within)) (omega arith) c.index-end.ensures in
     none-among a c.requires.within from end (λ k low high. c.loop-at.invariant k low (omega arith))

@@ -1,5 +1,5 @@
 -- The children of one state after another are appended.
-use Rattle.std.proofs.Common.{◌≡◌, ◌∷◌, ◌++◌, [], ℕ, length, subst, ap, ◌∙◌, arith, rules}
+use Rattle.std.proofs.Common.{◌≡◌, ◌∷◌, ◌++◌, [], length, subst, ap, ◌∙◌, arith, rules}
 use Rattle.ac_noncontiguous.specs.Links.Children.{AppendsChildren}
 use Rattle.ac_noncontiguous.proofs.trie.ChildrenLemmas.{all-none, all-more}
 use Rattle.ac_noncontiguous.proofs.trie.Trie.children.Goals as goal

@@ -1,8 +1,7 @@
 -- The failure of a state, by cases: final states, the start and its children, and the others by their parent's failure.
 use Rattle.std.proofs.Common.{◌≡◌, ◌≢◌, ◌+◌, ◌∙◌, sym, ap, Some, None, subst, arith}
 use Rattle.std.proofs.lemmas.Bool.Decides.{nat_tests}
-use Rattle.ac_noncontiguous.specs.declared.trie.State.{State}
-use Rattle.ac_noncontiguous.specs.Trie.Tree.{parent, depth}
+use Rattle.ac_noncontiguous.specs.Trie.Tree.{parent}
 use Rattle.ac_noncontiguous.specs.Links.Failures.{IsFinalIn}
 use Rattle.ac_noncontiguous.proofs.trie.BridgeLemmas.{byte-settled}
 use Rattle.ac_noncontiguous.proofs.trie.FailLemmas.{stands-of, start-fails, final-fails, first-fails, none-fails, more-fails, above-read, above-fewer, failure-less, goes-on}

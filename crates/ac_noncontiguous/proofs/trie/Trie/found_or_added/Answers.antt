@@ -1,6 +1,5 @@
 use Rattle.std.proofs.Common.{◌<◌, ap, ◌∙◌, sym, arith}
 use Rattle.std.proofs.lemmas.Bool.Decides.{nat_tests}
-use Rattle.ac_noncontiguous.specs.declared.trie.State.{State}
 use Rattle.ac_noncontiguous.proofs.trie.StepLemmas.{step-found}
 use Rattle.ac_noncontiguous.proofs.trie.Trie.found_or_added.Goals as goal
 

@@ -3,7 +3,7 @@ use Rattle.std.proofs.Common.{ℕ, ◌≤◌, List, length, sym, subst, arith}
 use Rattle.std.proofs.lemmas.List.{length-map}
 use Rattle.std.proofs.lemmas.Result.{err_from_is_err_and}
 use Rattle.std.specs.Borrow.{Bor}
-use Rattle.ac_input.specs.Dictionary.{Dictionary, dictionary_of}
+use Rattle.ac_input.specs.Dictionary.{dictionary_of}
 use Rattle.ac_literal.specs.Packed.{bytes_of}
 use Rattle.ac_noncontiguous.specs.Trie.Kept.{IsTrieOf}
 use Rattle.ac_noncontiguous.proofs.trie.TrieLemmas.{trie-within}

@@ -1,5 +1,5 @@
 -- A pass from the last state back makes the list of each depth.
-use Rattle.std.proofs.Common.{◌≡◌, ℕ, ◌+◌, ◌-◌, ◌<◌, length, subst, arith}
+use Rattle.std.proofs.Common.{◌≡◌, ◌+◌, ◌-◌, ◌<◌, length, subst, arith}
 use Rattle.std.proofs.lemmas.List.{get_or_read}
 use Rattle.ac_noncontiguous.specs.Links.Order.{AreLevels}
 use Rattle.ac_noncontiguous.proofs.lemmas.OrderLemmas.{levels-filled, levels-more, level-in}

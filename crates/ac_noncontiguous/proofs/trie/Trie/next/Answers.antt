@@ -1,8 +1,7 @@
 -- Each failure that is followed is shallower, and the byte leads from it to where it leads from the first state.
-use Rattle.std.proofs.Common.{◌≡◌, ◌<◌, ◌∙◌, sym, refl, Some, None, length, subst, slice_get, arith}
-use Rattle.std.proofs.lemmas.Option.{slice_get_read}
+use Rattle.std.proofs.Common.{◌∙◌, sym, None, subst, arith}
 use Rattle.ac_noncontiguous.specs.Links.Failures.{IsToldBy}
-use Rattle.ac_noncontiguous.proofs.trie.FailLemmas.{follows-more, left-less, failure-within, told-returns, stands-of, none-of}
+use Rattle.ac_noncontiguous.proofs.trie.FailLemmas.{fail-read, follows-more, left-less, failure-within, told-returns, stands-of, none-of}
 use Rattle.ac_noncontiguous.proofs.trie.Trie.next.Goals as goal
 
 pub told_by-told-requires-clause-within : goal.told_by-told-requires-clause-within
@@ -23,12 +22,9 @@ bounds-fails-as_usize c =
 
 pub loop-at-smaller : goal.loop-at-smaller
 loop-at-smaller c =
-    let fails = c.args.fails.now in
     let at = c.loop-at.invariant.shallow c.in-Some.id c.in-Some.is in
-    let within : c.in-Some.id < length fails = omega (arith, at.0, c.requires.shallower.counted) in
-    let given : slice_get fails c.in-Some.id
-    ≡ Some c.index-fails-as_usize.result = slice_get_read fails (length fails) c.in-Some.id
-    c.index-fails-as_usize.result refl within (rw c.as_usize.ensures.value at c.index-fails-as_usize.is) in
+    let given = fail-read c.args.fails.now (omega (arith, at.0, c.requires.shallower.counted)) c.as_usize.ensures.value
+    c.index-fails-as_usize.is in
     left-less c.loop-at.at _ c.requires.shallower c.in-Some.is given
 
 pub loop-at-preserved : goal.loop-at-preserved
@@ -36,10 +32,8 @@ loop-at-preserved c =
     let states = c.args.self.now.states.items in
     let fails = c.args.fails.now in
     let at = c.loop-at.invariant.shallow c.in-Some.id c.in-Some.is in
-    let within : c.in-Some.id < length fails = omega (arith, at.0, c.requires.shallower.counted) in
-    let given : slice_get fails c.in-Some.id
-    ≡ Some c.index-fails-as_usize.result = slice_get_read fails (length fails) c.in-Some.id
-    c.index-fails-as_usize.result refl within (rw c.as_usize.ensures.value at c.index-fails-as_usize.is) in
+    let given = fail-read c.args.fails.now (omega (arith, at.0, c.requires.shallower.counted)) c.as_usize.ensures.value
+    c.index-fails-as_usize.is in
     let untold : IsToldBy states c.in-Some.id c.args.byte None = subst (IsToldBy states c.in-Some.id c.args.byte)
     (none-of c.told_by-told.result (sym c.is_some.ensures ∙ c.if-is_some.false)) c.told_by-told.ensures in
     record {

@@ -1,9 +1,9 @@
 -- A pass from the last pattern back makes the list of each state.
-use Rattle.std.proofs.Common.{◌≡◌, ℕ, ◌+◌, ◌-◌, ◌<◌, length, subst, sym, arith}
+use Rattle.std.proofs.Common.{◌≡◌, ◌+◌, ◌-◌, ◌<◌, length, subst, sym, arith}
 use Rattle.std.proofs.lemmas.List.{get_or_read}
 use Rattle.ac_noncontiguous.specs.Links.Own.{AreOwnChains}
 use Rattle.std.specs.Prelude.{Some, slice_get}
-use Rattle.ac_noncontiguous.proofs.trie.OwnLemmas.{own-filled, own-skipped, own-more, own-read, none-read}
+use Rattle.ac_noncontiguous.proofs.trie.OwnLemmas.{own-filled, own-skipped, own-more, own-read, none-read, end-within}
 use Rattle.ac_noncontiguous.proofs.trie.Trie.own_patterns.Goals as goal
 
 pub loop-from-init : goal.loop-from-init
@@ -19,16 +19,14 @@ loop-from-init c =
 
 pub index-requires-in-Some : goal.index-requires-in-Some
 index-requires-in-Some c =
-    let within : c.loop-from.from - 1 < length c.args.self.now.ends.items = omega (arith, c.loop-from.invariant.0) in
-    let id_in =
-    c.args.self.now.placed (c.loop-from.from - 1) c.in-Some.id (own-read _ within c.index.ensures c.in-Some.is) in
+    let id_in = end-within _ (c.loop-from.from - 1) c.args.self.now.placed (omega (arith, c.loop-from.invariant.0))
+    c.index.ensures c.in-Some.is in
     omega (arith, id_in, c.as_usize-id.ensures.value, c.loop-from.invariant.1.lens.0)
 
 pub index_mut-requires-in-Some : goal.index_mut-requires-in-Some
 index_mut-requires-in-Some c =
-    let within : c.loop-from.from - 1 < length c.args.self.now.ends.items = omega (arith, c.loop-from.invariant.0) in
-    let id_in =
-    c.args.self.now.placed (c.loop-from.from - 1) c.in-Some.id (own-read _ within c.index.ensures c.in-Some.is) in
+    let id_in = end-within _ (c.loop-from.from - 1) c.args.self.now.placed (omega (arith, c.loop-from.invariant.0))
+    c.index.ensures c.in-Some.is in
     omega (arith, id_in, c.as_usize-id.ensures.value, c.loop-from.invariant.1.lens.0)
 
 pub loop-from-preserved : goal.loop-from-preserved

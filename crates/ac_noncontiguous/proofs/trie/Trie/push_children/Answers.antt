@@ -1,8 +1,7 @@
 -- The first child and its siblings are the children, in rising order of byte.
-use Rattle.std.proofs.Common.{ℕ, ◌+◌, ◌<◌, ◌∷◌, ◌++◌, [], List, length, map, subst, sym, ap, ◌∙◌, append-nil, append_assoc, arith}
+use Rattle.std.proofs.Common.{◌+◌, ◌<◌, ◌∷◌, ◌++◌, [], length, map, subst, sym, ap, ◌∙◌, append-nil, append_assoc, arith}
 use Rattle.std.proofs.lemmas.Bool.Decides.{nat_tests}
 use Rattle.std.proofs.lemmas.List.{map-append}
-use Rattle.ac_noncontiguous.specs.declared.trie.State.{State}
 use Rattle.ac_noncontiguous.specs.Trie.Tree.{IsFirstChild, parent, byte, sibling}
 use Rattle.ac_noncontiguous.proofs.trie.ChildrenLemmas.{below-none, below-more, below-all}
 use Rattle.ac_noncontiguous.proofs.trie.Trie.push_children.Goals as goal

@@ -1,5 +1,5 @@
 -- The list of a depth leads from each state to the next one.
-use Rattle.std.proofs.Common.{◌≡◌, ℕ, ◌+◌, ◌<◌, ◌∷◌, ◌++◌, [], length, slice_index, subst, sym, ap, ◌∙◌, arith}
+use Rattle.std.proofs.Common.{◌≡◌, ◌+◌, ◌<◌, ◌∷◌, ◌++◌, [], length, slice_index, subst, sym, ap, ◌∙◌, arith}
 use Rattle.std.proofs.lemmas.List.{get_or_read}
 use Rattle.ac_noncontiguous.specs.Links.Order.{IsNextOf, AreInOrder}
 use Rattle.ac_noncontiguous.proofs.lemmas.OrderLemmas.{order-more, order-next}

@@ -1,17 +1,16 @@
 -- The list of a state leads from each pattern to the next one.
-use Rattle.std.proofs.Common.{◌≡◌, ℕ, ◌+◌, ◌<◌, ◌∷◌, ◌++◌, [], List, length, slice_index, subst, sym, ap, ◌∙◌, append-nil, append_assoc, arith}
+use Rattle.std.proofs.Common.{◌≡◌, ◌+◌, ◌<◌, ◌∷◌, ◌++◌, [], length, subst, sym, ap, ◌∙◌, append-nil, append_assoc, arith}
 use Rattle.std.proofs.lemmas.List.{get_or_read}
 use Rattle.ac_noncontiguous.specs.Links.Own.{IsNextEnd}
+use Rattle.ac_noncontiguous.proofs.lemmas.IndexLemmas.{read-there}
 use Rattle.ac_noncontiguous.proofs.trie.OwnLemmas.{list-none, list-more, list-all, next-nearer}
 use Rattle.ac_noncontiguous.proofs.trie.Trie.push_own.Goals as goal
 
 pub loop-at-init : goal.loop-at-init
 loop-at-init c =
     let o = c.requires.own in
-    let first = c.args.own.now.first.items in
-    let read = get_or_read first c.as_usize.result c.index.result.now
-    (omega (arith, o.lens.0, c.as_usize.ensures.value, c.requires.within)) c.index.ensures 0
-    ∙ ap (slice_index first) c.as_usize.ensures.value in (
+    let read = read-there c.args.own.now.first.items (omega (arith, o.lens.0, c.requires.within))
+    c.as_usize.ensures.value c.index.ensures in (
       0,
       [],
       subst (IsNextEnd c.args.self.now.ends.items c.args.id 0) (sym read) (o.firsts c.args.id c.requires.within),

@@ -1,4 +1,4 @@
-use Rattle.std.proofs.Common.{Bool, ◌∙◌, ap, sym, subst, refl}
+use Rattle.std.proofs.Common.{◌∙◌, ap, sym, subst, refl}
 use Rattle.ac_input.specs.Input.{is_anchored}
 use Rattle.ac_tables.specs.Contiguous.Reads.{IsMet}
 use Rattle.ac_tables.specs.Contiguous.WordReads.{ByteLeadsTo}

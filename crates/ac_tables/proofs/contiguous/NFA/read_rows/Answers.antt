@@ -1,5 +1,5 @@
 -- The row is that of the place, and the rows between the two bounds are those of the places between the two given ones.
-use Rattle.std.proofs.Common.{ℕ, sym, subst}
+use Rattle.std.proofs.Common.{sym, subst}
 use Rattle.ac_input.specs.declared.search.Anchored.TheVariants.{No}
 use Rattle.ac_automaton.specs.Automaton.{IsReached}
 use Rattle.ac_automaton.specs.Look.{ReadsTo}

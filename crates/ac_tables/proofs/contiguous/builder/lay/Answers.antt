@@ -1,9 +1,8 @@
 -- The words and the places are those of the automaton, and so are the states.
-use Rattle.std.proofs.Common.{◌≡◌, ◌<◌, ◌∙◌, slice_index, ap, subst, arith}
-use Rattle.std.proofs.lemmas.List.{get_or_read}
-use Rattle.ac_noncontiguous.specs.declared.nfa.Special.{Special}
+use Rattle.std.proofs.Common.{◌≡◌, ◌<◌, ◌∙◌, ap, subst, arith}
 use Rattle.ac_noncontiguous.specs.Nfa.ReadCalls.{state_len, special_in, OfTexts, AreBounds}
 use Rattle.ac_tables.specs.declared.contiguous.table.Table.{Table}
+use Rattle.ac_noncontiguous.proofs.lemmas.IndexLemmas.{read-there}
 use Rattle.ac_tables.proofs.contiguous.LaidRowLemmas.{places-rise}
 use Rattle.ac_tables.proofs.contiguous.WordTableLemmas.{specials-within, places-small, some-states}
 use Rattle.ac_tables.proofs.contiguous.builder.lay.Goals as goal
@@ -44,15 +43,12 @@ returns-clause-made c =
     ∙ ap (λ s. s.start_anchored_id) value in
     let d : c.as_usize-3.result ≡ (special_in nfa).max_match_id = c.as_usize-3.ensures.value
     ∙ ap (λ s. s.max_match_id) value in
-    let read_a = get_or_read places c.as_usize.result c.index-start.result.now (omega (arith, a, start, counted))
-    c.index-start.ensures 0 in
-    let read_b = get_or_read places c.as_usize-2.result c.index-start_anchored.result.now
-    (omega (arith, b, next, counted)) c.index-start_anchored.ensures 0 in
-    let read_d = get_or_read places c.as_usize-3.result c.index-max_match.result.now (omega (arith, d, max, counted))
-    c.index-max_match.ensures 0 in
-    let at_a = ap (slice_index places) a ∙ h.at (special_in nfa).start_unanchored_id start in
-    let at_b = ap (slice_index places) b ∙ h.at (special_in nfa).start_anchored_id next in
-    let at_d = ap (slice_index places) d ∙ h.at (special_in nfa).max_match_id max in
+    let at_a = read-there places (omega (arith, start, counted)) a c.index-start.ensures
+    ∙ h.at (special_in nfa).start_unanchored_id start in
+    let at_b = read-there places (omega (arith, next, counted)) b c.index-start_anchored.ensures
+    ∙ h.at (special_in nfa).start_anchored_id next in
+    let at_d = read-there places (omega (arith, max, counted)) d c.index-max_match.ensures
+    ∙ h.at (special_in nfa).max_match_id max in
     let table : Table =
     record {
       words = c.in_ok-words.words;
@@ -67,9 +63,9 @@ returns-clause-made c =
       alphabet = c.alphabet_len.ensures.value;
       few_classes = c.alphabet_len.ensures.fits;
       classes = c.alphabet_len.ensures.classes;
-      start = omega (arith, read_a, at_a);
-      start_anchored = omega (arith, read_b, at_b);
-      max_match = omega (arith, read_d, at_d);
+      start = omega (arith, at_a);
+      start_anchored = omega (arith, at_b);
+      max_match = omega (arith, at_d);
     } in
     record {
       words = c.in_ok-words.ensures.0;

@@ -1,6 +1,5 @@
 -- The rows are those of the automaton, one for each place.
 use Rattle.std.proofs.Common.{refl, ap, arith}
-use Rattle.ac_noncontiguous.specs.declared.nfa.Special.{Special}
 use Rattle.ac_noncontiguous.specs.Nfa.ReadCalls.{state_len}
 use Rattle.ac_tables.proofs.dfa.BuildLemmas.{stride-is}
 use Rattle.ac_tables.proofs.contiguous.LaidRowLemmas.{plan-fit, rows-from, rows-len}

@@ -1,5 +1,5 @@
 -- One more transition is read.
-use Rattle.std.proofs.Common.{◌∙◌, List, ℕ, length, slice_index, ap, sym, subst, arith}
+use Rattle.std.proofs.Common.{◌∙◌, length, slice_index, ap, sym, subst, arith}
 use Rattle.std.proofs.lemmas.List.{get_or_default}
 use Rattle.ac_noncontiguous.specs.Nfa.ReadCalls.{edges_in}
 use Rattle.ac_tables.proofs.contiguous.BuildLemmas.{left-first, read-more, AreReadTo}

@@ -1,5 +1,5 @@
 -- The words of one more state are appended.
-use Rattle.std.proofs.Common.{ℕ, subst}
+use Rattle.std.proofs.Common.{subst}
 use Rattle.ac_tables.specs.Contiguous.Build.{IsWritten}
 use Rattle.ac_tables.proofs.contiguous.BuildLemmas.{words-more, known-more}
 use Rattle.ac_tables.proofs.contiguous.states.words.Goals as goal

@@ -1,5 +1,5 @@
 -- The class at the place, or the last one if there are fewer.
-use Rattle.std.proofs.Common.{◌∙◌, ℕ, get_or, ap, arith}
+use Rattle.std.proofs.Common.{◌∙◌, get_or, ap, arith}
 use Rattle.ac_tables.proofs.contiguous.WordsLemmas.{class-within, class-past}
 use Rattle.ac_tables.proofs.contiguous.words.class_at.Goals as goal
 use Rattle.ac_tables.proofs.contiguous.words.class_at.Goals.{then-at-last, else-at-last}

@@ -1,5 +1,5 @@
 -- Four more classes are written.
-use Rattle.std.proofs.Common.{◌≡◌, ◌+◌, ◌++◌, ◌∙◌, ℕ, List, drop, ap, arith}
+use Rattle.std.proofs.Common.{◌≡◌, ◌+◌, ◌++◌, ◌∙◌, ℕ, drop, ap, arith}
 use Rattle.std.proofs.lemmas.List.{length-map}
 use Rattle.ac_tables.specs.Contiguous.Words.{word_of, packed, near, classes_of}
 use Rattle.ac_tables.proofs.contiguous.WordsLemmas.{packed-more}

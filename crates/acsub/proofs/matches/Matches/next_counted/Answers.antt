@@ -1,5 +1,5 @@
 -- Each source of matches counts the next match as its contract says.
-use Rattle.ac_automaton.proofs.iter.IterLemmas.{pick-yields}
+use Rattle.ac_automaton.proofs.in_memory.iter.IterLemmas.{pick-yields}
 use Rattle.acsub.proofs.run.CountLemmas.{listing-counted, walk-counted}
 use Rattle.acsub.proofs.matches.Matches.next_counted.Goals as goal
 

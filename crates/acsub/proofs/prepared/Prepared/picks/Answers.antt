@@ -2,7 +2,7 @@
 -- nothing.
 use Rattle.std.proofs.Common.{ap, ◌∙◌, subst}
 use Rattle.acsub.specs.Finder.{IsFinderOf, whole_walk}
-use Rattle.acsub.specs.Plan.{Plan, plan_of}
+use Rattle.acsub.specs.Plan.{plan_of}
 use Rattle.acsub.proofs.run.CountLemmas.{walk-fresh}
 use Rattle.acsub.proofs.prepared.FinderLemmas.{packed-walk}
 use Rattle.acsub.proofs.prepared.Prepared.picks.Goals as goal

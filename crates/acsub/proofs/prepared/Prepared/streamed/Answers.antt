@@ -1,7 +1,6 @@
 -- What is seen of the prepared says the same as what is inside it.
 use Rattle.std.proofs.Common.{◌↔◌, true, false, subst}
 use Rattle.std.specs.Prelude.{IsTrue}
-use Rattle.acsub.specs.Plan.{Plan}
 use Rattle.acsub.specs.Run.Transformed.{IsStreamed}
 use Rattle.acsub.proofs.prepared.Prepared.streamed.Goals as goal
 

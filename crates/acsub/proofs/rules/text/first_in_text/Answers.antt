@@ -1,5 +1,5 @@
 -- The first line splits into one pair of sides, which either are a rule or not.
-use Rattle.std.proofs.Common.{ℕ, List, length, Contains, refl, sym, ◌∙◌, ap, subst}
+use Rattle.std.proofs.Common.{length, Contains, refl, sym, ◌∙◌, ap, subst}
 use Rattle.std.proofs.lemmas.Bool.{eq-eqb, eqb-true, false≢true}
 use Rattle.std.proofs.lemmas.List.{nil_from_length}
 use Rattle.ac_input.proofs.lemmas.RuleOrderLemmas.{Contains-between}

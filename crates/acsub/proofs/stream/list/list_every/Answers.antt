@@ -9,8 +9,8 @@ pub returns-in_err-output-clause-lists : goal.returns-in_err-output-clause-lists
 returns-in_err-output-clause-lists g c =
     let p = err_from_is_err_and c.from_residual.result c.from_residual.ensures.1 in
     rw (p.1, p.2)
-    (lists-nothing Occurrences g.R.Read.remaining g.W.Write.contents (as_built c.args.engine.now) c.args.reader.now
-    c.args.writer.now)
+    (lists-nothing Occurrences g.R.Read.remaining g.W.Write.contents (as_built c.args.engine.now)
+    (c.args.reader.now, c.args.writer.now))
 
 pub returns-clause-lists : goal.returns-clause-lists
 returns-clause-lists g c =

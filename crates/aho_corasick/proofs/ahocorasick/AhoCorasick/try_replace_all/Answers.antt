@@ -1,6 +1,6 @@
 -- A replacement that succeeds has replaced all matches.
 use Rattle.std.specs.String.{string_bytes}
-use Rattle.ac_automaton.specs.Replace.{text_matches_in}
+use Rattle.ac_automaton.specs.InMemory.Replace.{text_matches_in}
 use Rattle.aho_corasick.specs.AhoCorasick.{as_built, supported_by}
 use Rattle.aho_corasick.proofs.lemmas.ReplaceLemmas.{if-replaced}
 use Rattle.aho_corasick.proofs.ahocorasick.AhoCorasick.try_replace_all.Goals as goal

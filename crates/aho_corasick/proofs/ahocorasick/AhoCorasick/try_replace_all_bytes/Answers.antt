@@ -1,5 +1,5 @@
 -- A replacement that succeeds has replaced all matches.
-use Rattle.ac_automaton.specs.Replace.{matches_in}
+use Rattle.ac_automaton.specs.InMemory.Replace.{matches_in}
 use Rattle.aho_corasick.specs.AhoCorasick.{as_built, supported_by}
 use Rattle.aho_corasick.proofs.lemmas.ReplaceLemmas.{if-replaced}
 use Rattle.aho_corasick.proofs.ahocorasick.AhoCorasick.try_replace_all_bytes.Goals as goal

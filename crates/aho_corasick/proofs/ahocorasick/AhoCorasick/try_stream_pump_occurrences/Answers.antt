@@ -1,6 +1,6 @@
 -- It holds of the front since it does of the automaton that serves, if the start kind has unanchored searches.
 use Rattle.std.proofs.Common.{subst, sym}
-use Rattle.ac_automaton.specs.Stream.StreamPump.{PumpsOccurrences}
+use Rattle.ac_automaton.specs.Stream.Pump.{PumpsOccurrences}
 use Rattle.aho_corasick.specs.AhoCorasick.{as_built, serving_engine}
 use Rattle.aho_corasick.specs.Engine.{engine_supported_by}
 use Rattle.aho_corasick.proofs.lemmas.PumpLemmas.{occurrences-served}

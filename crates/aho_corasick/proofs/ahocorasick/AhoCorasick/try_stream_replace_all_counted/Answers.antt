@@ -2,7 +2,7 @@
 use Rattle.std.proofs.Common.{subst, sym}
 use Rattle.std.proofs.lemmas.Result.{err_from_is_err_and}
 use Rattle.ac_literal.specs.Packed.{bytes_of}
-use Rattle.ac_automaton.specs.Stream.StreamReplace.{AcceptsStream}
+use Rattle.ac_automaton.specs.Stream.Replace.{AcceptsStream}
 use Rattle.ac_automaton.specs.declared.error.StreamError.TheVariants.{Config}
 use Rattle.ac_automaton.specs.declared.stream.StreamKinds.TheVariants.{OnlyStandard}
 use Rattle.ac_automaton.proofs.stream.StreamAnswerLemmas.{nothing-moved}

@@ -2,7 +2,7 @@
 use Rattle.std.proofs.Common.{◌≡◌, ◌-◌, Some, ap, subst, refl, ◌∙◌, arith}
 use Rattle.ac_input.specs.declared.search.Anchored.TheVariants.{No}
 use Rattle.ac_input.specs.declared.search.MatchKind.TheVariants.{Standard}
-use Rattle.ac_automaton.specs.Stream.StreamListingSearch.{searched_by}
+use Rattle.ac_automaton.specs.Stream.Overlapping.Search.{searched_by}
 use Rattle.ac_automaton.proofs.stream.StreamListingLemmas.{entry-occurs, searched-long}
 use Rattle.ac_automaton.proofs.stream.overlapping.search.give.Goals as goal
 

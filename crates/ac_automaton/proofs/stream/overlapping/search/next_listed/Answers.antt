@@ -1,8 +1,8 @@
 -- The next occurrence is the next of the state's list, or the first that ends later.
 use Rattle.std.proofs.Common.{subst, sym, arith}
 use Rattle.ac_input.specs.declared.search.Anchored.TheVariants.{No}
-use Rattle.ac_automaton.specs.Stream.StreamListingWalk.{IsAheadFor}
-use Rattle.ac_automaton.proofs.overlapping.OverlappingAheadLemmas.{settles-none}
+use Rattle.ac_automaton.specs.Stream.Overlapping.Walk.{IsAheadFor}
+use Rattle.ac_automaton.proofs.in_memory.overlapping.OverlappingAheadLemmas.{settles-none}
 use Rattle.ac_automaton.proofs.stream.StreamListingLemmas.{gives-next, listed-there, lists-none, lists-there}
 use Rattle.ac_automaton.proofs.stream.overlapping.search.next_listed.Goals as goal
 
@@ -13,8 +13,7 @@ returns-then-place-clause-lists g c = (
   λ s is.
       let a = c.args.automaton.now in
       let given = c.give.ensures in
-      gives-next (g.A.Automaton.Reaches a No) (g.A.Automaton.matches a) (g.A.Automaton.built a) s c.args.place.now
-      c.args.held.now c.give.result given.0 c.args.steps.now
+      gives-next c.give.result given.0 c.args.steps.now
       (g.met.A.Automaton.tells a No) is given.1 given.2 given.3 given.4,
 )
 
@@ -32,9 +31,7 @@ give-requires-then-there g c =
         c.args.held.now,
         (
           _,
-          listed-there (g.A.Automaton.Reaches a No) (g.A.Automaton.matches a) (g.A.Automaton.built a)
-              c.requires.stands.0
-              c.args.place.now c.read_on-there.result c.args.held.now _ reads.0 is (reads.2 _ is),
+          listed-there is (reads.2 _ is),
         ),
       ),
       c.if-there.true,
@@ -49,14 +46,10 @@ returns-then-there-clause-lists g c =
       reads.1,
       λ s is.
           let on = reads.2 s is in
-          lists-there (g.A.Automaton.Reaches a No) (g.A.Automaton.matches a) s c.args.place.now c.read_on-there.result
-          c.give-then-there.result _ _ reads.0 is.stands.course on c.if-there.true given.1
-          (gives-next (g.A.Automaton.Reaches a No) (g.A.Automaton.matches a) (g.A.Automaton.built a) _
-          c.read_on-there.result c.args.held.now c.give-then-there.result given.0 reads.0
+          lists-there _ is.stands.course on c.if-there.true given.1
+          (gives-next c.give-then-there.result given.0 reads.0
           (g.met.A.Automaton.tells a No)
-          (listed-there (g.A.Automaton.Reaches a No) (g.A.Automaton.matches a) (g.A.Automaton.built a) s
-          c.args.place.now
-          c.read_on-there.result c.args.held.now _ reads.0 is on) given.1 given.2 given.3 given.4),
+          (listed-there is on) given.1 given.2 given.3 given.4),
     )
 
 pub returns-then-there-clause-ahead : goal.returns-then-there-clause-ahead

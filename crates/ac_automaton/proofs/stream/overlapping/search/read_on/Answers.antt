@@ -1,9 +1,9 @@
 -- A search reads on to the next state that matches.
 use Rattle.std.proofs.Common.{◌≡◌, ◌≤◌, ◌+◌, ◌-◌, None, subst, arith}
 use Rattle.ac_input.specs.declared.search.Anchored.TheVariants.{No}
-use Rattle.ac_automaton.specs.FindAhead.{IsAheadOf}
+use Rattle.ac_automaton.specs.InMemory.Find.Ahead.{IsAheadOf}
 use Rattle.ac_automaton.proofs.lemmas.CursorLemmas.{reached-on, reached-state}
-use Rattle.ac_automaton.proofs.overlapping.OverlappingAheadLemmas.{onward-stays, settles-none}
+use Rattle.ac_automaton.proofs.in_memory.overlapping.OverlappingAheadLemmas.{onward-stays, settles-none}
 use Rattle.ac_automaton.proofs.stream.StreamListingLemmas.{reads-nothing, reads-on}
 use Rattle.ac_automaton.proofs.stream.overlapping.search.read_on.Goals as goal
 

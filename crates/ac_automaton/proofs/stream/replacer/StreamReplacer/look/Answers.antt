@@ -1,7 +1,7 @@
 -- The next match is the one met, or else the next of the search.
 use Rattle.std.proofs.Common.{sym, ap, subst, ◌∙◌}
 use Rattle.ac_automaton.specs.Stream.{CanBeCounted, read_by}
-use Rattle.ac_automaton.specs.Stream.StreamReplacer.{LooksForMatch}
+use Rattle.ac_automaton.specs.Stream.Replacer.{LooksForMatch}
 use Rattle.ac_automaton.proofs.stream.StreamReplacerLemmas.{replacer_progress_of, look-on, look-right, none-met}
 use Rattle.ac_automaton.proofs.stream.replacer.StreamReplacer.look.Goals as goal
 use Rattle.ac_automaton.proofs.stream.StreamCountLemmas.{StreamCounts-none}

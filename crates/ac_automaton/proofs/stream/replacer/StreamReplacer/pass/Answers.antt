@@ -1,7 +1,7 @@
 -- The next slice is the text read up to the place, or the replacement of the match that begins there.
 use Rattle.std.proofs.Common.{◌≡◌, ◌≤◌, None, Some, sym, ap, subst, ◌∙◌}
 use Rattle.ac_automaton.specs.Stream.{AreAllGiven, CanBeCounted, read_by}
-use Rattle.ac_automaton.specs.Stream.StreamReplacer.{TakesPart, ends_there, decided_to}
+use Rattle.ac_automaton.specs.Stream.Replacer.{TakesPart, ends_there, decided_to}
 use Rattle.ac_automaton.specs.declared.stream.replacer.Part.TheVariants.{Text, Replacement}
 use Rattle.ac_automaton.proofs.stream.StreamReplacerLemmas.{replacer_progress_of, pass-none, pass-replacement, pass-text, text-right}
 use Rattle.ac_automaton.proofs.stream.replacer.StreamReplacer.pass.Goals as goal
@@ -32,7 +32,7 @@ returns g c =
     let was = sym c.self.view_is in
     subst (λ r. TakesPart r (record (replacer_progress_of c.self.inside) { at = c.end-self-inside.result; met = None })
     (Some (Replacement c.pattern.result))) c.self.view_is
-    (pass-replacement (replacer_progress_of c.self.inside) c.in-Some.found c.end-self-inside.result c.pattern.result
+    (pass-replacement c.in-Some.found c.end-self-inside.result c.pattern.result
     c.self.invariant (ap (λ r. r.over) c.self.view_is ∙ c.requires.open)
     (subst (λ r. CanBeCounted (read_by r.search)) was c.requires.few) c.in-Some.is
     (subst (λ k. k ≤ c.self.inside.at) (c.place-to.ensures ∙ ap (λ r. decided_to r.search r.met r.finished) was)
@@ -46,7 +46,7 @@ returns-in_default g c =
       ap (λ r. r.finished) is,
       ap (λ r. r.at) is,
       ap (λ r. r.met) is,
-      pass-none (replacer_progress_of c.self.inside) c.ends-ends.result c.self.invariant
+      pass-none c.ends-ends.result c.self.invariant
           (ap (λ r. r.over) is ∙ c.requires.open) (subst (λ r. CanBeCounted (read_by r.search)) was c.requires.few)
           (subst (λ r. r.met ≡ None → AreAllGiven r.search) was c.requires.all) c.in_default.is
           (subst (λ k. k ≤ c.self.inside.at) (c.place-to.ensures ∙ ap (λ r. decided_to r.search r.met r.finished) was)

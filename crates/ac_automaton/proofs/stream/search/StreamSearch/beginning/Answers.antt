@@ -10,16 +10,16 @@ invariant_of-result g c =
     let start = c.args.start in
     let begins = c.requires.starts in
     let right = fresh-right (g.A.Automaton.built a) (g.A.Automaton.Reaches a No) start c.max_pattern_len.result
-    c.zero.result.value c.in_ok-buffer.buffer c.requires.filled begins c.max_pattern_len.ensures c.zero.ensures
+    c.zero.result.value c.requires.filled begins c.max_pattern_len.ensures c.zero.ensures
     c.in_ok-buffer.ensures.fresh c.in_ok-buffer.ensures.paid in
-    fresh-kept g.A.Automaton a start c.max_pattern_len.result c.in_ok-buffer.buffer c.none.result c.zero.result
-    c.empty.result c.new-2.result right c.empty.ensures c.zero.ensures c.in_ok-buffer.ensures.fresh c.new-2.ensures
+    fresh-kept g.A.Automaton a c.max_pattern_len.result c.none.result c.zero.result c.empty.result right c.empty.ensures
+    c.zero.ensures c.in_ok-buffer.ensures.fresh c.new-2.ensures
     c.none.ensures.room c.none.ensures.none c.none.ensures.nothing
 
 pub returns-clause-fresh : goal.returns-clause-fresh
 returns-clause-fresh g c =
     fresh-view (g.A.Automaton.built c.args.automaton) c.empty.result.items c.zero.result.value c.args.start
-    c.max_pattern_len.result c.in_ok-buffer.buffer c.new-2.result c.empty.ensures c.zero.ensures
+    c.max_pattern_len.result c.in_ok-buffer.buffer c.empty.ensures c.zero.ensures
     c.in_ok-buffer.ensures.fresh c.new-2.ensures
 
 pub returns-clause-kept : goal.returns-clause-kept

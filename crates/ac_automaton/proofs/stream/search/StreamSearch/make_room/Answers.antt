@@ -1,9 +1,8 @@
 -- The bytes after the cut are moved to the front.
 use Rattle.std.proofs.Common.{sym, ap, subst, ◌∙◌, length, arith}
-use Rattle.ac_input.specs.declared.search.Anchored.TheVariants.{No}
 use Rattle.ac_automaton.specs.Stream.{IsSearched, cut_of}
 use Rattle.ac_automaton.proofs.stream.StreamAheadLemmas.{forgotten-kept, rolled-long}
-use Rattle.ac_automaton.proofs.stream.StreamSearchLemmas.{roll-right, settled_by}
+use Rattle.ac_automaton.proofs.stream.StreamSearchLemmas.{roll-right}
 use Rattle.ac_automaton.proofs.stream.search.StreamSearch.make_room.Goals as goal
 use Rattle.ac_automaton.proofs.stream.StreamCountLemmas.{StreamCounts-none}
 
@@ -16,8 +15,7 @@ invariant_of-self g c =
     let cut = c.cut-cut.result in
     let new = c.roll.new.self in
     let at = c.cut-cut.ensures.cut ∙ sym (ap cut_of c.self.view_is) in
-    let settled = roll-right (g.A.Automaton.Reaches i.automaton No) (settled_by g.A.Automaton i) i.start i.progress.sid
-    i.progress.best i.given.value i.buffer new i.over cut
+    let settled = roll-right cut
     c.self.invariant.1 at c.roll.ensures.rolled c.roll.ensures.paid in
     let long = rolled-long i.buffer new i.progress.from cut c.roll.ensures.rolled
     (omega (arith, c.self.invariant.0.kept.0, at)) in

@@ -16,13 +16,13 @@ pub returns-then-self-clause-pushes : goal.returns-then-self-clause-pushes
 returns-then-self-clause-pushes g c =
     let course = subst IsOnCourse c.self.view_is c.self.invariant.0 in
     let many = subst (λ s. ¬ CanBeCounted (read_by s)) c.self.view_is (c.self.invariant.1.uncountable c.if-self.true) in
-    (0, took-none c.args.self.now course, many)
+    (0, took-none course, many)
 
 pub returns-then-is_empty-clause-pushes : goal.returns-then-is_empty-clause-pushes
 returns-then-is_empty-clause-pushes g c =
     let course = subst IsOnCourse c.self.view_is c.self.invariant.0 in
     let few = subst (λ s. CanBeCounted (read_by s)) c.self.view_is (c.self.invariant.1.countable c.if-self.false) in
-    pushes-none (IsSearched c.args.self.now) c.args.self.now c.args.piece.now course few
+    pushes-none (IsSearched c.args.self.now) c.args.piece.now course few
     (λ searched. elim c.then-is_empty.branch [
       | then-is_empty-via-then-is_empty w ↦ nil_from_length c.args.piece.now (search rules)
       | then-is_empty-via-else-is_empty+then-not-is_searched w ↦

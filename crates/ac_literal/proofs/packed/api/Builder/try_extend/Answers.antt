@@ -1,7 +1,7 @@
 -- The patterns so far are added.
 use Rattle.std.proofs.Common.{[], ◌+◌, ℕ, List, Bor, get_or, take, map, sym, ap, ◌∙◌}
 use Rattle.std.proofs.lemmas.List.{map_more, take-map}
-use Rattle.ac_literal.specs.Packed.{Building, added, added_all}
+use Rattle.ac_literal.specs.Packed.{added, added_all}
 use Rattle.ac_literal.proofs.packed.PatternLemmas.{added_all-push}
 use Rattle.ac_literal.proofs.packed.api.Builder.try_extend.Goals as goal
 

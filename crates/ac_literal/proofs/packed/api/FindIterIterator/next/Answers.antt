@@ -11,19 +11,15 @@ returns-in_err-found-clause-steps c =
     c.find_at_pace.ensures.served i.at c.in_err-found.ensures.best in
     rw c.from_residual.ensures (sym c.self.view_is ∙ over, over)
 
-pub returns-clause-steps : goal.returns-clause-steps
-returns-clause-steps c =
+pub returns : goal.returns
+returns c =
     let i = c.self.inside in
     let split = sym c.self.view_is
     ∙ walk-some (search_kind i.searcher.now.kind) i.searcher.now.patterns i.haystack.now c.find_at_pace.ensures.served
     c.in_ok-found.ensures.best in
-    rw c.end-self-inside.ensures.value split
-
-pub returns-clause-goes : goal.returns-clause-goes
-returns-clause-goes c =
-    let i = c.self.inside in
-    let split = sym c.self.view_is
-    ∙ walk-some (search_kind i.searcher.now.kind) i.searcher.now.patterns i.haystack.now c.find_at_pace.ensures.served
-    c.in_ok-found.ensures.best in
-    rw c.end-self-inside.ensures.value
-    (let longer = ap length split in record { on = λ _. (tt, tt, omega arith); keeps = tt; rests = λ _. tt })
+    let longer = ap length split in
+    record {
+      steps = rw c.end-self-inside.ensures.value split;
+      goes = rw c.end-self-inside.ensures.value
+          (record { on = λ _. (tt, tt, omega arith); keeps = tt; rests = λ _. tt });
+    }

@@ -1,6 +1,6 @@
 -- The result is the least length of the patterns so far.
 use Rattle.std.proofs.Common.{◌≡◌, ◌++◌, ◌∷◌, [], List, ℕ, Vec, Global, ap, ap₂, sym, ◌∙◌, take, map, min, length, arith}
-use Rattle.std.proofs.lemmas.List.{map_more, take_all}
+use Rattle.std.proofs.lemmas.List.{map_more}
 use Rattle.ac_input.specs.Work.{shortest}
 use Rattle.ac_literal.proofs.packed.PatternLemmas.{shortest-push}
 use Rattle.ac_literal.proofs.packed.pattern.Patterns.minimum_len.Goals as goal
@@ -17,9 +17,3 @@ loop-pattern-preserved c =
     let long : c.len.result ≡ length c.pattern-item.result.items = omega (arith, c.pattern-item.result.ok.0) in
     c.min-least.ensures ∙ ap₂ min c.loop-pattern.invariant long ∙ sym (shortest-push front c.pattern-item.result.items)
     ∙ ap (λ p. shortest (front ++ p ∷ [])) pattern ∙ ap shortest (sym more)
-
-pub returns : goal.returns
-returns c =
-    let all = take_all c.loop-pattern.pattern-index c.deref-pattern-items.result.now c.loop-pattern-test.false in
-    c.loop-pattern.invariant ∙ ap (λ vs. shortest (map bytes_of vs)) (all ∙ c.deref-pattern-items.ensures.value)
-    ∙ ap shortest c.self.view_is

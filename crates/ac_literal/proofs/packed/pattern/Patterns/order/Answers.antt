@@ -1,5 +1,5 @@
 -- Each number is put at its place.
-use Rattle.std.proofs.Common.{◌≡◌, ℕ, length, subst, arith}
+use Rattle.std.proofs.Common.{◌≡◌, length, subst, arith}
 use Rattle.ac_literal.specs.Packed.RabinKarp.{IsOrder}
 use Rattle.ac_literal.proofs.packed.PreferenceLemmas.{IsOrder-more}
 use Rattle.ac_literal.proofs.packed.pattern.Patterns.order.Goals as goal

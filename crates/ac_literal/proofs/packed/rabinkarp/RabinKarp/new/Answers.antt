@@ -1,5 +1,5 @@
 -- There is one entry for each number of the order so far.
-use Rattle.std.proofs.Common.{◌≡◌, ◌+◌, ◌<◌, ◌≤◌, ℕ, List, get_or, length, take, ap, sym, refl, ◌∙◌, arith}
+use Rattle.std.proofs.Common.{◌≡◌, ◌+◌, ◌<◌, ◌≤◌, get_or, length, take, ap, sym, refl, ◌∙◌, arith}
 use Rattle.std.proofs.lemmas.List.{get_or_read, length-take-le, length-set, length_push}
 use Rattle.ac_literal.specs.Packed.RabinKarp.{hash_of, IsOrder}
 use Rattle.ac_literal.proofs.packed.PatternLemmas.{shortest-least, shortest-full}

@@ -1,5 +1,5 @@
 -- Blocks without marks are passed. The marks of the next block include all that starts in it.
-use Rattle.std.proofs.Common.{◌≡◌, ℕ, List, [], ◌∷◌, sym, subst}
+use Rattle.std.proofs.Common.{◌≡◌, [], ◌∷◌, sym, subst}
 use Rattle.ac_input.specs.Best.{IsBest}
 use Rattle.ac_literal.specs.Packed.{search_kind, part_search}
 use Rattle.ac_literal.specs.Packed.Scanner.{IsOnlyPattern}

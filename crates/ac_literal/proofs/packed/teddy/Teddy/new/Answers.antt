@@ -1,5 +1,5 @@
 -- One more pattern is in its bucket.
-use Rattle.std.proofs.Common.{◌≡◌, List, ℕ, ap, subst, ◌∙◌}
+use Rattle.std.proofs.Common.{◌≡◌, ap, subst, ◌∙◌}
 use Rattle.std.specs.Prelude.{get_or, []}
 use Rattle.ac_literal.specs.Packed.Teddy.{HasPattern}
 use Rattle.ac_literal.proofs.packed.TeddyLemmas.{has-more, keeps-near}

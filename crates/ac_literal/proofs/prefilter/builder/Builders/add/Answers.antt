@@ -1,4 +1,4 @@
-use Rattle.std.proofs.Common.{List, ℕ, ◌++◌, ◌∷◌, [], sym, subst}
+use Rattle.std.proofs.Common.{◌++◌, ◌∷◌, [], sym, subst}
 use Rattle.ac_literal.specs.Prefilter.Needles.{AreFew}
 use Rattle.ac_literal.specs.Prefilter.Strategies.{is_start}
 use Rattle.ac_literal.specs.Prefilter.Rare.{IsRareSoFar}

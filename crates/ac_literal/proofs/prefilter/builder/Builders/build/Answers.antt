@@ -6,7 +6,6 @@ use Rattle.std.specs.Prelude.{MatchOption, List, ℕ}
 use Rattle.ac_literal.specs.Prefilter.Strategies.{AreStarts, AreFull}
 use Rattle.ac_literal.specs.Prefilter.{IsStrategyOf, MemmemServes, PackedServes, AreStartBytes}
 use Rattle.ac_literal.specs.declared.prefilter.needles.Needles.{Needles}
-use Rattle.ac_literal.specs.declared.prefilter.strategy.Strategy.{Strategy}
 use Rattle.ac_literal.proofs.prefilter.builder.Builders.build.Goals as goal
 
 -- where there is no result, the condition for none holds

@@ -1,6 +1,6 @@
-use Rattle.std.proofs.Common.{Option, sym, ◌∙◌, subst}
+use Rattle.std.proofs.Common.{sym, ◌∙◌, subst}
 use Rattle.std.specs.Prelude.{IfSome}
-use Rattle.ac_literal.specs.Packed.{Packed, AreServed}
+use Rattle.ac_literal.specs.Packed.{AreServed}
 use Rattle.ac_literal.proofs.prefilter.BuilderLemmas.{packed-serve, packed-missed}
 use Rattle.ac_literal.proofs.prefilter.builder.Builders.build_packed.Goals as goal
 

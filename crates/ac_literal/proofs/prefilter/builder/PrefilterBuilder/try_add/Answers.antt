@@ -1,8 +1,7 @@
-use Rattle.std.proofs.Common.{ℕ, Bool, List, [], ◌∷◌, ◌++◌, refl, sym, subst}
+use Rattle.std.proofs.Common.{ℕ, List, [], ◌∷◌, ◌++◌, refl, sym, subst}
 use Rattle.ac_input.specs.Dictionary.{Dictionary}
 use Rattle.ac_literal.specs.Prefilter.Builder.{IsBuilder}
 use Rattle.ac_input.specs.Limits.{with_pattern}
-use Rattle.ac_literal.specs.declared.prefilter.builder.PrefilterBuilder.TheInside.{Inside}
 use Rattle.ac_literal.proofs.prefilter.BuilderLemmas.{builder-empty, builder-still_empty}
 use Rattle.ac_literal.proofs.prefilter.builder.PrefilterBuilder.try_add.Goals as goal
 use Rattle.ac_literal.proofs.prefilter.builder.PrefilterBuilder.try_add.Goals.{then-is_empty, else-is_empty+then-not-self+in_ok-add, else-is_empty+else-not-self}

@@ -1,6 +1,5 @@
 use Rattle.std.proofs.Common.{sym, subst}
 use Rattle.ac_literal.specs.Prefilter.Needles.{AreFew, AddsByte}
-use Rattle.ac_literal.specs.declared.prefilter.needles.FewBytes.{FewBytes}
 use Rattle.ac_literal.specs.declared.prefilter.needles.FewBytes.TheVariants as few
 use Rattle.ac_literal.proofs.prefilter.NeedleLemmas.{few-some}
 use Rattle.ac_literal.proofs.prefilter.needles.FewBytes.with.Goals as goal

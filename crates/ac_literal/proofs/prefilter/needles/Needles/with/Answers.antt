@@ -1,6 +1,5 @@
 use Rattle.std.proofs.Common.{sym, ap, ◌∙◌, subst}
 use Rattle.ac_literal.specs.Prefilter.Needles.{is_needle, AreNeedles}
-use Rattle.ac_literal.specs.declared.prefilter.needles.Needles.{Needles}
 use Rattle.ac_literal.proofs.prefilter.NeedleLemmas.{three-four}
 use Rattle.ac_literal.proofs.prefilter.needles.Needles.with.Goals as goal
 

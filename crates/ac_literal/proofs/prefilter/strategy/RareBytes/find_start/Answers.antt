@@ -1,4 +1,4 @@
-use Rattle.std.proofs.Common.{◌≡◌, ℕ, ◌-◌, ◌≤◌, max, ap, ◌∙◌, arith}
+use Rattle.std.proofs.Common.{◌≡◌, ◌-◌, ◌≤◌, max, ap, ◌∙◌, arith}
 use Rattle.std.specs.Prelude.{slice_index}
 use Rattle.ac_literal.proofs.prefilter.CandidateLemmas.{scanned_none, scanned_some}
 use Rattle.ac_literal.proofs.prefilter.RareBytesLemmas.{rare_hold, rare_no_earlier}

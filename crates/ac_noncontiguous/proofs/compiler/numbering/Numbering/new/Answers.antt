@@ -1,5 +1,5 @@
 -- The start comes first in breadth-first order, so the rest is all but the start.
-use Rattle.std.proofs.Common.{◌≡◌, ℕ, ◌-◌, ◌<◌, List, length, take, drop, subst, ap, ◌∙◌, arith, slice_index, length-drop}
+use Rattle.std.proofs.Common.{◌≡◌, ◌-◌, ◌<◌, length, take, drop, subst, ap, ◌∙◌, arith, slice_index, length-drop}
 use Rattle.std.proofs.lemmas.List.Elements.{Contains-get_or}
 use Rattle.ac_noncontiguous.specs.Compiler.Numbering.{AreFirstNumbers}
 use Rattle.ac_noncontiguous.proofs.compiler.PlacesLemmas.{order-short, order-start, order-rest, slice-rest, listed-rest, places-listed, last-listed, numbers-first}

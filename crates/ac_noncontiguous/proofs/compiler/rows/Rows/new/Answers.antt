@@ -1,8 +1,8 @@
 -- One state after another, each after its failure; then the anchored start.
-use Rattle.std.proofs.Common.{◌≡◌, ◌∙◌, ℕ, ◌+◌, ◌<◌, length, sym, ap, subst, arith, slice_index, slice_set, refl}
-use Rattle.std.proofs.lemmas.List.{get_or_read}
+use Rattle.std.proofs.Common.{◌≡◌, ◌+◌, ◌<◌, length, sym, ap, subst, arith, slice_set, refl}
 use Rattle.ac_noncontiguous.specs.Compiler.Layout.{AreOfDead, AreRowedUpTo, AreRowsOf}
 use Rattle.ac_noncontiguous.proofs.trie.FailsLemmas.{order-read}
+use Rattle.ac_noncontiguous.proofs.lemmas.IndexLemmas.{read-there}
 use Rattle.ac_noncontiguous.proofs.compiler.RowLemmas.{have-dead, have-shared}
 use Rattle.ac_noncontiguous.proofs.compiler.RowedLemmas.{rowed-none, rowed-above, rowed-more, rowed-shared}
 use Rattle.ac_noncontiguous.proofs.compiler.rows.Rows.new.Goals as goal
@@ -41,10 +41,7 @@ returns-clause-rowed c =
     let order = c.args.order.now in
     let start = c.as_usize-start.ensures.value in
     let counted = c.loop-id.invariant.have.counted in
-    let is : c.index.result.now ≡ slice_index offsets c.args.numbering.now.start =
-    get_or_read offsets c.as_usize-start.result c.index.result.now
-    (omega (arith, start, c.requires.numbering.places.starts.1, counted)) c.index.ensures 0
-    ∙ ap (slice_index offsets) start in
+    let is = read-there offsets (omega (arith, c.requires.numbering.places.starts.1, counted)) start c.index.ensures in
     let all : c.loop-id.id-index ≡ length order = omega arith in
     let rowed = subst (λ k. AreRowedUpTo c.args.trie.now c.args.numbering.now order c.args.dense_depth k c.loop-id.rows)
     all c.loop-id.invariant.rowed in
@@ -57,10 +54,8 @@ returns-clause-rows c =
     let rows = c.loop-id.rows.rows.items in
     let n = c.requires.numbering in
     let start = c.as_usize-start.ensures.value in
-    let is : c.index.result.now ≡ slice_index offsets c.args.numbering.now.start =
-    get_or_read offsets c.as_usize-start.result c.index.result.now
-    (omega (arith, start, n.places.starts.1, c.loop-id.invariant.have.counted)) c.index.ensures 0
-    ∙ ap (slice_index offsets) start in
+    let is = read-there offsets (omega (arith, n.places.starts.1, c.loop-id.invariant.have.counted)) start
+    c.index.ensures in
     subst (λ k.
     AreRowsOf c.args.trie.now c.args.numbering.now c.args.links.now c.args.back c.args.classes.now
     (slice_set offsets (k + 1) c.index.result.now) rows) (sym start)

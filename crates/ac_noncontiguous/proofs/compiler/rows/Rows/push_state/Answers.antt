@@ -1,9 +1,9 @@
 -- The row is made from the failure's row.
-use Rattle.std.proofs.Common.{◌≡◌, ◌∙◌, List, ℕ, length, refl, ap, subst, arith, slice_index}
-use Rattle.std.proofs.lemmas.List.{get_or_read}
-use Rattle.ac_noncontiguous.specs.declared.trie.State.{State}
+use Rattle.std.proofs.Common.{◌≡◌, ◌∙◌, length, refl, ap, subst, arith}
 use Rattle.ac_noncontiguous.specs.Trie.Tree.{depth}
 use Rattle.ac_noncontiguous.specs.Compiler.Layout.{AreWithFailures, IsRowAppended}
+use Rattle.ac_noncontiguous.proofs.lemmas.IndexLemmas.{read-there}
+use Rattle.ac_noncontiguous.proofs.compiler.NumberingLemmas.{number-read}
 use Rattle.ac_noncontiguous.proofs.compiler.RowLemmas.{lead-alike, failures-alike, failure-within, have-more}
 use Rattle.ac_noncontiguous.proofs.compiler.RowedLemmas.{rowed-added}
 use Rattle.ac_noncontiguous.proofs.compiler.rows.Rows.push_state.Goals as goal
@@ -12,21 +12,17 @@ pub with_failures-leads-requires : goal.with_failures-leads-requires
 with_failures-leads-requires c b small =
     let offsets = c.args.self.now.offsets.items in
     let f = failure-within c.args.id c.requires.numbering c.requires.links c.failure.ensures in
-    let from : c.index-from.result.now ≡ slice_index offsets c.failure.result =
-    get_or_read offsets c.as_usize.result c.index-from.result.now
-    (omega (arith, f.0, c.requires.have.counted, c.as_usize.ensures.value)) c.index-from.ensures 0
-    ∙ ap (slice_index offsets) c.as_usize.ensures.value in
+    let from = read-there offsets (omega (arith, f.0, c.requires.have.counted)) c.as_usize.ensures.value
+    c.index-from.ensures in
     let h = c.requires.have.right c.failure.result (omega (arith, f.0, c.requires.have.counted)) f.1
     (λ e. c.if-from.false (from ∙ e)) b small in
     omega (arith, h.0, from, ap length c.deref.ensures.value)
 
 pub push_row-requires : goal.push_row-requires
 push_row-requires c =
-    let of = c.args.numbering.now.of.items in
     let own = c.requires.numbering.numbers.numbers c.args.id c.requires.within in
-    let is = get_or_read of c.as_usize-2.result c.index.result.now
-    (omega (arith, c.requires.within, c.requires.numbering.numbers.counted, c.as_usize-2.ensures.value)) c.index.ensures
-    0 ∙ ap (slice_index of) c.as_usize-2.ensures.value in
+    let is = number-read c.args.numbering.now c.requires.numbering c.requires.within c.as_usize-2.ensures.value
+    c.index.ensures in
     failures-alike c.args.classes.now c.edges-edges.result c.deref.result.now c.with_failures-leads.result
     c.index-from.result.now
     (lead-alike c.args.classes.now c.edges-edges.result c.requires.classes
@@ -35,28 +31,21 @@ push_row-requires c =
 
 pub index_mut-requires : goal.index_mut-requires
 index_mut-requires c =
-    let of = c.args.numbering.now.of.items in
     let own = c.requires.numbering.numbers.numbers c.args.id c.requires.within in
-    let is = get_or_read of c.as_usize-2.result c.index.result.now
-    (omega (arith, c.requires.within, c.requires.numbering.numbers.counted, c.as_usize-2.ensures.value)) c.index.ensures
-    0 ∙ ap (slice_index of) c.as_usize-2.ensures.value in
+    let is = number-read c.args.numbering.now c.requires.numbering c.requires.within c.as_usize-2.ensures.value
+    c.index.ensures in
     omega (arith, own.1, is, c.as_usize-state.ensures.value, c.requires.have.counted)
 
 pub returns-clause-have : goal.returns-clause-have
 returns-clause-have c =
     let offsets = c.args.self.now.offsets.items in
-    let of = c.args.numbering.now.of.items in
     let rows = c.args.self.now.rows.items in
     let f = failure-within c.args.id c.requires.numbering c.requires.links c.failure.ensures in
-    let from : c.index-from.result.now ≡ slice_index offsets c.failure.result =
-    get_or_read offsets c.as_usize.result c.index-from.result.now
-    (omega (arith, f.0, c.requires.have.counted, c.as_usize.ensures.value)) c.index-from.ensures 0
-    ∙ ap (slice_index offsets) c.as_usize.ensures.value in
-    let is : c.as_usize-state.result ≡ slice_index of c.args.id =
-    c.as_usize-state.ensures.value
-    ∙ (get_or_read of c.as_usize-2.result c.index.result.now
-    (omega (arith, c.requires.within, c.requires.numbering.numbers.counted, c.as_usize-2.ensures.value)) c.index.ensures
-    0 ∙ ap (slice_index of) c.as_usize-2.ensures.value) in
+    let from = read-there offsets (omega (arith, f.0, c.requires.have.counted)) c.as_usize.ensures.value
+    c.index-from.ensures in
+    let is = c.as_usize-state.ensures.value
+    ∙ number-read c.args.numbering.now c.requires.numbering c.requires.within c.as_usize-2.ensures.value c.index.ensures
+    in
     let with : AreWithFailures c.args.classes.now c.edges-edges.result rows c.index-from.result.now
     c.with_failures-leads.result =
     subst (λ xs.
@@ -71,13 +60,10 @@ returns-clause-have c =
 
 pub returns-clause-rowed : goal.returns-clause-rowed
 returns-clause-rowed c =
-    let of = c.args.numbering.now.of.items in
     let own = c.requires.numbering.numbers.numbers c.args.id c.requires.within in
-    let is : c.as_usize-state.result ≡ slice_index of c.args.id =
-    c.as_usize-state.ensures.value
-    ∙ (get_or_read of c.as_usize-2.result c.index.result.now
-    (omega (arith, c.requires.within, c.requires.numbering.numbers.counted, c.as_usize-2.ensures.value)) c.index.ensures
-    0 ∙ ap (slice_index of) c.as_usize-2.ensures.value) in
+    let is = c.as_usize-state.ensures.value
+    ∙ number-read c.args.numbering.now c.requires.numbering c.requires.within c.as_usize-2.ensures.value c.index.ensures
+    in
     let appended : IsRowAppended c.args.classes.now c.with_failures-leads.result 256 c.args.self.now.rows.items
     c.push_row.new.rows.items = c.in_ok-push_row.ensures in
     let deep : c.state-depth.result.depth ≡ depth c.args.trie.now.states.items c.args.id =

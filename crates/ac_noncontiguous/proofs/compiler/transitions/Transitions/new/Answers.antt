@@ -1,5 +1,5 @@
 -- The transitions of one state after another are appended.
-use Rattle.std.proofs.Common.{◌≡◌, ◌∷◌, ◌++◌, [], List, ℕ, ◌+◌, length, subst, sym, ap, ◌∙◌, arith}
+use Rattle.std.proofs.Common.{◌≡◌, ◌∷◌, ◌++◌, [], ◌+◌, length, subst, sym, ap, ◌∙◌, arith}
 use Rattle.ac_noncontiguous.specs.Compiler.Layout.{AreLaidOut}
 use Rattle.ac_noncontiguous.proofs.compiler.LayoutLemmas.{laid-more}
 use Rattle.ac_noncontiguous.proofs.compiler.transitions.Transitions.new.Goals as goal

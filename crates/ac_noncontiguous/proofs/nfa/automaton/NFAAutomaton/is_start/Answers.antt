@@ -1,5 +1,5 @@
 -- The test for a start: either start passes it, and no other state does.
-use Rattle.std.proofs.Common.{◌≢◌, ◌+◌, ℕ, Bool, sym, ap, ap₂, ◌∙◌, inl}
+use Rattle.std.proofs.Common.{◌≢◌, ◌+◌, sym, ap, ap₂, ◌∙◌, inl}
 use Rattle.std.specs.Prelude.{◌==◌, ◌||◌}
 use Rattle.std.proofs.lemmas.Bool.{ne_eqb, eq-eqb}
 use Rattle.ac_automaton.proofs.automaton.TestLemmas.{start-has}

@@ -1,5 +1,4 @@
 use Rattle.std.proofs.Common.{ap, sym, ◌∙◌}
-use Rattle.ac_noncontiguous.specs.declared.nfa.tables.State.{State}
 use Rattle.ac_noncontiguous.proofs.nfa.LookupLemmas.{kept-read}
 use Rattle.ac_noncontiguous.proofs.nfa.ReadLemmas.{state-kept, state-range, list-long}
 use Rattle.ac_noncontiguous.proofs.nfa.automaton.NFAAutomaton.match_len.Goals as goal

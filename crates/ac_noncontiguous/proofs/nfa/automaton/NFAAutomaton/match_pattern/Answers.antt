@@ -1,5 +1,4 @@
-use Rattle.std.proofs.Common.{ℕ, ◌≡◌, ◌+◌, get_or, ap, sym, subst}
-use Rattle.ac_noncontiguous.specs.declared.nfa.tables.State.{State}
+use Rattle.std.proofs.Common.{◌≡◌, ◌+◌, get_or, ap, sym, subst}
 use Rattle.ac_noncontiguous.proofs.nfa.LookupLemmas.{kept-read}
 use Rattle.ac_noncontiguous.proofs.nfa.ReadLemmas.{state-kept, state-range, list-at, state-known}
 use Rattle.ac_noncontiguous.proofs.nfa.automaton.NFAAutomaton.match_pattern.Goals as goal

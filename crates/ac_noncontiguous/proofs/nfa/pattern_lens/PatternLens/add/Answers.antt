@@ -1,4 +1,4 @@
-use Rattle.std.proofs.Common.{ap, sym, ◌∙◌, List, ℕ, ◌∷◌, [], ◌++◌, length, arith}
+use Rattle.std.proofs.Common.{ap, sym, ◌∙◌, ◌∷◌, [], ◌++◌, length, arith}
 use Rattle.ac_input.specs.Work.{longest, shortest}
 use Rattle.ac_literal.proofs.packed.PatternLemmas.{shortest-push}
 use Rattle.ac_noncontiguous.proofs.nfa.PatternLensLemmas.{longest-more, lens-more}

@@ -1,5 +1,4 @@
 use Rattle.std.proofs.Common.{ap, sym, arith}
-use Rattle.ac_noncontiguous.specs.declared.nfa.tables.State.{State}
 use Rattle.ac_noncontiguous.proofs.nfa.LookupLemmas.{kept-within, kept-read}
 use Rattle.ac_noncontiguous.proofs.nfa.tables.Tables.depth.Goals as goal
 

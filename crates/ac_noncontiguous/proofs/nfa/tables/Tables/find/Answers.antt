@@ -1,5 +1,4 @@
 use Rattle.std.proofs.Common.{◌+◌, ◌-◌, ◌/◌, ap, inl, sym, ◌∙◌, arith}
-use Rattle.ac_noncontiguous.specs.declared.nfa.tables.Transition.{Transition}
 use Rattle.ac_noncontiguous.specs.Nfa.{no_transition}
 use Rattle.ac_noncontiguous.proofs.nfa.LookupLemmas.{read-at}
 use Rattle.ac_noncontiguous.proofs.nfa.tables.Tables.find.Goals as goal

@@ -1,5 +1,5 @@
 -- The tables are those of every dictionary whose trie and links these are.
-use Rattle.std.proofs.Common.{ℕ, List, length, refl, sym, subst, arith}
+use Rattle.std.proofs.Common.{length, refl, sym, subst, arith}
 use Rattle.ac_input.specs.Limits.{HasStates}
 use Rattle.ac_noncontiguous.specs.Compiler.Assembly.{AreKept}
 use Rattle.ac_noncontiguous.proofs.nfa.CountLemmas.{stand-counts}

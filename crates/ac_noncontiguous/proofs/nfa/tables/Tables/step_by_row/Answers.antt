@@ -1,6 +1,5 @@
-use Rattle.std.proofs.Common.{◌≢◌, ◌+◌, ap, ap₂, sym, ◌∙◌, ℕ, arith}
+use Rattle.std.proofs.Common.{◌≢◌, ◌+◌, ap, ap₂, sym, ◌∙◌, arith}
 use Rattle.std.specs.Prelude.{slice_index}
-use Rattle.ac_noncontiguous.specs.declared.nfa.tables.State.{State}
 use Rattle.ac_noncontiguous.specs.Nfa.{row_of, no_row}
 use Rattle.ac_noncontiguous.proofs.nfa.LookupLemmas.{read-at, kept-within, kept-read, kept-row, leads-row}
 use Rattle.ac_noncontiguous.proofs.nfa.tables.Tables.step_by_row.Goals as goal

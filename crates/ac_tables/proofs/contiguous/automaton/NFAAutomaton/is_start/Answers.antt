@@ -1,5 +1,5 @@
 -- The test for a start: either start passes it, and no other state does.
-use Rattle.std.proofs.Common.{◌≡◌, Bool, inl, ap, ap₂, sym, subst, ◌∙◌, ℕ}
+use Rattle.std.proofs.Common.{◌≡◌, inl, ap, ap₂, sym, subst, ◌∙◌}
 use Rattle.std.specs.Prelude.{◌==◌, ◌||◌}
 use Rattle.std.proofs.lemmas.Bool.{eq-eqb, ne_eqb}
 use Rattle.ac_automaton.specs.Automaton.{TellsStart}

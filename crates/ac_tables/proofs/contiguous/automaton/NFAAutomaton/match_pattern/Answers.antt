@@ -1,4 +1,4 @@
-use Rattle.std.proofs.Common.{◌≢◌, ◌<◌, ℕ, List, [], length, slice_get, ap, ◌∙◌, arith}
+use Rattle.std.proofs.Common.{length, slice_get, ap, ◌∙◌, arith}
 use Rattle.ac_automaton.proofs.automaton.NamedLemmas.{read-known}
 use Rattle.ac_tables.specs.Contiguous.Reads.{contiguous_matches_at, contiguous_named_states}
 use Rattle.ac_tables.proofs.contiguous.NameLemmas.{names-are, state-list, state-listed, state-small}

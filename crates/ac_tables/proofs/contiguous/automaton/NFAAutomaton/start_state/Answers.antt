@@ -1,5 +1,4 @@
 use Rattle.std.proofs.Common.{ap, sym, ◌∙◌}
-use Rattle.ac_input.specs.declared.search.Anchored.{Anchored}
 use Rattle.ac_input.specs.Input.{is_anchored}
 use Rattle.ac_tables.proofs.contiguous.NameLemmas.{nfa_start_of, start-read}
 use Rattle.ac_tables.proofs.contiguous.automaton.NFAAutomaton.start_state.Goals as goal

@@ -1,6 +1,5 @@
 -- An unanchored search reads on by the rows, if there are any.
 use Rattle.std.proofs.Common.{subst}
-use Rattle.ac_input.specs.declared.search.Anchored.{Anchored}
 use Rattle.ac_automaton.specs.Automaton.{IsReached}
 use Rattle.ac_tables.specs.Contiguous.Reads.{IsContiguousRead}
 use Rattle.ac_tables.proofs.contiguous.automaton.NFALookUp.read_until.Goals as goal

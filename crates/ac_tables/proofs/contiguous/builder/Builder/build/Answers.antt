@@ -3,7 +3,6 @@ use Rattle.std.proofs.Common.{ap, sym, subst, ◌∙◌, inr}
 use Rattle.std.proofs.lemmas.Result.{IfOk-weaker, IfErr-weaker}
 use Rattle.ac_noncontiguous.specs.Builder.{IsBuiltOf, dictionary_by}
 use Rattle.ac_noncontiguous.specs.Nfa.Reads.{built_as}
-use Rattle.ac_noncontiguous.specs.declared.settings.Settings.{Settings}
 use Rattle.ac_tables.proofs.contiguous.builder.Builder.build.Goals as goal
 
 pub returns-clause-built : goal.returns-clause-built

@@ -1,19 +1,16 @@
 -- The new automaton is built as the noncontiguous one was.
-use Rattle.std.proofs.Common.{◌≡◌, ℕ, false, Option, ap, sym, subst, ◌∙◌}
+use Rattle.std.proofs.Common.{◌≡◌, false, ap, sym, subst, ◌∙◌}
 use Rattle.std.proofs.lemmas.Result.{err_from_is_err_and}
-use Rattle.ac_input.specs.Candidate.{Filter}
-use Rattle.ac_input.specs.Dictionary.{Dictionary}
 use Rattle.ac_input.specs.Limits.{IsWithinLimits}
 use Rattle.std.specs.Prelude.{IfSome}
 use Rattle.ac_literal.specs.Openings.{AreOpenings}
 use Rattle.ac_noncontiguous.specs.Nfa.Reads.{dictionary}
-use Rattle.ac_tables.specs.declared.contiguous.table.Table.{Table}
+use Rattle.ac_noncontiguous.proofs.lemmas.CopyLemmas.{same-dictionary}
 use Rattle.ac_tables.specs.Contiguous.Table.{AreWordsOf, AreSomeStates}
-use Rattle.ac_noncontiguous.specs.declared.settings.Settings.{Settings}
 use Rattle.ac_tables.specs.Contiguous.Builder.{IsLaidOf, IsMadeFrom, contiguous_dense_depth}
 use Rattle.ac_tables.specs.Contiguous.Build.{AreRowsWithin, IsRefusedFor}
 use Rattle.ac_tables.specs.Source.{AreClassesFor}
-use Rattle.ac_tables.proofs.contiguous.WordTableLemmas.{same-dictionary, refused-laid}
+use Rattle.ac_tables.proofs.contiguous.WordTableLemmas.{refused-laid}
 use Rattle.ac_tables.proofs.contiguous.builder.Builder.build_from_noncontiguous.Goals as goal
 
 pub returns-in_err-laid-clause-refused : goal.returns-in_err-laid-clause-refused
@@ -32,8 +29,8 @@ pub from_parts-requires-clause-parts : goal.from_parts-requires-clause-parts
 from_parts-requires-clause-parts c =
     let nfa = c.args.nfa.now in
     let made = c.in_ok-laid.ensures.made in
-    let e = same-dictionary (dictionary nfa) c.in_ok-lens.lens c.pairing-pairing.result.now c.match_kind-kind.result
-    (c.in_ok-lens.ensures ∙ c.pattern_lens.ensures) c.pairing-pairing.ensures.value c.match_kind-kind.ensures in
+    let e = same-dictionary (dictionary nfa) (c.in_ok-lens.ensures ∙ c.pattern_lens.ensures)
+    c.pairing-pairing.ensures.value c.match_kind-kind.ensures in
     record {
       within = subst (λ d. ∥ IsWithinLimits d ∥₁) (sym e) made.within;
       stands = subst (λ d. AreSomeStates d c.in_ok-laid.laid.table c.in_ok-laid.laid.rows) (sym e) made.stands;
@@ -45,8 +42,8 @@ from_parts-requires-clause-parts c =
 pub from_parts-requires-clause-opened : goal.from_parts-requires-clause-opened
 from_parts-requires-clause-opened c =
     let nfa = c.args.nfa.now in
-    let e = same-dictionary (dictionary nfa) c.in_ok-lens.lens c.pairing-pairing.result.now c.match_kind-kind.result
-    (c.in_ok-lens.ensures ∙ c.pattern_lens.ensures) c.pairing-pairing.ensures.value c.match_kind-kind.ensures in
+    let e = same-dictionary (dictionary nfa) (c.in_ok-lens.ensures ∙ c.pattern_lens.ensures)
+    c.pairing-pairing.ensures.value c.match_kind-kind.ensures in
     subst (λ d. ∥ IfSome c.openings-openings.result (AreOpenings d) ∥₁) (sym e) c.openings-openings.ensures
 
 pub returns-clause-made : goal.returns-clause-made
@@ -55,8 +52,8 @@ returns-clause-made c =
     let depth = c.unwrap_or-dense_depth.ensures in
     let made = subst (λ n. IsLaidOf nfa n c.self.inside.settings.row_memory c.in_ok-classes.classes c.in_ok-laid.laid)
     depth c.in_ok-laid.ensures.made in
-    let e = same-dictionary (dictionary nfa) c.in_ok-lens.lens c.pairing-pairing.result.now c.match_kind-kind.result
-    (c.in_ok-lens.ensures ∙ c.pattern_lens.ensures) c.pairing-pairing.ensures.value c.match_kind-kind.ensures in
+    let e = same-dictionary (dictionary nfa) (c.in_ok-lens.ensures ∙ c.pattern_lens.ensures)
+    c.pairing-pairing.ensures.value c.match_kind-kind.ensures in
     let words : c.from_parts.result.table.words.items ≡ c.in_ok-laid.laid.table.words.items =
     ap (λ t. t.words.items) c.from_parts.ensures.table in
     subst (λ s. IsMadeFrom s nfa c.from_parts.result) c.self.view_is

@@ -1,4 +1,4 @@
-use Rattle.std.proofs.Common.{ℕ, ◌-◌, ◌*◌, ap, ◌∙◌}
+use Rattle.std.proofs.Common.{◌-◌, ◌*◌, ap, ◌∙◌}
 use Rattle.std.proofs.lemmas.Nat.{pow_pos}
 use Rattle.ac_tables.specs.Contiguous.Rows.{row_len}
 use Rattle.ac_tables.proofs.contiguous.CutLemmas.{rows-between}

@@ -1,4 +1,4 @@
-use Rattle.std.proofs.Common.{ℕ, ◌+◌, ◌-◌, ◌*◌, ap, subst, ◌∙◌}
+use Rattle.std.proofs.Common.{◌+◌, ◌-◌, ◌*◌, ap, subst, ◌∙◌}
 use Rattle.std.proofs.lemmas.Nat.{pow_pos}
 use Rattle.ac_tables.specs.Contiguous.Cut.{IsCountBelow}
 use Rattle.ac_tables.proofs.contiguous.NoteRowLemmas.{last-up-to}

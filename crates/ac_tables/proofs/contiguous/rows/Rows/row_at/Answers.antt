@@ -1,5 +1,5 @@
 -- The row found is that of the place.
-use Rattle.std.proofs.Common.{ℕ, ◌*◌, List, length, ap, sym, ◌∙◌, arith}
+use Rattle.std.proofs.Common.{◌*◌, length, ap, sym, ◌∙◌, arith}
 use Rattle.std.specs.Prelude.{slice_index}
 use Rattle.std.proofs.lemmas.Nat.{pow_pos}
 use Rattle.ac_tables.specs.Contiguous.Rows.{row_len}

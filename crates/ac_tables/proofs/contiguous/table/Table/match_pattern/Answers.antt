@@ -1,4 +1,4 @@
-use Rattle.std.proofs.Common.{◌≡◌, ◌<◌, ℕ, ◌+◌, ◌-◌, get_or, sym, subst, arith}
+use Rattle.std.proofs.Common.{◌≡◌, ◌<◌, ◌+◌, ◌-◌, get_or, sym, subst, arith}
 use Rattle.std.specs.Prelude.{slice_index}
 use Rattle.ac_tables.specs.Contiguous.WordReads.{list_place}
 use Rattle.ac_tables.proofs.contiguous.StateLemmas.{first-of}

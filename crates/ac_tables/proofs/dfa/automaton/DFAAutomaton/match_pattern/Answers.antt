@@ -1,4 +1,4 @@
-use Rattle.std.proofs.Common.{ℕ, List, ◌≡◌, ◌<◌, length, sym, subst, refl, ◌∙◌, Some, slice_get}
+use Rattle.std.proofs.Common.{◌≡◌, ◌<◌, length, sym, subst, refl, ◌∙◌, Some, slice_get}
 use Rattle.std.proofs.lemmas.Option.{slice_get_read}
 use Rattle.ac_tables.specs.Dfa.Reads.{dfa_matches_at}
 use Rattle.ac_tables.proofs.dfa.ReadLemmas.{state-list, state-listed, state-known, some-within}

@@ -1,5 +1,4 @@
 use Rattle.std.proofs.Common.{ap, sym, ◌∙◌}
-use Rattle.ac_input.specs.declared.search.Anchored.{Anchored}
 use Rattle.ac_input.specs.Input.{is_anchored}
 use Rattle.ac_tables.specs.Dfa.Table.{start_by}
 use Rattle.ac_tables.proofs.dfa.ReadLemmas.{start-read}

@@ -4,7 +4,6 @@ use Rattle.std.proofs.lemmas.Result.{IfOk-weaker, IfErr-weaker}
 use Rattle.ac_noncontiguous.specs.Builder.{IsBuiltOf, dictionary_by}
 use Rattle.ac_noncontiguous.specs.Nfa.Reads.{built_as, dictionary}
 use Rattle.ac_noncontiguous.specs.Standing.{IsBuildRefused}
-use Rattle.ac_noncontiguous.specs.declared.settings.Settings.{Settings}
 use Rattle.ac_tables.specs.Dfa.Builder.{IsDfaOf, IsDfaBuilt, IsDfaBuildRefused, IsTooLargeOr}
 use Rattle.ac_tables.proofs.dfa.BuildLemmas.{refused-from}
 use Rattle.ac_tables.proofs.dfa.builder.Builder.build.Goals as goal

@@ -1,12 +1,10 @@
 -- The table is made from the automaton, and the DFA is built as the automaton was.
-use Rattle.std.proofs.Common.{◌≡◌, ℕ, List, ap, sym, subst, ◌∙◌}
+use Rattle.std.proofs.Common.{sym, subst, ◌∙◌}
 use Rattle.std.proofs.lemmas.Result.{err_from_is_err_and}
-use Rattle.ac_input.specs.declared.search.MatchKind.{MatchKind}
-use Rattle.ac_input.specs.Dictionary.{Dictionary, dictionary_of}
 use Rattle.std.specs.Prelude.{IfSome}
 use Rattle.ac_literal.specs.Openings.{AreOpenings}
 use Rattle.ac_noncontiguous.specs.Nfa.Reads.{dictionary, built_as}
-use Rattle.ac_noncontiguous.specs.declared.settings.Settings.{Settings}
+use Rattle.ac_noncontiguous.proofs.lemmas.CopyLemmas.{same-dictionary}
 use Rattle.ac_tables.specs.Dfa.Made.{IsTableFor, IsTableRefused}
 use Rattle.ac_tables.specs.Dfa.Reads.{IsDfaMadeOf}
 use Rattle.ac_tables.proofs.dfa.BuildLemmas.{dfa-of, refused-of, parts-of}
@@ -22,29 +20,23 @@ returns-in_err-table-clause-refused c =
 pub from_parts-requires-clause-parts : goal.from_parts-requires-clause-parts
 from_parts-requires-clause-parts c =
     let nfa = c.args.nfa.now in
-    let same : dictionary_of c.in_ok-lens.lens c.pairing.result.now c.match_kind.result ≡ dictionary nfa =
-    ap (λ q. dictionary_of q c.pairing.result.now c.match_kind.result) (c.in_ok-lens.ensures ∙ c.pattern_lens.ensures)
-    ∙ (ap (λ q. dictionary_of (dictionary nfa).patterns q c.match_kind.result) c.pairing.ensures.value
-    ∙ ap (λ k. dictionary_of (dictionary nfa).patterns (dictionary nfa).pairing k) c.match_kind.ensures) in
+    let same = same-dictionary (dictionary nfa) (c.in_ok-lens.ensures ∙ c.pattern_lens.ensures) c.pairing.ensures.value
+    c.match_kind.ensures in
     parts-of nfa c.in_ok-table.table c.in_ok-prefilter.prefilter _ same c.in_ok-table.ensures.made.made
     c.prefilter.ensures.made (c.in_ok-prefilter.ensures ∙ c.prefilter.ensures.value)
 
 pub from_parts-requires-clause-opened : goal.from_parts-requires-clause-opened
 from_parts-requires-clause-opened c =
     let nfa = c.args.nfa.now in
-    let same : dictionary_of c.in_ok-lens.lens c.pairing.result.now c.match_kind.result ≡ dictionary nfa =
-    ap (λ q. dictionary_of q c.pairing.result.now c.match_kind.result) (c.in_ok-lens.ensures ∙ c.pattern_lens.ensures)
-    ∙ (ap (λ q. dictionary_of (dictionary nfa).patterns q c.match_kind.result) c.pairing.ensures.value
-    ∙ ap (λ k. dictionary_of (dictionary nfa).patterns (dictionary nfa).pairing k) c.match_kind.ensures) in
+    let same = same-dictionary (dictionary nfa) (c.in_ok-lens.ensures ∙ c.pattern_lens.ensures) c.pairing.ensures.value
+    c.match_kind.ensures in
     subst (λ m. ∥ IfSome c.openings-openings.result (AreOpenings m) ∥₁) (sym same) c.openings-openings.ensures
 
 pub returns-clause-built : goal.returns-clause-built
 returns-clause-built c =
     let nfa = c.args.nfa.now in
-    let same : dictionary_of c.in_ok-lens.lens c.pairing.result.now c.match_kind.result ≡ dictionary nfa =
-    ap (λ q. dictionary_of q c.pairing.result.now c.match_kind.result) (c.in_ok-lens.ensures ∙ c.pattern_lens.ensures)
-    ∙ (ap (λ q. dictionary_of (dictionary nfa).patterns q c.match_kind.result) c.pairing.ensures.value
-    ∙ ap (λ k. dictionary_of (dictionary nfa).patterns (dictionary nfa).pairing k) c.match_kind.ensures) in
+    let same = same-dictionary (dictionary nfa) (c.in_ok-lens.ensures ∙ c.pattern_lens.ensures) c.pairing.ensures.value
+    c.match_kind.ensures in
     let h = subst (λ s. IsTableFor nfa s.start_kind s.byte_classes c.in_ok-table.table) c.self.view_is
     c.in_ok-table.ensures.made in
     let made : IsDfaMadeOf (dictionary nfa) c.in_ok-table.table (built_as nfa).prefilter c.from_parts.result = record {

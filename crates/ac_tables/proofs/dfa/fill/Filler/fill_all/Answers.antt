@@ -1,7 +1,6 @@
 -- The starts are filled first, and then the two runs of states in order of depth.
-use Rattle.std.proofs.Common.{◌≡◌, ◌<◌, ◌≤◌, ◌+◌, ℕ, inl, inr, ⊎_elim, sym, ap, subst, ◌∙◌, arith}
+use Rattle.std.proofs.Common.{◌≡◌, ◌<◌, ◌≤◌, ◌+◌, inl, inr, ⊎_elim, sym, ap, subst, ◌∙◌, arith}
 use Rattle.ac_input.specs.declared.search.Anchored.TheVariants.{No, Yes}
-use Rattle.ac_noncontiguous.specs.declared.nfa.Special.{Special}
 use Rattle.ac_noncontiguous.specs.Nfa.ReadCalls.{special_in, fail_in}
 use Rattle.ac_tables.specs.Dfa.Filling.{number_in, IsRowRight, IsUnwritten, AreRowsFilled, AreRowsUpTo, IsDone}
 use Rattle.ac_tables.specs.Dfa.Fill.{row_plan_of}
@@ -61,8 +60,7 @@ loop-low-init c =
 pub fill-requires-then-is_first_next-clause-failure : goal.fill-requires-then-is_first_next-clause-failure
 fill-requires-then-is_first_next-clause-failure c serves =
     let p = row_plan_of c.args.self.now in
-    let at : c.as_usize-start.result ≡ (special_in p.nfa).start_unanchored_id = c.as_usize-start.ensures.value
-    ∙ ap (λ s. s.start_unanchored_id) c.special-special.ensures.value in
+    let at = c.as_usize-start.ensures.value ∙ ap (λ s. s.start_unanchored_id) c.special-special.ensures.value in
     let first = c.is_first_next.ensures.yes c.if-is_first_next.true in
     let before : c.loop-low.low < (special_in p.nfa).start_unanchored_id =
     omega (arith, first.0, c.args.self.now.starts) in
@@ -87,8 +85,7 @@ fill-requires-then-is_first_next-clause-blank c serves =
 pub loop-low-preserved-then-is_first_next : goal.loop-low-preserved-then-is_first_next
 loop-low-preserved-then-is_first_next c =
     let p = row_plan_of c.args.self.now in
-    let at : c.as_usize-start.result ≡ (special_in p.nfa).start_unanchored_id = c.as_usize-start.ensures.value
-    ∙ ap (λ s. s.start_unanchored_id) c.special-special.ensures.value in
+    let at = c.as_usize-start.ensures.value ∙ ap (λ s. s.start_unanchored_id) c.special-special.ensures.value in
     let first = c.is_first_next.ensures.yes c.if-is_first_next.true in
     let before : c.loop-low.low < (special_in p.nfa).start_unanchored_id =
     omega (arith, first.0, c.args.self.now.starts) in
@@ -110,8 +107,7 @@ loop-low-preserved-then-is_first_next c =
 pub fill-requires-else-is_first_next-clause-failure : goal.fill-requires-else-is_first_next-clause-failure
 fill-requires-else-is_first_next-clause-failure c serves =
     let p = row_plan_of c.args.self.now in
-    let at : c.as_usize-start.result ≡ (special_in p.nfa).start_unanchored_id = c.as_usize-start.ensures.value
-    ∙ ap (λ s. s.start_unanchored_id) c.special-special.ensures.value in
+    let at = c.as_usize-start.ensures.value ∙ ap (λ s. s.start_unanchored_id) c.special-special.ensures.value in
     let later = c.is_first_next.ensures.no c.if-is_first_next.false in
     let i = c.loop-low.invariant in
     let starts = c.args.self.now.starts in
@@ -122,8 +118,7 @@ fill-requires-else-is_first_next-clause-failure c serves =
 pub fill-requires-else-is_first_next-clause-blank : goal.fill-requires-else-is_first_next-clause-blank
 fill-requires-else-is_first_next-clause-blank c serves =
     let p = row_plan_of c.args.self.now in
-    let at : c.as_usize-start.result ≡ (special_in p.nfa).start_unanchored_id = c.as_usize-start.ensures.value
-    ∙ ap (λ s. s.start_unanchored_id) c.special-special.ensures.value in
+    let at = c.as_usize-start.ensures.value ∙ ap (λ s. s.start_unanchored_id) c.special-special.ensures.value in
     let later = c.is_first_next.ensures.no c.if-is_first_next.false in
     let i = c.loop-low.invariant in
     let past : (special_in p.nfa).start_unanchored_id + 2 ≤ c.loop-low.high = omega (arith, at, i.high_past) in
@@ -137,8 +132,7 @@ fill-requires-else-is_first_next-clause-blank c serves =
 pub loop-low-preserved : goal.loop-low-preserved
 loop-low-preserved c =
     let p = row_plan_of c.args.self.now in
-    let at : c.as_usize-start.result ≡ (special_in p.nfa).start_unanchored_id = c.as_usize-start.ensures.value
-    ∙ ap (λ s. s.start_unanchored_id) c.special-special.ensures.value in
+    let at = c.as_usize-start.ensures.value ∙ ap (λ s. s.start_unanchored_id) c.special-special.ensures.value in
     let later = c.is_first_next.ensures.no c.if-is_first_next.false in
     let i = c.loop-low.invariant in
     record {
@@ -157,7 +151,6 @@ loop-low-preserved c =
 pub returns : goal.returns
 returns c =
     let p = row_plan_of c.args.self.now in
-    let at : c.as_usize-start.result ≡ (special_in p.nfa).start_unanchored_id = c.as_usize-start.ensures.value
-    ∙ ap (λ s. s.start_unanchored_id) c.special-special.ensures.value in
+    let at = c.as_usize-start.ensures.value ∙ ap (λ s. s.start_unanchored_id) c.special-special.ensures.value in
     rows-all p c.loop-low.low c.loop-low.high c.loop-low.trans (omega (arith, at))
     (omega (arith, c.state_len-states.ensures.value)) c.loop-low.invariant.rows

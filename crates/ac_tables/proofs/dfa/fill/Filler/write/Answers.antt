@@ -1,5 +1,5 @@
 -- One transition after another is written.
-use Rattle.std.proofs.Common.{◌≡◌, [], ◌∷◌, ◌++◌, ◌+◌, ℕ, length, slice_set, subst, arith}
+use Rattle.std.proofs.Common.{◌≡◌, [], ◌∷◌, ◌++◌, ◌+◌, length, slice_set, subst, arith}
 use Rattle.ac_input.specs.Alphabet.{class}
 use Rattle.ac_noncontiguous.specs.Nfa.ReadCalls.{edges_in}
 use Rattle.ac_tables.specs.Dfa.Filling.{number_in, AreWritten}

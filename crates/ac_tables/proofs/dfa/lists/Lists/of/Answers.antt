@@ -1,6 +1,5 @@
 -- One list after another is appended.
-use Rattle.std.proofs.Common.{◌≡◌, ℕ, ◌+◌, ◌-◌, ◌≤◌, ap, subst, ◌∙◌, arith}
-use Rattle.ac_noncontiguous.specs.declared.nfa.Special.{Special}
+use Rattle.std.proofs.Common.{◌≡◌, ◌+◌, ◌-◌, ◌≤◌, ap, subst, ◌∙◌, arith}
 use Rattle.ac_noncontiguous.specs.Nfa.Reads.{matches_at}
 use Rattle.ac_noncontiguous.specs.Nfa.ReadCalls.{special_in}
 use Rattle.ac_tables.specs.Dfa.Lists.{AreFirstLists}

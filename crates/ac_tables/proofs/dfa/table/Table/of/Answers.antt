@@ -1,15 +1,12 @@
 -- The table is made from an automaton.
-use Rattle.std.proofs.Common.{◌≡◌, ◌+◌, ◌-◌, ◌*◌, ◌≤◌, ◌<◌, ℕ, true, false, ⊎_elim, ap, ap₂, subst, ◌∙◌, arith}
+use Rattle.std.proofs.Common.{◌≡◌, ◌+◌, ◌-◌, ◌*◌, true, false, ap, ap₂, subst, ◌∙◌, arith}
 use Rattle.std.proofs.lemmas.Result.{err_from_is_err_and}
-use Rattle.ac_input.specs.Number.{greatest_number}
 use Rattle.ac_input.specs.declared.search.Anchored.TheVariants.{No, Yes}
 use Rattle.ac_input.specs.Dfa.{dfa_states}
-use Rattle.ac_noncontiguous.specs.declared.nfa.Special.{Special}
 use Rattle.ac_noncontiguous.specs.Nfa.ReadCalls.{state_len, special_in}
 use Rattle.ac_tables.specs.Dfa.Table.{dfa_number_of}
 use Rattle.ac_tables.specs.Dfa.Filling.{IsOverflow}
-use Rattle.ac_tables.proofs.dfa.CellLemmas.{source-of, last-match_is}
-use Rattle.ac_tables.proofs.dfa.BuildLemmas.{IsStrideOf, rows-some, size-refused, chosen-fit, number-kept, stride-is, table-for}
+use Rattle.ac_tables.proofs.dfa.BuildLemmas.{IsStrideOf, rows-some, size-refused, counted-fit, special-within, number-kept, stride-is, table-for}
 use Rattle.ac_tables.proofs.dfa.table.Table.of.Goals as goal
 
 pub check_size-requires : goal.check_size-requires
@@ -33,80 +30,48 @@ returns-in_err-check_size-clause-refused c =
 
 pub invariant_of-filler : goal.invariant_of-filler
 invariant_of-filler c =
-    let rows : c.rows-rows.result ≡ dfa_states c.args.kind (state_len c.args.nfa.now) = c.rows-rows.ensures
-    ∙ ap (dfa_states c.args.kind) c.state_len.ensures.value in
-    let fits = subst (λ n. (n - 1) * c.stride-stride.result ≤ greatest_number) rows c.in_ok-check_size.ensures.fits in
-    record {
-      starts = ap (λ s. s.start_unanchored_id) c.special-special.ensures.value;
-      fit = chosen-fit c.args.classed c.args.nfa.now c.args.kind c.in_ok-classes.classes c.stride-stride.result
-          c.special-special.ensures.whole c.in_ok-classes.ensures.classes c.stride-stride.ensures.value
-          c.stride-stride.ensures.fits fits;
-    }
+    let whole = c.special-special.ensures.whole in
+    let fit = counted-fit c.args.classed c.args.kind c.in_ok-classes.classes whole c.in_ok-classes.ensures.classes
+    c.stride-stride.ensures.value c.stride-stride.ensures.fits c.rows-rows.ensures c.state_len.ensures.value
+    c.in_ok-check_size.ensures.fits in
+    record { starts = ap (λ s. s.start_unanchored_id) c.special-special.ensures.value; fit = fit }
 
 pub number-requires : goal.number-requires
 number-requires c =
-    let nfa = c.args.nfa.now in
-    let s = (source-of nfa c.special-special.ensures.whole).starts in
-    let rows : c.rows-rows.result ≡ dfa_states c.args.kind (state_len nfa) = c.rows-rows.ensures
-    ∙ ap (dfa_states c.args.kind) c.state_len.ensures.value in
-    let fits = subst (λ n. (n - 1) * c.stride-stride.result ≤ greatest_number) rows c.in_ok-check_size.ensures.fits in
-    let fit = chosen-fit c.args.classed nfa c.args.kind c.in_ok-classes.classes c.stride-stride.result
-    c.special-special.ensures.whole c.in_ok-classes.ensures.classes c.stride-stride.ensures.value
-    c.stride-stride.ensures.fits fits in
-    let start : c.special-special.result.start_unanchored_id ≡ (special_in nfa).start_unanchored_id =
-    ap (λ x. x.start_unanchored_id) c.special-special.ensures.value in
-    number-kept _ No c.special-special.result.start_unanchored_id c.special-special.result.start_unanchored_id fit start
-    (omega (arith, start, s.1))
+    let whole = c.special-special.ensures.whole in
+    let is = c.special-special.ensures.value in
+    let fit = counted-fit c.args.classed c.args.kind c.in_ok-classes.classes whole c.in_ok-classes.ensures.classes
+    c.stride-stride.ensures.value c.stride-stride.ensures.fits c.rows-rows.ensures c.state_len.ensures.value
+    c.in_ok-check_size.ensures.fits in
+    number-kept No fit is (special-within whole is).0
 
 pub number-requires-2 : goal.number-requires-2
 number-requires-2 c =
-    let nfa = c.args.nfa.now in
-    let s = (source-of nfa c.special-special.ensures.whole).starts in
-    let rows : c.rows-rows.result ≡ dfa_states c.args.kind (state_len nfa) = c.rows-rows.ensures
-    ∙ ap (dfa_states c.args.kind) c.state_len.ensures.value in
-    let fits = subst (λ n. (n - 1) * c.stride-stride.result ≤ greatest_number) rows c.in_ok-check_size.ensures.fits in
-    let fit = chosen-fit c.args.classed nfa c.args.kind c.in_ok-classes.classes c.stride-stride.result
-    c.special-special.ensures.whole c.in_ok-classes.ensures.classes c.stride-stride.ensures.value
-    c.stride-stride.ensures.fits fits in
-    let start : c.special-special.result.start_unanchored_id ≡ (special_in nfa).start_unanchored_id =
-    ap (λ x. x.start_unanchored_id) c.special-special.ensures.value in
-    let next : c.special-special.result.start_anchored_id ≡ (special_in nfa).start_unanchored_id + 1 =
-    ap (λ x. x.start_anchored_id) c.special-special.ensures.value in
-    number-kept _ Yes c.special-special.result.start_unanchored_id c.special-special.result.start_anchored_id fit start
-    (omega (arith, next, s.1))
+    let whole = c.special-special.ensures.whole in
+    let is = c.special-special.ensures.value in
+    let fit = counted-fit c.args.classed c.args.kind c.in_ok-classes.classes whole c.in_ok-classes.ensures.classes
+    c.stride-stride.ensures.value c.stride-stride.ensures.fits c.rows-rows.ensures c.state_len.ensures.value
+    c.in_ok-check_size.ensures.fits in
+    number-kept Yes fit is (special-within whole is).1
 
 pub number-requires-3 : goal.number-requires-3
 number-requires-3 c =
-    let nfa = c.args.nfa.now in
-    let s = (source-of nfa c.special-special.ensures.whole).starts in
-    let rows : c.rows-rows.result ≡ dfa_states c.args.kind (state_len nfa) = c.rows-rows.ensures
-    ∙ ap (dfa_states c.args.kind) c.state_len.ensures.value in
-    let fits = subst (λ n. (n - 1) * c.stride-stride.result ≤ greatest_number) rows c.in_ok-check_size.ensures.fits in
-    let fit = chosen-fit c.args.classed nfa c.args.kind c.in_ok-classes.classes c.stride-stride.result
-    c.special-special.ensures.whole c.in_ok-classes.ensures.classes c.stride-stride.ensures.value
-    c.stride-stride.ensures.fits fits in
-    let start : c.special-special.result.start_unanchored_id ≡ (special_in nfa).start_unanchored_id =
-    ap (λ x. x.start_unanchored_id) c.special-special.ensures.value in
-    let last : c.special-special.result.max_match_id ≡ (special_in nfa).max_match_id =
-    ap (λ x. x.max_match_id) c.special-special.ensures.value in
-    let within : (special_in nfa).max_match_id
-    < state_len nfa =
-    ⊎_elim (λ (l : (special_in nfa).max_match_id + 1 ≡ (special_in nfa).start_unanchored_id). omega (arith, l, s.1))
-    (λ (r : (special_in nfa).max_match_id ≡ (special_in nfa).start_unanchored_id + 1). omega (arith, r, s.1))
-    (last-match_is nfa c.special-special.ensures.whole) in
-    number-kept _ Yes c.special-special.result.start_unanchored_id c.special-special.result.max_match_id fit start
-    (omega (arith, last, within))
+    let whole = c.special-special.ensures.whole in
+    let is = c.special-special.ensures.value in
+    let fit = counted-fit c.args.classed c.args.kind c.in_ok-classes.classes whole c.in_ok-classes.ensures.classes
+    c.stride-stride.ensures.value c.stride-stride.ensures.fits c.rows-rows.ensures c.state_len.ensures.value
+    c.in_ok-check_size.ensures.fits in
+    number-kept Yes fit is (special-within whole is).2
 
 pub returns-clause-made : goal.returns-clause-made
 returns-clause-made c =
     let nfa = c.args.nfa.now in
     let kind = c.args.kind in
     let stride = c.stride-stride.result in
-    let rows : c.rows-rows.result ≡ dfa_states kind (state_len nfa) = c.rows-rows.ensures
-    ∙ ap (dfa_states kind) c.state_len.ensures.value in
-    let fits = subst (λ n. (n - 1) * stride ≤ greatest_number) rows c.in_ok-check_size.ensures.fits in
-    let fit = chosen-fit c.args.classed nfa kind c.in_ok-classes.classes stride c.special-special.ensures.whole
-    c.in_ok-classes.ensures.classes c.stride-stride.ensures.value c.stride-stride.ensures.fits fits in
+    let whole = c.special-special.ensures.whole in
+    let fit = counted-fit c.args.classed c.args.kind c.in_ok-classes.classes whole c.in_ok-classes.ensures.classes
+    c.stride-stride.ensures.value c.stride-stride.ensures.fits c.rows-rows.ensures c.state_len.ensures.value
+    c.in_ok-check_size.ensures.fits in
     let start : c.special-special.result.start_unanchored_id ≡ (special_in nfa).start_unanchored_id =
     ap (λ x. x.start_unanchored_id) c.special-special.ensures.value in
     let next : c.special-special.result.start_anchored_id ≡ (special_in nfa).start_unanchored_id + 1 =

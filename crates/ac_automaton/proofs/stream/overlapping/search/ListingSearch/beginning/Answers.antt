@@ -1,9 +1,8 @@
 -- A search that has read nothing stands in the start state.
 use Rattle.std.proofs.Common.{[], false, subst, sym, arith}
 use Rattle.ac_input.specs.declared.search.Anchored.TheVariants.{No}
-use Rattle.ac_automaton.specs.Ahead.{less_ahead}
 use Rattle.ac_automaton.specs.Stream.{IsOnCourse, fresh_progress}
-use Rattle.ac_automaton.specs.Stream.StreamListingSearch.{IsListingSearch}
+use Rattle.ac_automaton.specs.Stream.Overlapping.Search.{IsListingSearch}
 use Rattle.ac_automaton.proofs.ahead.AheadLemmas.{ahead-none}
 use Rattle.ac_automaton.proofs.stream.StreamListingSearchLemmas.{first_place, fresh-listing-right, fresh-listing-view, less-none}
 use Rattle.ac_automaton.proofs.stream.overlapping.search.ListingSearch.beginning.Given.{Over}
@@ -26,11 +25,11 @@ pub invariant_of-result : goal.invariant_of-result
 invariant_of-result g c =
     let a = c.args.automaton.now in
     let b = g.A.Automaton.built a in
-    let view = fresh-listing-view b c.empty.result.items c.zero.result.value c.args.start c.list_len.result c.new.result
+    let view = fresh-listing-view b c.empty.result.items c.zero.result.value c.args.start c.list_len.result
     c.empty.ensures c.zero.ensures c.new.ensures in
     let less = fresh-listing-view b c.empty.result.items c.zero.result.value c.args.start c.list_len.result
-    (less_ahead c.new.result c.none.result) c.empty.ensures c.zero.ensures
-    (less-none c.new.result c.none.result c.new.ensures) in (
+    c.empty.ensures c.zero.ensures
+    (less-none c.none.result c.new.ensures) in (
       subst IsOnCourse (sym view) (right g c).stands.course,
       subst (λ t. IsListingSearch (g.A.Automaton.Reaches a No) (g.A.Automaton.matches a) t
           (first_place c.args.start c.list_len.result) c.zero.result.value c.in_ok-bytes.bytes.len [] 0 false)
@@ -43,10 +42,10 @@ invariant_of-result g c =
 pub returns-clause-fresh : goal.returns-clause-fresh
 returns-clause-fresh g c =
     fresh-listing-view (g.A.Automaton.built c.args.automaton.now) c.empty.result.items c.zero.result.value c.args.start
-    c.list_len.result c.new.result c.empty.ensures c.zero.ensures c.new.ensures
+    c.list_len.result c.empty.ensures c.zero.ensures c.new.ensures
 
 pub returns-clause-kept : goal.returns-clause-kept
 returns-clause-kept g c =
     let view = fresh-listing-view (g.A.Automaton.built c.args.automaton.now) c.empty.result.items c.zero.result.value
-    c.args.start c.list_len.result c.new.result c.empty.ensures c.zero.ensures c.new.ensures in
+    c.args.start c.list_len.result c.empty.ensures c.zero.ensures c.new.ensures in
     subst IsOnCourse (sym view) (right g c).stands.course

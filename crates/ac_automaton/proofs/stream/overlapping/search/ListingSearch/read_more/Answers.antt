@@ -1,132 +1,97 @@
 -- The bytes of a read lie at the front of the buffer, after the bytes read before.
-use Rattle.std.proofs.Common.{◌≡◌, ◌-◌, ◌∙◌, ◌∷◌, ◌++◌, [], ℕ, List, ap, append-nil, length, nat_lt, refl, subst, sym, take, arith}
+use Rattle.std.proofs.Common.{◌-◌, ◌∙◌, ◌∷◌, ◌++◌, [], ap, append-nil, nat_lt, refl, subst, sym, take, arith}
 use Rattle.std.specs.List.{concat}
 use Rattle.ac_input.specs.Number.{usize_max}
-use Rattle.ac_input.specs.declared.search.Anchored.TheVariants.{No}
 use Rattle.ac_automaton.specs.Stream.{CanBeCounted, HasRead, IsSearched}
-use Rattle.ac_automaton.specs.Stream.StreamListingSearch.{listing_at}
-use Rattle.ac_automaton.proofs.stream.StreamListingSearchLemmas.{HasReading, reading-on, reading-test}
+use Rattle.ac_automaton.proofs.stream.StreamListingSearchLemmas.{HasReading, listed_by, read_to, reading-on, reading-test}
 use Rattle.ac_automaton.proofs.stream.overlapping.search.ListingSearch.read_more.Given.{Over}
 use Rattle.ac_automaton.proofs.stream.overlapping.search.ListingSearch.read_more.Goals as goal
+use Rattle.ac_automaton.proofs.stream.overlapping.search.ListingSearch.read_more.Goals.{After-and-self-inside-2}
+use Rattle.ac_automaton.specs.declared.stream.overlapping.search.ListingSearch.TheInside.{Inside}
 
 -- the read failed
 failed : (g : Over) (c : goal.After-self-in-Err-1 g)
-    → HasReading g.R.Read.remaining (g.A.Automaton.Reaches c.self.inside.automaton.now No)
-    (g.A.Automaton.matches c.self.inside.automaton.now) (g.A.Automaton.built c.self.inside.automaton.now)
-    c.self.inside.pieces.items c.and-self-inside.result.items c.self.inside.given.value c.self.inside.place
-    c.fill.new.bytes.len [] 0 c.self.inside.over c.self.inside.sums c.forget.new.self c.args.reader.now
-    c.fill.new.reader [] 1
+    → HasReading g.A.Automaton g.R.Read.remaining c.self.inside
+    (read_to c.self.inside c.and-self-inside.result.items c.fill.new.bytes 0 c.self.inside.over c.forget.new.self)
+    c.args.reader.now c.fill.new.reader [] 1
 failed g c =
     let i = c.self.inside in
-    let a = i.automaton.now in
-    let searched : i.place.at ≡ length (concat i.pieces.items) =
-    subst IsSearched (sym c.self.view_is) c.requires.searched in
     let inv = c.self.invariant in
     let none = append-nil (concat i.pieces.items) in
-    reading-on g.R.Read.remaining (g.A.Automaton.Reaches a No) (g.A.Automaton.matches a) (g.A.Automaton.built a)
-    i.pieces.items c.and-self-inside.result.items i.given.value i.place i.bytes.len (take i.filled i.bytes.items)
-    i.filled i.over i.over i.sums i.ahead c.forget.new.self c.args.reader.now c.fill.new.reader [] [] 1 0
-    c.fill.new.bytes.len
-    inv.1 inv.0 inv.2 inv.3 c.forget.ensures searched c.in-Err.ensures.fills refl (omega arith) refl
-    c.and-self-inside.ensures c.fill.ensures.len
-    (λ e. subst CanBeCounted (sym none) (inv.1.countable e))
-    (λ e. subst (λ l. ¬ CanBeCounted l) (sym none) (inv.1.uncountable e))
+    reading-on g.A.Automaton i c.and-self-inside.result.items c.fill.new.bytes 0 i.over inv (subst IsSearched
+    (sym c.self.view_is) c.requires.searched)
+    c.forget.ensures c.in-Err.ensures.fills refl (omega arith) c.and-self-inside.ensures c.fill.ensures.len (
+      λ e. subst CanBeCounted (sym none) (inv.1.countable e),
+      λ e. subst (λ l. ¬ CanBeCounted l) (sym none) (inv.1.uncountable e),
+    )
 
 pub invariant_of-self : goal.invariant_of-self
-invariant_of-self g c = let all = failed g c in (all.course, all.right, all.known, all.made)
+invariant_of-self g c = (failed g c).kept
 
 pub returns-in-Err-clause-read : goal.returns-in-Err-clause-read
 returns-in-Err-clause-read g c =
     subst (λ t. HasRead g.R.Read.remaining t
-    (listing_at (g.A.Automaton.built c.self.inside.automaton.now) c.and-self-inside.result.items
-    c.self.inside.given.value (record c.self.inside.place { from = c.self.inside.place.at }) c.self.inside.sums)
+    (listed_by g.A.Automaton
+    (read_to c.self.inside c.and-self-inside.result.items c.fill.new.bytes 0 c.self.inside.over c.forget.new.self))
     c.args.reader.now c.fill.new.reader [] 1) c.self.view_is (failed g c).read
 
 pub returns-in-Err-clause-kept : goal.returns-in-Err-clause-kept
-returns-in-Err-clause-kept g c = (failed g c).course
+returns-in-Err-clause-kept g c = (failed g c).kept.0
 
--- there are more bytes than places
-past : (g : Over) (c : goal.Then-self g)
-    → HasReading g.R.Read.remaining (g.A.Automaton.Reaches c.self.inside.automaton.now No)
-    (g.A.Automaton.matches c.self.inside.automaton.now) (g.A.Automaton.built c.self.inside.automaton.now)
-    c.self.inside.pieces.items c.and-self-inside-2.result.items c.self.inside.given.value c.self.inside.place
-    c.fill.new.bytes.len (take c.in-Ok.n c.fill.new.bytes.items) c.in-Ok.n
-    (nat_lt (usize_max - c.self.inside.place.at) c.in-Ok.n) c.self.inside.sums c.forget.new.self c.args.reader.now
-    c.fill.new.reader (take c.in-Ok.n c.fill.new.bytes.items) 0
-past g c =
+-- what the search keeps after it read some bytes
+abbrev after : (g : Over) → After-and-self-inside-2 g → Inside g.row.A.Denot
+after g c =
+    read_to c.self.inside c.and-self-inside-2.result.items c.fill.new.bytes c.in-Ok.n
+    (nat_lt (usize_max - c.self.inside.place.at) c.in-Ok.n) c.forget.new.self
+
+-- the read returned some bytes
+gave : (g : Over) (c : After-and-self-inside-2 g)
+    → HasReading g.A.Automaton g.R.Read.remaining c.self.inside (after g c) c.args.reader.now c.fill.new.reader
+    (take c.in-Ok.n c.fill.new.bytes.items) 0
+gave g c =
     let i = c.self.inside in
-    let a = i.automaton.now in
-    let searched : i.place.at ≡ length (concat i.pieces.items) =
-    subst IsSearched (sym c.self.view_is) c.requires.searched in
-    let inv = c.self.invariant in
+    let searched : IsSearched (listed_by g.A.Automaton i) = subst IsSearched (sym c.self.view_is) c.requires.searched in
     let filled = c.in-Ok.ensures.fills in
     let n = c.in-Ok.n in
-    let piece : List ℕ = take n c.fill.new.bytes.items in
-    let test = reading-test (concat i.pieces.items) piece i.place.at n (omega arith) searched filled.count in
-    reading-on g.R.Read.remaining (g.A.Automaton.Reaches a No) (g.A.Automaton.matches a) (g.A.Automaton.built a)
-    i.pieces.items c.and-self-inside-2.result.items i.given.value i.place i.bytes.len (take i.filled i.bytes.items)
-    i.filled i.over (nat_lt (usize_max - c.self.inside.place.at) c.in-Ok.n) i.sums i.ahead c.forget.new.self
-    c.args.reader.now c.fill.new.reader piece piece 0 n c.fill.new.bytes.len
-    inv.1 inv.0 inv.2 inv.3 c.forget.ensures searched filled.read filled.count
-    (omega (arith, filled.fits, c.fill.ensures.len)) refl
+    reading-on g.A.Automaton i c.and-self-inside-2.result.items c.fill.new.bytes n (nat_lt
+    (usize_max - i.place.at) n) c.self.invariant searched
+    c.forget.ensures filled.read filled.count (omega (arith, filled.fits, c.fill.ensures.len))
     (c.and-self-inside-2.ensures ∙ ap (λ l. i.pieces.items ++ take n l ∷ []) c.as_slice.ensures.value)
-    c.fill.ensures.len test.0 test.1
+    c.fill.ensures.len
+    (reading-test (concat i.pieces.items) (take n c.fill.new.bytes.items) i.place.at n (omega arith) searched
+    filled.count)
+
+-- so it does, by how far the search had come
+has-read : (g : Over) (c : After-and-self-inside-2 g)
+    → HasRead g.R.Read.remaining c.args.self.now (listed_by g.A.Automaton (after g c)) c.args.reader.now
+    c.fill.new.reader (take c.in-Ok.n c.fill.new.bytes.items) 0
+has-read g c =
+    subst (λ t. HasRead g.R.Read.remaining t (listed_by g.A.Automaton (after g c)) c.args.reader.now c.fill.new.reader
+    (take c.in-Ok.n c.fill.new.bytes.items) 0) c.self.view_is (gave g c).read
 
 pub invariant_of-self-then-self : goal.invariant_of-self-then-self
-invariant_of-self-then-self g c = let all = past g c in (all.course, all.right, all.known, all.made)
+invariant_of-self-then-self g c = (gave g (goal.at.invariant_of-self-then-self g c).After-and-self-inside-2).kept
 
 pub returns-then-self-clause-read : goal.returns-then-self-clause-read
 returns-then-self-clause-read g c =
-    let piece : List ℕ = take c.in-Ok.n c.fill.new.bytes.items in
-    let read =
-    subst (λ t. HasRead g.R.Read.remaining t
-    (listing_at (g.A.Automaton.built c.self.inside.automaton.now) c.and-self-inside-2.result.items
-    c.self.inside.given.value (record c.self.inside.place { from = c.self.inside.place.at }) c.self.inside.sums)
-    c.args.reader.now c.fill.new.reader piece 0) c.self.view_is (past g c).read in
-    (piece, read, (past g c).right.uncountable c.if-self.true)
+    let d = (goal.at.returns-then-self-clause-read g c).After-and-self-inside-2 in
+    (take c.in-Ok.n c.fill.new.bytes.items, has-read g d, (gave g d).kept.1.uncountable c.if-self.true)
 
 pub returns-then-self-clause-kept : goal.returns-then-self-clause-kept
-returns-then-self-clause-kept g c = (past g c).course
-
--- there is a place for each byte
-within : (g : Over) (c : goal.Else-self g)
-    → HasReading g.R.Read.remaining (g.A.Automaton.Reaches c.self.inside.automaton.now No)
-    (g.A.Automaton.matches c.self.inside.automaton.now) (g.A.Automaton.built c.self.inside.automaton.now)
-    c.self.inside.pieces.items c.and-self-inside-2.result.items c.self.inside.given.value c.self.inside.place
-    c.fill.new.bytes.len (take c.in-Ok.n c.fill.new.bytes.items) c.in-Ok.n
-    (nat_lt (usize_max - c.self.inside.place.at) c.in-Ok.n) c.self.inside.sums c.forget.new.self c.args.reader.now
-    c.fill.new.reader (take c.in-Ok.n c.fill.new.bytes.items) 0
-within g c =
-    let i = c.self.inside in
-    let a = i.automaton.now in
-    let searched : i.place.at ≡ length (concat i.pieces.items) =
-    subst IsSearched (sym c.self.view_is) c.requires.searched in
-    let inv = c.self.invariant in
-    let filled = c.in-Ok.ensures.fills in
-    let n = c.in-Ok.n in
-    let piece : List ℕ = take n c.fill.new.bytes.items in
-    let test = reading-test (concat i.pieces.items) piece i.place.at n (omega arith) searched filled.count in
-    reading-on g.R.Read.remaining (g.A.Automaton.Reaches a No) (g.A.Automaton.matches a) (g.A.Automaton.built a)
-    i.pieces.items c.and-self-inside-2.result.items i.given.value i.place i.bytes.len (take i.filled i.bytes.items)
-    i.filled i.over (nat_lt (usize_max - c.self.inside.place.at) c.in-Ok.n) i.sums i.ahead c.forget.new.self
-    c.args.reader.now c.fill.new.reader piece piece 0 n c.fill.new.bytes.len
-    inv.1 inv.0 inv.2 inv.3 c.forget.ensures searched filled.read filled.count
-    (omega (arith, filled.fits, c.fill.ensures.len)) refl
-    (c.and-self-inside-2.ensures ∙ ap (λ l. i.pieces.items ++ take n l ∷ []) c.as_slice.ensures.value)
-    c.fill.ensures.len test.0 test.1
+returns-then-self-clause-kept g c =
+    (gave g (goal.at.returns-then-self-clause-kept g c).After-and-self-inside-2).kept.0
 
 pub invariant_of-self-2 : goal.invariant_of-self-2
-invariant_of-self-2 g c = let all = within g c in (all.course, all.right, all.known, all.made)
+invariant_of-self-2 g c = (gave g (goal.at.invariant_of-self-2 g c).After-and-self-inside-2).kept
 
 pub returns-clause-read : goal.returns-clause-read
 returns-clause-read g c =
-    let piece : List ℕ = take c.in-Ok.n c.fill.new.bytes.items in
-    let read =
-    subst (λ t. HasRead g.R.Read.remaining t
-    (listing_at (g.A.Automaton.built c.self.inside.automaton.now) c.and-self-inside-2.result.items
-    c.self.inside.given.value (record c.self.inside.place { from = c.self.inside.place.at }) c.self.inside.sums)
-    c.args.reader.now c.fill.new.reader piece 0) c.self.view_is (within g c).read in
-    (piece, read, c.in-Ok.ensures.fills.count, (within g c).right.countable c.if-self.false)
+    let d = (goal.at.returns-clause-read g c).After-and-self-inside-2 in (
+      take c.in-Ok.n c.fill.new.bytes.items,
+      has-read g d,
+      c.in-Ok.ensures.fills.count,
+      (gave g d).kept.1.countable c.if-self.false,
+    )
 
 pub returns-clause-kept : goal.returns-clause-kept
-returns-clause-kept g c = (within g c).course
+returns-clause-kept g c = (gave g (goal.at.returns-clause-kept g c).After-and-self-inside-2).kept.0

@@ -4,6 +4,6 @@ use Rattle.ac_automaton.proofs.stream.overlapping.search.ListingSearchItemSearch
 
 pub returns-clause-goes : goal.returns-clause-goes
 returns-clause-goes g c = (
-  StreamCounts-nothing c.args.self.now c.read_more.new.self c.args.steps.now c.read_more.ensures.steps,
+  StreamCounts-nothing c.args.steps.now c.read_more.ensures.steps,
   c.read_more.ensures.kept,
 )

@@ -1,0 +1,91 @@
+-- Each call of the closure extends the chain by one.
+use Rattle.std.proofs.Common.{◌≡◌, ◌∷◌, drop, refl, ap, ◌∙◌, arith, rules, true, false, Ok}
+use Rattle.std.proofs.lemmas.List.{take_rest}
+use Rattle.std.proofs.lemmas.Result.{err_from_is_err_and}
+use Rattle.ac_input.specs.declared.search.Anchored.TheVariants.{No}
+use Rattle.ac_automaton.specs.InMemory.Iter.{left_of}
+use Rattle.ac_automaton.specs.InMemory.Replace.{matches_in}
+use Rattle.ac_automaton.proofs.lemmas.ReplaceLemmas.{matches-lie, lies-first, same-input}
+use Rattle.ac_automaton.proofs.in_memory.replace.ReplacerLemmas.{callable-next, replied, refused, comes-first, comes-further, comes-to_false, comes-to_false_refused, comes-to_call_refused}
+use Rattle.ac_automaton.proofs.in_memory.replace.replace_all_with_bytes.Goals as goal
+
+pub loop-found-init : goal.loop-found-init
+loop-found-init g c =
+    let x = c.args.haystack.now in
+    let b = g.A.Automaton.built c.args.automaton.now in
+    let all : left_of c.in_ok-matches.matches ≡ matches_in b x =
+    same-input b c.in_ok-matches.ensures.answer.2 c.new.ensures refl in
+    record {
+      callable = c.requires;
+      lies = rw all (matches-lie b x);
+      within = omega arith;
+      comes = comes-first all;
+    }
+
+pub replace_with-requires : goal.replace_with-requires
+replace_with-requires g c =
+    let seen : left_of c.loop-found.matches ≡ c.in-Some.found ∷ left_of c.next.new.self = c.in-Some.ensures.steps in
+    c.loop-found.invariant.callable.takes _ _ _ (lies-first seen c.loop-found.invariant.lies).0
+
+pub loop-found-preserved : goal.loop-found-preserved
+loop-found-preserved g c =
+    let before = c.loop-found.invariant in
+    let seen : left_of c.loop-found.matches ≡ c.in-Some.found ∷ left_of c.next.new.self = c.in-Some.ensures.steps in
+    let lies = lies-first seen before.lies in
+    let go : c.in_ok-goes_on.goes_on ≡ true = search rules in
+    record {
+      callable = callable-next before.callable lies.0 c.replace_with.ensures;
+      lies = rw c.end-at.ensures.value lies.4;
+      within = rw c.end-at.ensures.value lies.3;
+      comes = rw c.end-at.ensures.value
+          (comes-further _ _ _ _ _ _ _ _ _ before.comes _ _ seen _ _
+          (replied c.replace_with.ensures (c.in_ok-goes_on.was ∙ ap Ok go) refl
+          (rw (c.end-at.ensures.value, c.start-in-Some.ensures.value))
+          (c.in_ok-extend_from_slice.ensures.items ∙ rw c.start.ensures.value)));
+    }
+
+pub returns-in_err-goes_on : goal.returns-in_err-goes_on
+returns-in_err-goes_on g c =
+    let before = c.loop-found.invariant in
+    let seen : left_of c.loop-found.matches ≡ c.in-Some.found ∷ left_of c.next.new.self = c.in-Some.ensures.steps in
+    let p = err_from_is_err_and c.from_residual-in_err-goes_on.result c.from_residual-in_err-goes_on.ensures.1 in
+    let can : g.A.Automaton.supports c.args.automaton.now No = search rules in
+    rw (p.1, p.2) (
+      can,
+      comes-to_call_refused _ _ _ _ _ _ _ _ _ before.comes _ _ seen _ _
+          (refused c.replace_with.ensures c.in_err-goes_on.was refl
+          (rw (c.end-at.ensures.value, c.start-in-Some.ensures.value))
+          (c.in_ok-extend_from_slice.ensures.items ∙ rw c.start.ensures.value)),
+    )
+
+pub returns-then-not-goes_on : goal.returns-then-not-goes_on
+returns-then-not-goes_on g c =
+    let before = c.loop-found.invariant in
+    let seen : left_of c.loop-found.matches ≡ c.in-Some.found ∷ left_of c.next.new.self = c.in-Some.ensures.steps in
+    let stop : c.in_ok-goes_on.goes_on ≡ false = search rules in
+    let can : g.A.Automaton.supports c.args.automaton.now No = search rules in (
+      can,
+      comes-to_false _ _ _ _ _ _ _ _ _ before.comes _ _ seen _ _
+          (replied c.replace_with.ensures (c.in_ok-goes_on.was ∙ ap Ok stop) refl
+          (rw (c.end-at.ensures.value, c.start-in-Some.ensures.value))
+          (c.in_ok-extend_from_slice.ensures.items ∙ rw c.start.ensures.value))
+          c.in_ok-extend_from_slice-2.ensures.items
+          (take_rest c.args.haystack.now c.end-at.result ∙ ap (λ n. drop n c.args.haystack.now) c.end-at.ensures.value),
+    )
+
+pub returns-in_err-extend_from_slice-2 : goal.returns-in_err-extend_from_slice-2
+returns-in_err-extend_from_slice-2 g c =
+    let before = c.loop-found.invariant in
+    let seen : left_of c.loop-found.matches ≡ c.in-Some.found ∷ left_of c.next.new.self = c.in-Some.ensures.steps in
+    let stop : c.in_ok-goes_on.goes_on ≡ false = search rules in
+    let p = err_from_is_err_and c.from_residual-in_err-extend_from_slice-2.result
+    c.from_residual-in_err-extend_from_slice-2.ensures.1 in
+    let can : g.A.Automaton.supports c.args.automaton.now No = search rules in
+    rw (p.1, p.2) (
+      can,
+      comes-to_false_refused _ _ _ _ _ _ _ _ _ before.comes _ _ seen _ _ _
+          (replied c.replace_with.ensures (c.in_ok-goes_on.was ∙ ap Ok stop) refl
+          (rw (c.end-at.ensures.value, c.start-in-Some.ensures.value))
+          (c.in_ok-extend_from_slice.ensures.items ∙ rw c.start.ensures.value))
+          c.in_err-extend_from_slice-2.ensures.items,
+    )

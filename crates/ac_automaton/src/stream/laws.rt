@@ -1,0 +1,23 @@
+//! The laws of streams: what of a text is decided, and that it doesn't matter how it is cut into pieces.
+//!
+//! These functions do nothing. Each states one law as its contract; a caller who needs the law calls the function, at no cost.
+ghost use Rattle.ac_automaton.specs.Stream.Laws.{DeathDecides};
+ghost use Rattle.ac_automaton.specs.Stream.Push.{PiecesChangeNothing};
+ghost use Rattle.ac_automaton.specs.Stream.Replacer.{PiecesChangeNoText};
+
+/// Death decides: where the first matches of a text are decided, and what follows the last of them is dead, the best match of that
+/// is decided too. So a search of a stream may return a match as soon as its automaton is dead.
+pub fn death_decides()
+    ensures { DeathDecides }
+{}
+
+/// It doesn't matter how a text is cut into pieces. Two searches of a stream by equal automata that were given the same text, whether it
+/// was read or pushed, return the same matches, once all is decided: under the standard kind always, else when they are finished.
+pub fn pieces_change_nothing()
+    ensures { PiecesChangeNothing }
+{}
+
+/// Nor does it for the replaced text: two replacements that were given the same text hand out the same, once they are finished.
+pub fn pieces_change_no_text()
+    ensures { PiecesChangeNoText }
+{}

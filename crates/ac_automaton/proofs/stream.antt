@@ -19,6 +19,8 @@ pub mod StreamCutLemmas
 pub mod StreamIterLemmas
 pub mod StreamLeftLemmas
 pub mod StreamLemmas
+pub mod StreamMaskEndLemmas
+pub mod StreamMaskLemmas
 pub mod StreamListingLemmas
 pub mod StreamListingSearchLemmas
 pub mod StreamPushLemmas

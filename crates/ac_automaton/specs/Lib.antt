@@ -4,6 +4,7 @@ pub use Rattle.ac_input.specs.Occurrence
 pub use Rattle.ac_input.specs.Best
 pub use Rattle.ac_input.specs.Walk
 pub use Rattle.ac_input.specs.Listing
+pub use Rattle.ac_input.specs.Mask
 pub use Rattle.ac_input.specs.Text
 pub use Rattle.ac_input.specs.Dictionary
 pub use Rattle.ac_input.specs.Tells
@@ -15,6 +16,7 @@ pub use Rattle.ac_input.specs.Steps
 pub use Rattle.ac_input.specs.Input
 pub use Rattle.ac_input.specs.Work
 pub mod Look
+pub mod Masking
 pub mod Ahead
 pub mod Errors
 pub mod Automaton

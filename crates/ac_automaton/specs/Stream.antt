@@ -3,6 +3,7 @@ pub mod Answer
 pub mod Devices
 pub mod Iter
 pub mod Laws
+pub mod Mask
 pub mod Overlapping
 pub mod Pump
 pub mod Push

@@ -12,6 +12,7 @@ mod gain;
 pub mod in_memory;
 pub mod lanes;
 pub mod look;
+pub(crate) mod masking;
 pub mod search;
 pub mod skip;
 pub mod starters;

@@ -8,26 +8,33 @@
 //! A function that searches by any automaton asks for `A: Search`. One that goes from state to state asks for `A: Automaton`.
 use crate::ahead::Ahead;
 use crate::automaton::Automaton;
-use crate::error::MatchError;
+use crate::error::{MatchError, StreamError};
+use crate::in_memory::mask::mask_all;
 use crate::in_memory::overlapping::{Position, Shown};
 use crate::in_memory::{find, overlapping};
-use crate::stream;
 use crate::stream::Progress;
+use crate::stream::devices::watched::Watched;
+use crate::stream::mask::{StreamMask, mask_stream};
 use crate::stream::overlapping::{ListPlace, Listed};
+use crate::{masking, stream};
 use ac_input::primitives::StateID;
 use ac_input::search::{Input, Match};
 use ac_input::steps::Steps;
+use std::alloc::Global;
+use std::io::{Read, Write};
 
 /// An automaton that searches.
 pub trait Search: Automaton {
-    ghost use Rattle.std.specs.Prelude.{◌≡◌, ◌≤◌, ◌-◌, [], None, Some};
+    ghost use Rattle.std.specs.Prelude.{◌≡◌, ◌≤◌, ◌-◌, false, [], length, drop, None, Some};
     ghost use Rattle.ac_input.specs.declared.search.Anchored.TheVariants.{No};
     ghost use Rattle.ac_input.specs.declared.search.MatchKind.TheVariants.{Standard};
     ghost use Rattle.ac_automaton.specs.Ahead.{IsPaid, StaysReadOnce};
-    ghost use Rattle.ac_automaton.specs.Automaton.{Finds, CostsFind, IsFindCost, IsFound};
+    ghost use Rattle.ac_automaton.specs.Automaton.{Finds, CostsFind, IsFindCost, IsFound, IsReached, IsReadCost};
     ghost use Rattle.ac_automaton.specs.InMemory.Find.Ahead.{IsAheadIn, MayReadAhead, ended_at};
     ghost use Rattle.ac_automaton.specs.InMemory.Items.{FindsWithin};
     ghost use Rattle.ac_automaton.specs.InMemory.Overlapping.OverlappingSearch.{CountsOn, HasLeft, IsAheadAt, KeepsPaying, ShowsNextAt};
+    ghost use Rattle.ac_automaton.specs.Masking.{CostsMask, Masks, MasksFrom};
+    ghost use Rattle.ac_automaton.specs.Stream.Mask.{AcceptsMask, AnswersNewMask, CostsMaskStream, MasksStream};
     ghost use Rattle.ac_automaton.specs.Stream.Overlapping.Walk.{IsAheadFor, ListsNext, MayList};
     ghost use Rattle.ac_automaton.specs.Stream.Search.Walk.{IsAheadBy, MayWalk, WalksOn};
 
@@ -141,6 +148,117 @@ pub trait Search: Automaton {
     {
         stream::overlapping::next_listed(self, place, held, ahead, steps)
     }
+
+    /// Reads on from a state over the bytes from a place on, and masks the occurrences that end there, also their bytes before the
+    /// place, as far as they are held; counts what it does. Returns the state after the last byte. Its callers mask a text, in memory
+    /// or in a stream.
+    fn mask_from(
+        &self,
+        sid: StateID,
+        bytes: &mut [u8],
+        from: usize,
+        mask: u8,
+        steps: &mut Steps,
+    ) -> StateID
+        requires standard { (Self.built self.now).dictionary.kind ≡ Standard }
+        requires reached { IsReached (Self.Reaches self.now No) sid }
+        requires within { from ≤ length bytes.old }
+        ensures masks { MasksFrom Self.Automaton self.now mask sid from bytes.old bytes.new result }
+        ensures cost { IsReadCost (Self.built self.now) (Self.Reaches self.now) No sid (drop from bytes.old) steps.old steps.new }
+    {
+        masking::mask_from(self, sid, bytes, from, mask, steps)
+    }
+
+    /// Masks the text in place: each byte that lies in an occurrence of some pattern becomes `mask`, and every other byte stays.
+    /// Overlapping occurrences count too. So if no pattern has the byte `mask`, no pattern occurs in the text any more, the empty one
+    /// aside: see [`mask_laws`](ac_input::mask_laws).
+    ///
+    /// It takes no memory. Returns an error if the automaton has no start for a search that isn't anchored, or isn't of the standard
+    /// kind; the text is then unchanged.
+    final fn try_mask(&self, text: &mut [u8], mask: u8) -> Result<(), MatchError>
+    where
+        Self: Sized,
+        ensures { Masks (Self.built self.now) (Self.supports self.now) mask text.old text.new result }
+    {
+        let mut steps = Steps::new();
+        self.try_mask_counted(text, mask, &mut steps)
+    }
+
+    /// The same; counts what it does: at least one look at a state for each byte, and at most two.
+    final fn try_mask_counted(
+        &self,
+        text: &mut [u8],
+        mask: u8,
+        steps: &mut Steps,
+    ) -> Result<(), MatchError>
+    where
+        Self: Sized,
+        ensures masked { Masks (Self.built self.now) (Self.supports self.now) mask text.old text.new result }
+        ensures cost { CostsMask (Self.built self.now) text.old steps.old steps.new result }
+    {
+        mask_all(self, text, mask, steps)
+    }
+
+    /// Writes the input with each byte that lies in an occurrence of some pattern replaced by `mask`, as
+    /// [`try_mask`](Search::try_mask) does in memory. The input ends at its first empty read. Before each read it writes everything but
+    /// the last bytes that may still be covered: fewer than the longest pattern has, and none where nothing is live. The writer isn't
+    /// flushed.
+    ///
+    /// Returns an error if the automaton has no start for a search that isn't anchored, isn't of the standard kind, or has an empty
+    /// pattern, checked in that order, and then if there is no memory for its buffer of `max(65536, 8 * max(1, longest))` bytes; the
+    /// reader and the writer are then unchanged. It allocates nothing after that. Where a read or a write fails, nothing is tried again.
+    final fn try_mask_stream<R: Read, W: Write>(
+        &self,
+        alloc: Global,
+        reader: &mut Watched<R>,
+        writer: &mut Watched<W>,
+        mask: u8,
+    ) -> Result<(), StreamError>
+    where
+        Self: Sized,
+        requires open { reader.old.ended ≡ false }
+        ensures masked { MasksStream R.remaining W.contents (Self.built self.now) mask reader.old reader.new
+            writer.old writer.new result }
+        ensures accepted { AcceptsMask (Self.built self.now) (Self.supports self.now) result }
+    {
+        let mut steps = Steps::new();
+        self.try_mask_stream_counted(alloc, reader, writer, mask, &mut steps)
+    }
+
+    /// The same; counts what it does: at most two looks at states for each byte that it reads, and a seventh of the bytes moved. If it
+    /// reaches the end, it has looked at one state at least for each.
+    final fn try_mask_stream_counted<R: Read, W: Write>(
+        &self,
+        alloc: Global,
+        reader: &mut Watched<R>,
+        writer: &mut Watched<W>,
+        mask: u8,
+        steps: &mut Steps,
+    ) -> Result<(), StreamError>
+    where
+        Self: Sized,
+        requires open { reader.old.ended ≡ false }
+        ensures masked { MasksStream R.remaining W.contents (Self.built self.now) mask reader.old reader.new
+            writer.old writer.new result }
+        ensures accepted { AcceptsMask (Self.built self.now) (Self.supports self.now) result }
+        ensures cost { CostsMaskStream (Self.built self.now) reader.old reader.new steps.old steps.new result }
+    {
+        mask_stream(self, alloc, reader, writer, mask, steps)
+    }
+
+    /// A masking of a stream whose pieces are pushed when they come: see [`StreamMask`]. It borrows the automaton; [`StreamMask::new`]
+    /// makes one that owns it. Returns an error where [`try_mask_stream`](Search::try_mask_stream) does before it reads.
+    final fn try_stream_mask<'a>(
+        &'a self,
+        alloc: Global,
+        mask: u8,
+    ) -> Result<StreamMask<&'a Self>, StreamError>
+    where
+        Self: Sized,
+        ensures { AnswersNewMask (Self.built self.now) (Self.supports self.now) mask result }
+    {
+        StreamMask::new(self, mask, alloc)
+    }
 }
 
 impl<'a, A: Search> Search for &'a A {
@@ -197,5 +315,16 @@ impl<'a, A: Search> Search for &'a A {
         steps: &mut Steps,
     ) -> Listed {
         (**self).search_stream_overlapping(place, held, ahead, steps)
+    }
+
+    fn mask_from(
+        &self,
+        sid: StateID,
+        bytes: &mut [u8],
+        from: usize,
+        mask: u8,
+        steps: &mut Steps,
+    ) -> StateID {
+        (**self).mask_from(sid, bytes, from, mask, steps)
     }
 }

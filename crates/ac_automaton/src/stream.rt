@@ -15,6 +15,7 @@
 //!   [`try_stream_search`](crate::automaton::Automaton::try_stream_search).
 //! - [`StreamReplacer`] is passed its pieces too, and hands out the text with each match replaced. From
 //!   [`try_stream_replacer`](crate::automaton::Automaton::try_stream_replacer).
+//! - [`mask`] replaces each byte that an occurrence covers by one byte: with a reader and a writer, or pushed.
 //!
 //! Streams stand on the states of an automaton, as searches in memory do, and on [`devices`]: a watched reader and writer, and the
 //! bytes that are held between the two. [`laws`] says what is decided, and that it doesn't matter how a text is cut into pieces.
@@ -25,6 +26,7 @@ ghost use Rattle.ac_automaton.specs.Stream.Iter.{FindsStream, GivesItem, KeepsRe
 
 pub mod devices;
 pub mod laws;
+pub mod mask;
 pub mod overlapping;
 pub(crate) mod pump;
 pub(crate) mod replace;

@@ -4,6 +4,7 @@ pub use Rattle.ac_input.specs.Dictionary
 pub use Rattle.ac_input.specs.Dfa
 pub use Rattle.ac_input.specs.Input
 pub use Rattle.ac_input.specs.Listing
+pub use Rattle.ac_input.specs.Mask
 pub use Rattle.ac_input.specs.Occurrence
 pub use Rattle.ac_input.specs.Pairing
 pub use Rattle.ac_input.specs.Same
@@ -18,9 +19,11 @@ pub use Rattle.ac_automaton.specs.InMemory.Iter
 pub use Rattle.ac_automaton.specs.InMemory.Overlapping
 pub use Rattle.ac_automaton.specs.InMemory.Overlapping.OverlappingIter
 pub use Rattle.ac_automaton.specs.InMemory.Replace
+pub use Rattle.ac_automaton.specs.Masking
 pub use Rattle.ac_automaton.specs.Stream
 pub use Rattle.ac_automaton.specs.Stream.Iter as StreamIter
 pub use Rattle.ac_automaton.specs.Stream.Answer as StreamAnswer
+pub use Rattle.ac_automaton.specs.Stream.Mask as StreamMask
 pub use Rattle.ac_automaton.specs.Stream.Pump as StreamPump
 pub use Rattle.ac_automaton.specs.Stream.Replace as StreamReplace
 pub use Rattle.ac_automaton.specs.Stream.ReplaceWith as StreamReplaceWith

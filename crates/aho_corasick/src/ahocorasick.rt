@@ -12,6 +12,7 @@ macro_rules! dispatch {
 
 mod automaton;
 mod builder;
+mod mask;
 mod replace;
 mod search;
 mod stream;

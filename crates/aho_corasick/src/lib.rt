@@ -25,6 +25,7 @@ pub use ac_automaton::error::{MatchError, MatchErrorKind, ReplaceError, StreamEr
 pub use ac_automaton::iter::WalkPlace;
 pub use ac_automaton::output::Output;
 pub use ac_automaton::overlapping::OverlappingState;
+pub use ac_automaton::stream::mask::StreamMask;
 pub use ac_automaton::stream::sink::Sink;
 pub use ac_automaton::stream::{StreamKinds, StreamReplacer, StreamSearch};
 pub use ac_automaton::watched::{Watched, write_whole};

@@ -17,7 +17,7 @@ not-empty [] some = absurd (some refl)
 not-empty (byte ∷ bytes) some = omega arith
 
 -- bytes that aren't empty are one piece
-as_piece-some : (bytes : List ℕ) → 0 < length bytes → as_piece bytes ≡ bytes ∷ []
+pub as_piece-some : (bytes : List ℕ) → 0 < length bytes → as_piece bytes ≡ bytes ∷ []
 as_piece-some [] some = absurd (omega arith)
 as_piece-some (byte ∷ bytes) some = refl
 

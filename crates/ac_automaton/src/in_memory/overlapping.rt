@@ -28,8 +28,8 @@ use ac_input::search::{Input, Match};
 use ac_input::steps::Steps;
 pub(crate) use ahead::advance_ahead;
 pub use iter::FindOverlappingIter;
-pub(crate) use search::advance;
 use search::begin;
+pub(crate) use search::{advance, unanchored_start};
 use std::alloc::AllocError;
 
 /// Where an overlapping search stands between two calls.

@@ -22,7 +22,7 @@ use crate::error::StreamError;
 use crate::search::Search;
 use crate::stream::StreamIter;
 use crate::stream::devices::watched::Watched;
-pub(crate) use search::next_listed;
+pub(crate) use search::{configured, next_listed};
 pub use search::{ListPlace, Listed, ListingSearch};
 use std::alloc::Global;
 

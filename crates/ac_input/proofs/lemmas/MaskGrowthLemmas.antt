@@ -1,4 +1,4 @@
--- A masked text as it grows by a byte, by the longest occurrence that ends there; and where a state's list tells it.
+-- A masked text as it grows, by the longest occurrence that ends with the new bytes; and where a state's list tells it.
 use Rattle.std.proofs.Common.{◌≡◌, ◌≢◌, ◌⊎◌, inl, inr, ⊎_elim, ℕ, ◌+◌, ◌-◌, ◌<◌, ◌≤◌, false, List, [], ◌∷◌, ◌++◌, length, take, replicate, map, Option, Some, None, Contains, slice_get, slice_index, Greater, refl, sym, subst, ◌∙◌, arith, length-append}
 use Rattle.std.proofs.lemmas.Bool.{cases_lt}
 use Rattle.std.proofs.lemmas.List.{get_or-take, get_or_past, get_or_append_left, get_or-append_right, get_or-replicate, length-replicate, length-take-le}
@@ -47,157 +47,170 @@ longest-told m text ns standard tells =
     first-least (λ o. Occurs (whole m text false) o × (o.end ≡ length text)) (map (ending m text) ns)
     (subst (λ kind. TellsUnanchored kind m text ns) standard tells)
 
--- ---- one byte more
+-- ---- some bytes more
 
-module _ (mask : ℕ) (m : Dictionary) (text : List ℕ) (byte : ℕ) where
-  -- the masked text so far, and the byte
+module _ (mask : ℕ) (m : Dictionary) (text more : List ℕ) where
+  -- the masked text so far, and the bytes
   abbrev so_far : List ℕ
-  so_far = masked mask (whole m text false) ++ byte ∷ []
+  so_far = masked mask (whole m text false) ++ more
 
-  -- the search of the text with the byte
+  -- the search of the text with the bytes
   abbrev grown : Search
-  grown = whole m (text ++ byte ∷ []) false
+  grown = whole m (text ++ more) false
+
+  -- where the text with the bytes ends
+  abbrev last : ℕ
+  last = length text + length more
 
   before : IsMasked mask (whole m text false) (masked mask (whole m text false))
   before = masked-masked mask (whole m text false) (omega arith)
 
-  so_far-length : length so_far ≡ length text + 1
+  so_far-length : length so_far ≡ last
   so_far-length =
       let front = before.len in
-      omega (arith, front, length-append (masked mask (whole m text false)) (byte ∷ []))
+      omega (arith, front, length-append (masked mask (whole m text false)) more)
 
-  grown_text-length : length (text ++ byte ∷ []) ≡ length text + 1
-  grown_text-length = omega (arith, length-append text (byte ∷ []))
+  grown_text-length : length (text ++ more) ≡ last
+  grown_text-length = length-append text more
 
   -- what was covered has the mask
   so_far-covered : (at : ℕ) → IsCovered (whole m text false) at → slice_index so_far at ≡ mask
   so_far-covered at h =
       let within = covered-within (whole m text false) at (omega arith) h in
       let front = before.len in
-      get_or_append_left (masked mask (whole m text false)) (byte ∷ []) 0 at (omega arith) ∙ before.covered at h
+      get_or_append_left (masked mask (whole m text false)) more 0 at (omega arith) ∙ before.covered at h
 
   -- what wasn't covered has its byte
   so_far-kept : (at : ℕ) → ¬ IsCovered (whole m text false) at
-      → slice_index so_far at ≡ slice_index (text ++ byte ∷ []) at
+      → slice_index so_far at ≡ slice_index (text ++ more) at
   so_far-kept at none =
       let front = before.len in
       ⊎_elim
       (λ (within : at < length text).
-      get_or_append_left (masked mask (whole m text false)) (byte ∷ []) 0 at (omega arith) ∙ before.kept at none
-      ∙ sym (get_or_append_left text (byte ∷ []) 0 at within))
+      get_or_append_left (masked mask (whole m text false)) more 0 at (omega arith) ∙ before.kept at none
+      ∙ sym (get_or_append_left text more 0 at within))
       (λ (past : length text ≤ at).
-      get_or-append_right (masked mask (whole m text false)) (byte ∷ []) (length text) at 0 front past
-      ∙ sym (get_or-append_right text (byte ∷ []) (length text) at 0 refl past))
+      get_or-append_right (masked mask (whole m text false)) more (length text) at 0 front past
+      ∙ sym (get_or-append_right text more (length text) at 0 refl past))
       (cases_lt at (length text))
 
-  -- a place that is covered now was covered before, or by an occurrence that ends with the byte
-  covered-before : (at : ℕ) → IsCovered grown at
-      → IsCovered (whole m text false) at
-      ⊎ ((q : Occurrence) × Occurs grown q × (q.end ≡ length text + 1) × (q.start ≤ at))
-  covered-before at h =
-      let q = h.0 in
-      let c = h.2 in
-      let w = h.1.within in
-      let long = grown_text-length in
-      ⊎_elim
-      (λ (old : q.end < length text + 1). inl (q, occurs-front m (byte ∷ []) (omega arith) h.1, c))
-      (λ (new : length text + 1 ≤ q.end). inr (q, h.1, omega arith, c.0))
-      (cases_lt q.end (length text + 1))
+  -- no occurrence ends within the bytes but at their end
+  module _ (quiet : (q : Occurrence) → Occurs grown q → length text < q.end → q.end ≡ last) where
+    -- a place that is covered now was covered before, or by an occurrence that ends with the bytes
+    covered-before : (at : ℕ) → IsCovered grown at
+        → IsCovered (whole m text false) at
+        ⊎ ((q : Occurrence) × Occurs grown q × (q.end ≡ last) × (q.start ≤ at))
+    covered-before at h =
+        let q = h.0 in
+        let c = h.2 in
+        ⊎_elim
+        (λ (new : length text < q.end). inr (q, h.1, quiet q h.1 new, c.0))
+        (λ (old : q.end ≤ length text). inl (q, occurs-front m more old h.1, c))
+        (cases_lt (length text) q.end)
 
-  -- the masked text where nothing ends with the byte
-  grown-none : IsLongestEnding grown (length text + 1) None → IsMasked mask grown so_far
-  grown-none none =
-      let long = grown_text-length in
-      record {
-        len = so_far-length ∙ sym long;
-        covered = λ at h.
-            ⊎_elim
-            (λ (old : IsCovered (whole m text false) at). so_far-covered at old)
-            (λ new. absurd (none new.0 (new.1, new.2)))
-            (covered-before at h);
-        kept = λ at no. so_far-kept at (λ h. no (covered-append m text (byte ∷ []) false at h));
-      }
-
-  module _ (o : Occurrence) (least : IsLongestEnding grown (length text + 1) (Some o)) where
-    starts : o.start ≤ length text + 1
-    starts = let w = least.0.0.within in let long = grown_text-length in omega arith
-
-    front-length : length (take o.start so_far) ≡ o.start
-    front-length = let len = so_far-length in let le = starts in length-take-le o.start so_far (omega arith)
-
-    -- before the start the text is as it was
-    grown-front : (at : ℕ) → at < o.start
-        → slice_index (masked_to_end mask so_far (Some o)) at ≡ slice_index so_far at
-    grown-front at h =
-        let len = front-length in
-        get_or_append_left (take o.start so_far) (replicate (length so_far - o.start) mask) 0 at (omega arith)
-        ∙ get_or-take o.start so_far at 0 h
-
-    -- from the start on it is the mask
-    grown-end : (at : ℕ) → o.start ≤ at → at < length text + 1
-        → slice_index (masked_to_end mask so_far (Some o)) at ≡ mask
-    grown-end at from to =
-        let len = so_far-length in
-        get_or-append_right (take o.start so_far) (replicate (length so_far - o.start) mask) o.start at 0 front-length
-        from
-        ∙ get_or-replicate (length so_far - o.start) (at - o.start) mask 0 (omega arith)
-
-    grown-length : length (masked_to_end mask so_far (Some o)) ≡ length text + 1
-    grown-length =
-        let front = front-length in
-        let len = so_far-length in
-        let le = starts in
-        let rest = length-replicate (length so_far - o.start) mask in
-        omega (
-          arith,
-          front,
-          len,
-          le,
-          rest,
-          length-append (take o.start so_far) (replicate (length so_far - o.start) mask),
-        )
-
-    -- the masked text where the longest occurrence that ends with the byte is given
-    grown-some : IsMasked mask grown (masked_to_end mask so_far (Some o))
-    grown-some =
-        let long = grown_text-length in
-        let len = grown-length in
-        let ends : o.end ≡ length text + 1 = least.0.1 in
+    -- the masked text where nothing ends with the bytes
+    grown-none : IsLongestEnding grown last None → IsMasked mask grown so_far
+    grown-none none =
         record {
-          len = len ∙ sym long;
+          len = so_far-length ∙ sym grown_text-length;
           covered = λ at h.
-              let within = covered-within grown at (omega arith) h in
               ⊎_elim
-              (λ (front : at < o.start). grown-front at front
-              ∙ ⊎_elim
               (λ (old : IsCovered (whole m text false) at). so_far-covered at old)
-              (λ new. let no_later = longest-no_later grown o new.0 (length text + 1) least new.1 new.2 in
-              let from = new.3 in absurd (omega arith))
-              (covered-before at h))
-              (λ (behind : o.start ≤ at). grown-end at behind (omega arith))
-              (cases_lt at o.start);
-          kept = λ at no.
-              ⊎_elim
-              (λ (front : at < o.start). grown-front at front
-              ∙ so_far-kept at (λ h. no (covered-append m text (byte ∷ []) false at h)))
-              (λ (behind : o.start ≤ at).
-              ⊎_elim
-              (λ (within : at < length text + 1). absurd (no (o, least.0.0, (behind, omega arith))))
-              (λ (past : length text + 1 ≤ at).
-              get_or_past (masked_to_end mask so_far (Some o)) at 0 (omega arith)
-              ∙ sym (get_or_past (text ++ byte ∷ []) at 0 (omega arith)))
-              (cases_lt at (length text + 1)))
-              (cases_lt at o.start);
+              (λ new. absurd (none new.0 (new.1, new.2)))
+              (covered-before at h);
+          kept = λ at no. so_far-kept at (λ h. no (covered-append m text more false at h));
         }
 
--- a text is masked as it grows
+    module _ (o : Occurrence) (least : IsLongestEnding grown last (Some o)) where
+      starts : o.start ≤ last
+      starts = let w = least.0.0.within in let long = grown_text-length in omega arith
+
+      front-length : length (take o.start so_far) ≡ o.start
+      front-length = let len = so_far-length in let le = starts in length-take-le o.start so_far (omega arith)
+
+      -- before the start the text is as it was
+      grown-front : (at : ℕ) → at < o.start
+          → slice_index (masked_to_end mask so_far (Some o)) at ≡ slice_index so_far at
+      grown-front at h =
+          let len = front-length in
+          get_or_append_left (take o.start so_far) (replicate (length so_far - o.start) mask) 0 at (omega arith)
+          ∙ get_or-take o.start so_far at 0 h
+
+      -- from the start on it is the mask
+      grown-end : (at : ℕ) → o.start ≤ at → at < last → slice_index (masked_to_end mask so_far (Some o)) at ≡ mask
+      grown-end at from to =
+          let len = so_far-length in
+          get_or-append_right (take o.start so_far) (replicate (length so_far - o.start) mask) o.start at 0
+          front-length from
+          ∙ get_or-replicate (length so_far - o.start) (at - o.start) mask 0 (omega arith)
+
+      grown-length : length (masked_to_end mask so_far (Some o)) ≡ last
+      grown-length =
+          let front = front-length in
+          let len = so_far-length in
+          let le = starts in
+          let rest = length-replicate (length so_far - o.start) mask in
+          omega (
+            arith,
+            front,
+            len,
+            le,
+            rest,
+            length-append (take o.start so_far) (replicate (length so_far - o.start) mask),
+          )
+
+      -- the masked text where the longest occurrence that ends with the bytes is given
+      grown-some : IsMasked mask grown (masked_to_end mask so_far (Some o))
+      grown-some =
+          let long = grown_text-length in
+          let len = grown-length in
+          let ends : o.end ≡ last = least.0.1 in
+          record {
+            len = len ∙ sym long;
+            covered = λ at h.
+                let within = covered-within grown at (omega arith) h in
+                ⊎_elim
+                (λ (front : at < o.start). grown-front at front
+                ∙ ⊎_elim
+                (λ (old : IsCovered (whole m text false) at). so_far-covered at old)
+                (λ new. let no_later = longest-no_later grown o new.0 last least new.1 new.2 in
+                let from = new.3 in absurd (omega arith))
+                (covered-before at h))
+                (λ (after : o.start ≤ at). grown-end at after (omega arith))
+                (cases_lt at o.start);
+            kept = λ at no.
+                ⊎_elim
+                (λ (front : at < o.start). grown-front at front
+                ∙ so_far-kept at (λ h. no (covered-append m text more false at h)))
+                (λ (after : o.start ≤ at).
+                ⊎_elim
+                (λ (within : at < last). absurd (no (o, least.0.0, (after, omega arith))))
+                (λ (past : last ≤ at).
+                get_or_past (masked_to_end mask so_far (Some o)) at 0 (omega arith)
+                ∙ sym (get_or_past (text ++ more) at 0 (omega arith)))
+                (cases_lt at last))
+                (cases_lt at o.start);
+          }
+
+-- A text is masked as it grows: where no occurrence ends within the bytes that come but at their end, by the longest
+-- that ends there.
+pub masked-grown : (mask : ℕ) (m : Dictionary) (text more : List ℕ) (r : Option Occurrence)
+    → ((q : Occurrence) → Occurs (whole m (text ++ more) false) q → length text < q.end
+    → q.end ≡ length text + length more)
+    → IsLongestEnding (whole m (text ++ more) false) (length text + length more) r
+    → masked mask (whole m (text ++ more) false) ≡ masked_to_end mask (masked mask (whole m text false) ++ more) r
+masked-grown mask m text more None quiet none =
+    sym ((masked-one mask (grown mask m text more) (so_far mask m text more) (omega arith)).0
+    (grown-none mask m text more quiet none))
+masked-grown mask m text more (Some o) quiet least =
+    sym ((masked-one mask (grown mask m text more) (masked_to_end mask (so_far mask m text more) (Some o))
+    (omega arith)).0 (grown-some mask m text more quiet o least))
+
+-- a text is masked as it grows by one byte
 pub masked-by_longest : (mask : ℕ) (m : Dictionary) (text : List ℕ) (byte : ℕ) (r : Option Occurrence)
     → IsLongestEnding (whole m (text ++ byte ∷ []) false) (length text + 1) r
     → masked mask (whole m (text ++ byte ∷ []) false)
     ≡ masked_to_end mask (masked mask (whole m text false) ++ byte ∷ []) r
-masked-by_longest mask m text byte None none =
-    sym ((masked-one mask (grown mask m text byte) (so_far mask m text byte) (omega arith)).0
-    (grown-none mask m text byte none))
-masked-by_longest mask m text byte (Some o) least =
-    sym ((masked-one mask (grown mask m text byte) (masked_to_end mask (so_far mask m text byte) (Some o))
-    (omega arith)).0 (grown-some mask m text byte o least))
+masked-by_longest mask m text byte r least =
+    masked-grown mask m text (byte ∷ []) r
+    (λ q h after. let w = h.within in let long = length-append text (byte ∷ []) in omega arith) least

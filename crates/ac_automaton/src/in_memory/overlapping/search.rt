@@ -2,13 +2,13 @@
 //!
 //! A call goes through the rest of the list of the state where the last call stood, and then reads on: to the next state whose
 //! list has something to show, or, with a prefilter, from one candidate to the next.
-ghost use Rattle.std.specs.Prelude.{◌≡◌, ℕ, ◌<◌, ◌≤◌, List, None, [], length, get_or};
+ghost use Rattle.std.specs.Prelude.{◌≡◌, ℕ, ◌<◌, ◌≤◌, List, None, [], length, get_or, IfErr, IfOk, OnOk};
 ghost use Rattle.ac_input.specs.declared.search.Anchored.TheVariants.{No};
 ghost use Rattle.ac_input.specs.declared.search.MatchKind.TheVariants.{Standard};
-ghost use Rattle.ac_input.specs.Input.{is_anchored};
+ghost use Rattle.ac_input.specs.Input.{is_anchored, whole_of};
 ghost use Rattle.ac_automaton.specs.declared.in_memory.overlapping.Position.TheVariants.{Over};
 ghost use Rattle.ac_automaton.specs.declared.in_memory.find.cursor.End.TheVariants.{Found};
-ghost use Rattle.ac_automaton.specs.InMemory.Overlapping.{OnlyLooked};
+ghost use Rattle.ac_automaton.specs.InMemory.Overlapping.{CanOverlap, IsOverlappingRefusal, OnlyLooked};
 ghost use Rattle.ac_automaton.specs.InMemory.Overlapping.OverlappingSearch.{AnswersBegin, BeginsWith, CountsFrom, CountsOn, EndsHere, HasLeft, IsNextEntry, IsScanFor, KeepsPaying, LooksOn, MayShow, MaySkip, PaysAt, PaysOn, ScanCounts, ShowsAfter, ShowsAt, ShowsFrom, ShowsHere, ShowsLater, ShowsNextAt, ShowsRest, SkipCounts, SkipsAtCost};
 ghost use Rattle.ac_input.specs.Tells.{ending_at};
 ghost use Rattle.ac_automaton.specs.InMemory.Find.Cursor.{counts};
@@ -316,6 +316,20 @@ pub(crate) fn advance<A: Automaton>(
             show_next(automaton, input, start, &cursor, index, steps)
         }
     }
+}
+
+/// The start state of a search for every occurrence that isn't anchored, where the automaton can make one.
+pub(crate) fn unanchored_start<A: Automaton>(automaton: &A) -> Result<StateID, MatchError>
+    ensures start { IfOk result (λ sid. A.Reaches automaton.now No [] sid) }
+    ensures can { OnOk result (CanOverlap (A.built automaton.now) (A.supports automaton.now) (whole_of [])) }
+    ensures error { IfErr result (IsOverlappingRefusal (A.built automaton.now) (A.supports automaton.now) (whole_of [])) }
+{
+    let start = automaton.start_state(Anchored::No)?;
+    let kind = automaton.match_kind();
+    if kind != MatchKind::Standard {
+        return Err(MatchError::unsupported_overlapping(kind));
+    }
+    Ok(start)
 }
 
 /// Where a search begins.

@@ -5,14 +5,21 @@
 //! begin in one piece and end in another, so of the held bytes as many are kept as the longest pattern has. They are moved to the
 //! front only when no room is left after them. They are an eighth of the buffer at most, and the rest of it is read before they
 //! are moved again: so seven bytes are read for each byte that is moved. One function moves bytes, and counts them.
-ghost use Rattle.std.specs.Prelude.{◌≡◌, ◌+◌, ◌-◌, ◌≤◌, ◌<◌, ◌↔◌, false, length, min, take, IfOk, IsTrue, vec_len, max};
+ghost use Rattle.std.specs.Prelude.{◌≡◌, ◌+◌, ◌-◌, ◌≤◌, ◌<◌, ◌↔◌, false, length, min, take, drop, IfOk, IsTrue, vec_len, max};
 ghost use Rattle.std.specs.List.{copy_within};
+ghost use Rattle.ac_input.specs.declared.search.Anchored.TheVariants.{No};
+ghost use Rattle.ac_input.specs.declared.search.MatchKind.TheVariants.{Standard};
 ghost use Rattle.ac_input.specs.Steps.{Done};
+ghost use Rattle.ac_automaton.specs.Automaton.{IsReached, IsReadCost};
+ghost use Rattle.ac_automaton.specs.Masking.{MasksFrom};
 ghost use Rattle.ac_automaton.specs.Stream.Devices.Buffer.{Fills, IsRollPaid, nothing_held, rolled, taken_into};
 
+use crate::automaton::Advance;
+use crate::search::Search;
 use crate::stream::LEAST_ROOM;
 use crate::stream::devices::watched::Watched;
 use ac_input::history::Count;
+use ac_input::primitives::StateID;
 use ac_input::steps::Steps;
 use std::alloc::{AllocError, Global};
 use std::io;
@@ -125,6 +132,33 @@ impl Buffer {
         n
     }
 
+    /// Masks the occurrences that end among the bytes from a place on, by an automaton that stands in this state at the place. Returns
+    /// its state after them, and how many they were.
+    pub fn mask<A: Search>(
+        &mut self,
+        automaton: &A,
+        sid: StateID,
+        from: usize,
+        mask: u8,
+        steps: &mut Steps,
+    ) -> Advance
+        requires standard { (A.built automaton.now).dictionary.kind ≡ Standard }
+        requires reached { IsReached (A.Reaches automaton.now No) sid }
+        requires within { from ≤ length self.old.bytes }
+        ensures masks { MasksFrom A.Automaton automaton.now mask sid from self.old.bytes self.new.bytes result.sid }
+        ensures taken { from + result.taken ≡ length self.old.bytes }
+        ensures same { self.new ≡ record self.old { bytes = self.new.bytes } }
+        ensures cost { IsReadCost (A.built automaton.now) (A.Reaches automaton.now) No sid (drop from self.old.bytes)
+            steps.old steps.new }
+    {
+        let bytes = self.bytes.as_mut_slice();
+        let sid = mask_front(automaton, sid, bytes, self.filled, from, mask, steps);
+        Advance {
+            sid,
+            taken: self.filled - from,
+        }
+    }
+
     /// Moves the held bytes from a place on to the front, if there is no room after them.
     pub fn roll(&mut self, from: usize, steps: &mut Steps)
         requires full { length self.old.bytes ≡ self.old.room }
@@ -138,6 +172,28 @@ impl Buffer {
         self.filled -= from;
         self.moved = self.moved.more(&self.filled);
     }
+}
+
+/// Masks the first `len` bytes from a place on.
+fn mask_front<A: Search>(
+    automaton: &A,
+    sid: StateID,
+    bytes: &mut [u8],
+    len: usize,
+    from: usize,
+    mask: u8,
+    steps: &mut Steps,
+) -> StateID
+    requires standard { (A.built automaton.now).dictionary.kind ≡ Standard }
+    requires reached { IsReached (A.Reaches automaton.now No) sid }
+    requires within { from ≤ len }
+    requires fits { len ≤ length bytes.old }
+    ensures masks { MasksFrom A.Automaton automaton.now mask sid from (take len bytes.old) (take len bytes.new) result }
+    ensures len { length bytes.new ≡ length bytes.old }
+    ensures cost { IsReadCost (A.built automaton.now) (A.Reaches automaton.now) No sid (drop from (take len bytes.old))
+        steps.old steps.new }
+{
+    automaton.mask_from(sid, &mut bytes[..len], from, mask, steps)
 }
 
 /// Moves the bytes between two places to the front, and counts each of them. Nothing else moves bytes of a stream.

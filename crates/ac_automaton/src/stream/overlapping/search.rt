@@ -19,6 +19,7 @@ ghost use Rattle.ac_automaton.specs.declared.stream.StreamKinds.TheVariants.{Onl
 use crate::ahead::{Ahead, advance_to_match};
 use crate::automaton::Automaton;
 use crate::error::{MatchError, StreamError};
+use crate::in_memory::overlapping::unanchored_start;
 use crate::search::Search;
 use crate::stream::devices::watched::Watched;
 use crate::stream::search::given_then;
@@ -89,18 +90,14 @@ impl<'a, A: Search> Model for ListingSearch<'a, A> {
 }
 
 /// The start state of such a search, where the automaton can make one.
-fn configured<A: Automaton>(automaton: &A) -> Result<StateID, MatchError>
+pub(crate) fn configured<A: Automaton>(automaton: &A) -> Result<StateID, MatchError>
     ensures start { IfOk result (λ sid. A.Reaches automaton.now Anchored.No [] sid) }
     ensures can { OnOk result (CanStream OnlyStandard (A.built automaton.now)
         (A.supports automaton.now)) }
     ensures error { IfErr result (IsListingConfigRefusal (A.built automaton.now)
         (A.supports automaton.now)) }
 {
-    let start = automaton.start_state(Anchored::No)?;
-    let kind = automaton.match_kind();
-    if kind != MatchKind::Standard {
-        return Err(MatchError::unsupported_overlapping(kind));
-    }
+    let start = unanchored_start(automaton)?;
     if automaton.min_pattern_len() == 0 {
         return Err(MatchError::unsupported_empty());
     }

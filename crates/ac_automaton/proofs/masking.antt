@@ -1,0 +1,3 @@
+-- Lemmas of masking.
+mod BetweenLemmas
+pub mod MaskingLemmas

@@ -1,0 +1,119 @@
+//! Masking: each byte that lies in an occurrence is replaced by one byte.
+//!
+//! All occurrences count, overlapping ones included. So where no pattern has the mask, no pattern occurs in what comes out, the empty
+//! one aside: see [`mask_laws`](ac_input::mask_laws). A replacement promises no such thing: it takes the matches of a walk, and what
+//! overlaps them stays in part.
+//!
+//! It needs the standard kind, as overlapping searches do, and an unanchored start. The Rust crate has no such calls.
+ghost use Rattle.std.specs.Prelude.{◌≡◌, false};
+ghost use Rattle.ac_automaton.specs.Masking.{CostsMask, Masks, masked_in};
+ghost use Rattle.ac_automaton.specs.Stream.Mask.{AcceptsMask, AnswersNewMask, CostsMaskStream, MasksStream};
+ghost use Rattle.ac_input.specs.declared.search.MatchKind.TheVariants.{Standard};
+ghost use Rattle.aho_corasick.specs.AhoCorasick.{as_built, kind_of, supported_by};
+
+use super::AhoCorasick;
+use ac_automaton::error::{MatchError, StreamError};
+use ac_automaton::search::Search;
+use ac_automaton::stream::mask::StreamMask;
+use ac_automaton::watched::Watched;
+use ac_input::search::Anchored;
+use ac_input::steps::Steps;
+use std::alloc::Global;
+use std::io::{Read, Write};
+
+impl AhoCorasick {
+    /// Masks the text in place: see [`AhoCorasick::try_mask`].
+    ///
+    /// It requires a start for unanchored searches, which every start kind has but `Anchored`, and the standard kind.
+    ///
+    /// ```text
+    /// let ac = AhoCorasick::new(alloc, &[b"abc", b"cde"])?;
+    /// ac.mask(&mut text, b'*'); // of "xabcdex" it leaves "x*****x"
+    /// ```
+    pub fn mask(&self, text: &mut [u8], mask: u8)
+        requires can { supported_by self.now Anchored.No }
+        requires standard { kind_of self.now ≡ Standard }
+        ensures { text.new ≡ masked_in (as_built self.now) mask text.old }
+    {
+        match self.try_mask(text, mask) {
+            Ok(()) => {}
+            Err(_) => unreachable!(),
+        }
+    }
+
+    /// Masks the text in place: each byte that lies in an occurrence of some pattern becomes `mask`, and every other byte stays. It
+    /// takes no memory, and time in proportion to the text.
+    ///
+    /// Returns an error if the automaton has no start for an unanchored search, or isn't of the standard kind; the text is then
+    /// unchanged.
+    pub fn try_mask(&self, text: &mut [u8], mask: u8) -> Result<(), MatchError>
+        ensures { Masks (as_built self.now) (supported_by self.now) mask text.old text.new result }
+    {
+        Search::try_mask(self, text, mask)
+    }
+
+    /// The same; counts what it does: at least one look at a state for each byte, and at most two.
+    pub fn try_mask_counted(
+        &self,
+        text: &mut [u8],
+        mask: u8,
+        steps: &mut Steps,
+    ) -> Result<(), MatchError>
+        ensures masked { Masks (as_built self.now) (supported_by self.now) mask text.old text.new result }
+        ensures cost { CostsMask (as_built self.now) text.old steps.old steps.new result }
+    {
+        Search::try_mask_counted(self, text, mask, steps)
+    }
+
+    /// Writes the input masked, as [`AhoCorasick::try_mask`] masks a text. The input ends at its first empty read. Before each read it
+    /// writes everything but the last bytes that may still be covered: fewer than the longest pattern has. The writer isn't flushed.
+    ///
+    /// It requires that the reader has not ended. Returns an error if the automaton has no start for an unanchored search, isn't of the
+    /// standard kind, or has an empty pattern, checked in that order, and if there is no memory for its one buffer; the reader and the
+    /// writer are then unchanged. It allocates nothing after that. Where a read or a write fails, nothing is tried again.
+    pub fn try_mask_stream<R: Read, W: Write>(
+        &self,
+        alloc: Global,
+        reader: &mut Watched<R>,
+        writer: &mut Watched<W>,
+        mask: u8,
+    ) -> Result<(), StreamError>
+        requires open { reader.old.ended ≡ false }
+        ensures masked { MasksStream R.remaining W.contents (as_built self.now) mask reader.old reader.new
+            writer.old writer.new result }
+        ensures accepted { AcceptsMask (as_built self.now) (supported_by self.now) result }
+    {
+        Search::try_mask_stream(self, alloc, reader, writer, mask)
+    }
+
+    /// The same; counts what it does.
+    pub fn try_mask_stream_counted<R: Read, W: Write>(
+        &self,
+        alloc: Global,
+        reader: &mut Watched<R>,
+        writer: &mut Watched<W>,
+        mask: u8,
+        steps: &mut Steps,
+    ) -> Result<(), StreamError>
+        requires open { reader.old.ended ≡ false }
+        ensures masked { MasksStream R.remaining W.contents (as_built self.now) mask reader.old reader.new
+            writer.old writer.new result }
+        ensures accepted { AcceptsMask (as_built self.now) (supported_by self.now) result }
+        ensures cost { CostsMaskStream (as_built self.now) reader.old reader.new steps.old steps.new result }
+    {
+        Search::try_mask_stream_counted(self, alloc, reader, writer, mask, steps)
+    }
+
+    /// A masking of a stream whose pieces come when they come: see [`StreamMask`]. It borrows the automaton; one that owns it is made
+    /// by [`StreamMask::new`], from a clone, which shares the automaton. Returns an error where [`AhoCorasick::try_mask_stream`] does
+    /// before it reads.
+    pub fn try_stream_mask<'a>(
+        &'a self,
+        alloc: Global,
+        mask: u8,
+    ) -> Result<StreamMask<&'a AhoCorasick>, StreamError>
+        ensures { AnswersNewMask (as_built self.now) (supported_by self.now) mask result }
+    {
+        Search::try_stream_mask(self, alloc, mask)
+    }
+}

@@ -143,6 +143,12 @@ TABLES = [
         + ratios("leftmost-replace", "replace", ("auto", "auto")),
     ),
     (
+        "Masks",
+        "MB/s of `acsub mask`, which masks all occurrences, and its speed by that of `acsub list` under the standard kind.",
+        speeds("mask", ("auto", "mask auto"), ("DFA", "mask dfa"))
+        + [Column(f"by list, {engine}", "mask", "speeds", f"mask {engine}", f"list {engine}") for engine in ("auto", "dfa")],
+    ),
+    (
         "Memory of a run",
         "The most MB that a run had touched. Under leftmost-first acsub and the crate hold the input, and Hyperscan holds it always.",
         peaks("list", *PROGRAMS) + peaks("leftmost-list", ("acsub, leftmost", "acsub auto"), ("crate, leftmost", "crate auto")),

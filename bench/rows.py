@@ -144,6 +144,20 @@ def replaced(bench, name):
     return {"speeds": bench.speeds(name, commands)}
 
 
+def masked(bench, name):
+    """`mask` over a stream, by engines whose outputs must be equal; beside it `list` by the same. No other program here masks."""
+    program = bench.programs["acsub"]
+
+    def make(mode):
+        for engine in ("auto", "dfa"):
+            words = [program, mode, bench.rules(name), "--engine", engine]
+            yield Command(f"{mode} {engine}", words, bench.text(name))
+
+    masks = list(make("mask"))
+    equal(name, masks, lambda output: output)
+    return {"speeds": bench.speeds(name, masks + list(make("list")))}
+
+
 def listed_leftmost(bench, name):
     """`list` of an input that is held. The numbers aren't compared: version 0.7.19 of the public crate has wrong ones where a
     pattern begins with an earlier one."""
@@ -194,6 +208,7 @@ MODES = {
     "list": (TEXT_SETS, listed),
     "replace": (TEXT_SETS, replaced),
     "texts": (OTHER_SETS, listed),
+    "mask": (TEXT_SETS + OTHER_SETS, masked),
     "leftmost-list": (TEXT_SETS, listed_leftmost),
     "leftmost-replace": (TEXT_SETS, replaced_leftmost),
     "in-memory": (TEXT_SETS + OTHER_SETS, in_memory("standard", ENGINES)),

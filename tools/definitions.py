@@ -109,14 +109,24 @@ def replaced(haystack, replacements, picks):
     return b"".join([*text, haystack[at:]])
 
 
+def masked(haystack, found, mask):
+    """The haystack, each byte of each occurrence replaced by the mask."""
+    text = bytearray(haystack)
+    for one in found:
+        text[one.start:one.end] = bytes([mask]) * (one.end - one.start)
+    return bytes(text)
+
+
 def listed(found):
     """A line for each."""
     return b"".join(b"%d %d %d\n" % o for o in found)
 
 
-def written(mode, kind, other, rules, haystack):
+def written(mode, kind, other, rules, haystack, mask=None):
     """What a run writes."""
     found = occurrences([pattern for pattern, _ in rules], other, haystack, 0, len(haystack))
+    if mode == "mask":
+        return masked(haystack, found, mask)
     if mode == "overlap":
         return listed(listing(found))
     picks = walk(kind, found, 0)
@@ -152,9 +162,9 @@ def text_rules(text):
     return rules
 
 
-def check(mode, kind, engine, other, rules):
+def check(mode, kind, engine, other, rules, mask=None):
     """Raises the fault of settings that exclude one another or don't suit the rules."""
-    if mode == "overlap" and kind != "standard":
+    if mode in ("overlap", "mask") and kind != "standard":
         raise Fault("setting: overlap needs the standard kind", 2)
     if engine == "packed":
         if kind == "standard":
@@ -165,3 +175,8 @@ def check(mode, kind, engine, other, rules):
             raise Fault("setting: packed takes no empty pattern", 2)
         if not 1 <= len(rules) <= 128:
             raise Fault("setting: packed takes 1 to 128 patterns", 2)
+    if mode == "mask":
+        if any(not pattern for pattern, _ in rules):
+            raise Fault("mask: a pattern is empty", 4)
+        if any(byte in (mask, other[mask]) for pattern, _ in rules for byte in pattern):
+            raise Fault(f"mask: byte {mask:02x} occurs in a pattern", 4)

@@ -33,6 +33,12 @@ extern inline dado_status dado_replacer_push(dado_replacer **replacer, const uin
 extern inline dado_status dado_replacer_next(dado_replacer **replacer, const dado_bytes *replacements, size_t count, dado_bytes *slice);
 extern inline dado_status dado_replacer_finish(dado_replacer **replacer);
 extern inline void dado_replacer_free(dado_replacer **replacer);
+extern inline dado_status dado_mask(const dado_automaton *ac, uint8_t *text, size_t len, uint8_t byte);
+extern inline dado_status dado_masker_new(const dado_automaton *ac, uint8_t byte, dado_masker **masker);
+extern inline dado_status dado_masker_push(dado_masker **masker, const uint8_t *piece, size_t len, size_t *taken);
+extern inline dado_status dado_masker_ready(dado_masker **masker, dado_bytes *slice);
+extern inline dado_status dado_masker_finish(dado_masker **masker);
+extern inline void dado_masker_free(dado_masker **masker);
 extern inline dado_status dado_pattern_len(const dado_automaton *ac, uint32_t pattern, size_t *len);
 extern inline size_t dado_pattern_count(const dado_automaton *ac);
 extern inline size_t dado_shortest(const dado_automaton *ac);
@@ -66,9 +72,10 @@ const char *dado_error_text(dado_status status) {
     case DADO_BAD_PATTERN: return "no pattern of this number";
     case DADO_EMPTY_PATTERN: return "a stream can't be searched for an empty pattern";
     case DADO_NO_STREAM: return "no stream";
-    case DADO_FINISHED: return "the stream or the replacer was finished";
+    case DADO_FINISHED: return "the stream, the replacer or the masker was finished";
     case DADO_TOO_MANY_BYTES: return "more bytes than places";
     case DADO_NO_REPLACER: return "no replacer";
+    case DADO_NO_MASKER: return "no masker";
     default: return "unknown status";
     }
 }

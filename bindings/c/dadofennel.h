@@ -23,9 +23,9 @@
  *   array or a haystack of length 0 may be NULL. An automaton that is NULL gives DADO_NO_AUTOMATON.
  * - Threads. A search reads an automaton and writes nothing of it, so any number of threads may search with one at the same time.
  *   No thread may free it, or build over it, before all searches with it have returned. No call waits for another, and there is
- *   no state but what the caller holds. With the same stream or replacer, one call at a time; threads may pass it on.
+ *   no state but what the caller holds. With the same stream, replacer or masker, one call at a time; threads may pass it on.
  * - Memory. Where a call says that it takes memory, it is of `malloc`, and DADO_NO_MEMORY says that there was none. Nothing is
- *   lost then: the automaton, text, stream or replacer that the call was to replace is still there. All other calls take none. A
+ *   lost then: the automaton, text, stream, replacer or masker that the call was to replace is still there. All other calls take none. A
  *   haystack is never copied; a stream copies each piece once.
  * - Cost. What a call says of looks at states and of bytes moved is proved of the body below it, which counts them: docs/TRUST.md says
  *   of which calls. Neither the time of a call is proved, nor how much memory it takes.
@@ -71,17 +71,18 @@ enum {
     DADO_BAD_PAIRS = 11,          /* a build: a byte is named twice in `pairs`, or pairs beside `fold` */
     DADO_NOT_ANCHORED = 12,       /* an anchored search, by an automaton or a call that has none */
     DADO_NOT_UNANCHORED = 13,     /* an unanchored search, by an automaton that was built for anchored ones alone */
-    DADO_NOT_STANDARD = 14,       /* overlapping matches, by an automaton of a leftmost kind */
+    DADO_NOT_STANDARD = 14,       /* overlapping matches or a mask, by an automaton of a leftmost kind */
     DADO_BAD_SPAN = 15,           /* the span ends after the haystack, or starts more than one past its end */
     DADO_BAD_CURSOR = 16,         /* the cursor's content is not one that a walk over this haystack has */
     DADO_WRONG_COUNT = 17,        /* not as many replacements as patterns */
     DADO_TOO_SHORT = 18,          /* the buffer is too short for the text */
     DADO_BAD_PATTERN = 19,        /* the automaton has no pattern of this number */
-    DADO_EMPTY_PATTERN = 20,      /* a stream or a replacer, by an automaton that has an empty pattern */
+    DADO_EMPTY_PATTERN = 20,      /* a stream, a replacer or a masker, by an automaton that has an empty pattern */
     DADO_NO_STREAM = 21,          /* the stream is NULL: never made, or freed */
-    DADO_FINISHED = 22,           /* a push to a stream or a replacer that was finished */
-    DADO_TOO_MANY_BYTES = 23,     /* more bytes than there are places: pushed to a stream or a replacer, or in a replaced text */
-    DADO_NO_REPLACER = 24         /* the replacer is NULL: never made, or freed */
+    DADO_FINISHED = 22,           /* a push to a stream, a replacer or a masker that was finished */
+    DADO_TOO_MANY_BYTES = 23,     /* more bytes than there are places: pushed to one of these, or in a replaced text */
+    DADO_NO_REPLACER = 24,        /* the replacer is NULL: never made, or freed */
+    DADO_NO_MASKER = 25           /* the masker is NULL: never made, or freed */
 };
 
 /* Which of several overlapping occurrences is the match. */
@@ -213,6 +214,9 @@ typedef struct dado_held {
 /* A replacement of a text that comes in pieces. A caller holds a pointer to it, which is NULL before it is made and after it is freed. */
 typedef struct dado_replacer dado_replacer;
 
+/* A masking of a text that comes in pieces. A caller holds a pointer to it, which is NULL before it is made and after it is freed. */
+typedef struct dado_masker dado_masker;
+
 /* ---- The proved exports, which the functions below call. Their pointers are never NULL, except a haystack or an array of length 0.
  * `at` is an automaton that is not freed during the call; a handle is a variable that holds an automaton or NULL. ---- */
 
@@ -295,6 +299,12 @@ dado_raw_count dado_raw_replacer_push(dado_replacer **replacer, const uint8_t *p
 dado_raw_length dado_raw_replacer_next(dado_replacer **replacer, const dado_bytes *replacements, size_t count, const uint8_t **at);
 dado_status dado_raw_replacer_finish(dado_replacer **replacer);
 void dado_raw_replacer_free(dado_replacer **replacer);
+dado_status dado_raw_mask(const dado_automaton *at, uint8_t *text, size_t len, uint8_t byte);
+dado_status dado_raw_masker_new(const dado_automaton *at, uint8_t byte, dado_masker **masker);
+dado_raw_count dado_raw_masker_push(dado_masker **masker, const uint8_t *piece, size_t len);
+dado_raw_length dado_raw_masker_ready(dado_masker **masker, const uint8_t **at);
+dado_status dado_raw_masker_finish(dado_masker **masker);
+void dado_raw_masker_free(dado_masker **masker);
 dado_raw_length dado_raw_pattern_len(const dado_automaton *at, uint32_t pattern);
 dado_raw_about dado_raw_tell(const dado_automaton *at);
 
@@ -766,6 +776,114 @@ DADO_INLINE dado_status dado_replacer_finish(dado_replacer **replacer) {
 /* Frees the replacer at `*replacer`, if there is one, and sets `*replacer` to NULL. So a second call does nothing. */
 DADO_INLINE void dado_replacer_free(dado_replacer **replacer) {
     if (replacer != NULL) dado_raw_replacer_free(replacer);
+}
+
+/* ---- Masking ---- */
+
+/*
+ * Masks a text where it lies: each byte that lies in an occurrence of some pattern becomes `byte`, and every other byte stays. All
+ * occurrences count, overlapping ones too. So where `byte` is in no pattern, and paired with no byte of one, no pattern occurs in the
+ * text after that, the empty one aside. A replacement promises no such thing. An empty pattern masks nothing.
+ *
+ * DADO_OK. DADO_NO_AUTOMATON; DADO_BAD_ARGUMENT: a text that isn't empty is NULL; DADO_NOT_UNANCHORED: the automaton was built for
+ * anchored searches alone; DADO_NOT_STANDARD: it is of a leftmost kind. The text is unchanged at these.
+ *
+ * It looks at one or two states for each byte, or at one with a DFA. It takes no memory.
+ */
+DADO_INLINE dado_status dado_mask(const dado_automaton *ac, uint8_t *text, size_t len, uint8_t byte) {
+    if (ac == NULL) return DADO_NO_AUTOMATON;
+    if (text == NULL && len != 0) return DADO_BAD_ARGUMENT;
+    return dado_raw_mask(ac, text, len, byte);
+}
+
+/*
+ * A masker is pushed a text piece by piece, and hands out the masked text, as far as no later byte changes it. However the text is cut,
+ * it is the text that dado_mask makes of the whole.
+ *
+ *     dado_masker *masker = NULL;
+ *     dado_status status = dado_masker_new(ac, '*', &masker);
+ *     while (status == DADO_OK && (len = fread(piece, 1, sizeof piece, file)) > 0)
+ *         for (at = 0; at < len && status == DADO_OK; at += taken) {
+ *             status = dado_masker_push(&masker, piece + at, len - at, &taken);
+ *             if (status == DADO_OK) status = dado_masker_ready(&masker, &slice);
+ *             if (status == DADO_OK) fwrite(slice.at, 1, slice.len, out);
+ *         }
+ *     if (status == DADO_OK) status = dado_masker_finish(&masker);
+ *     if (status == DADO_OK) status = dado_masker_ready(&masker, &slice);
+ *     if (status == DADO_OK) fwrite(slice.at, 1, slice.len, out);
+ *     dado_masker_free(&masker);
+ *
+ * No byte of the text is copied again: a slice is of the bytes that the masker holds. What is kept back between pushes is fewer bytes
+ * than the longest pattern has.
+ */
+
+/*
+ * Makes a masker of an automaton, which masks with `byte`, and puts it at `*masker`. A masker that was there is freed, once the new one
+ * is made. It owns the automaton too, which may be freed before it.
+ *
+ * DADO_NO_AUTOMATON; DADO_BAD_ARGUMENT: `masker` is NULL; DADO_NOT_UNANCHORED: the automaton was built for anchored searches alone;
+ * DADO_NOT_STANDARD: it is of a leftmost kind; DADO_EMPTY_PATTERN: one of its patterns is empty; DADO_NO_MEMORY. `*masker` is unchanged
+ * at these.
+ *
+ * Takes memory: one buffer of 64 KiB, or of eight of the longest pattern if that is more.
+ */
+DADO_INLINE dado_status dado_masker_new(const dado_automaton *ac, uint8_t byte, dado_masker **masker) {
+    if (masker == NULL) return DADO_BAD_ARGUMENT;
+    if (ac == NULL) return DADO_NO_AUTOMATON;
+    return dado_raw_masker_new(ac, byte, masker);
+}
+
+/*
+ * Takes the first bytes of a piece, after all that was pushed before, and masks them; how many, to `*taken`. The piece isn't needed
+ * after the call. At least one is taken, if there is one, and all of them, unless the masker's memory is full: then the rest is pushed
+ * again after what is ready was handed on. What was ready before is dropped.
+ *
+ * DADO_OK. DADO_BAD_ARGUMENT: `masker`, `taken`, or a piece that isn't empty, is NULL; DADO_NO_MASKER: `*masker` is NULL; DADO_FINISHED:
+ * the masker was finished; DADO_TOO_MANY_BYTES: there are more bytes than places now, and nothing gets ready any more. At all but the
+ * first `*taken` is 0. At all but the first and the last the masker is unchanged.
+ *
+ * All calls together look at no more than two states for each byte that was pushed, or at one with a DFA. A call copies each byte once,
+ * and moves a seventh of all bytes at most. It takes no memory.
+ */
+DADO_INLINE dado_status dado_masker_push(dado_masker **masker, const uint8_t *piece, size_t len, size_t *taken) {
+    dado_raw_count pushed;
+    if (taken == NULL) return DADO_BAD_ARGUMENT;
+    *taken = 0;
+    if (masker == NULL || (piece == NULL && len != 0)) return DADO_BAD_ARGUMENT;
+    pushed = dado_raw_masker_push(masker, piece, len);
+    *taken = pushed.count;
+    return pushed.status;
+}
+
+/*
+ * The masked bytes that are ready, to `*slice`: those after the ones that were ready before the last push, up to the bytes that may
+ * still be masked. They lie where the masker holds them until the next push, or until it is freed. A second call gives the same ones.
+ *
+ * DADO_OK: also where there are none, and `slice->at` is never NULL. DADO_BAD_ARGUMENT: `masker` or `slice` is NULL; DADO_NO_MASKER:
+ * `*masker` is NULL. `*slice` is written at DADO_OK alone. It takes no memory and no time to speak of.
+ */
+DADO_INLINE dado_status dado_masker_ready(dado_masker **masker, dado_bytes *slice) {
+    const uint8_t *at = (const uint8_t *)"";
+    dado_raw_length ready;
+    if (masker == NULL || slice == NULL) return DADO_BAD_ARGUMENT;
+    ready = dado_raw_masker_ready(masker, &at);
+    if (ready.status == DADO_OK) slice->at = at, slice->len = ready.len;
+    return ready.status;
+}
+
+/*
+ * Tells the masker that nothing more comes: the bytes that waited are ready, in the place of what was ready before, and each push is
+ * DADO_FINISHED. After DADO_TOO_MANY_BYTES nothing is ready, and each push still returns that. After a second call nothing is ready.
+ *
+ * DADO_OK. DADO_BAD_ARGUMENT: `masker` is NULL; DADO_NO_MASKER: `*masker` is NULL. It takes no memory.
+ */
+DADO_INLINE dado_status dado_masker_finish(dado_masker **masker) {
+    return masker == NULL ? (dado_status)DADO_BAD_ARGUMENT : dado_raw_masker_finish(masker);
+}
+
+/* Frees the masker at `*masker`, if there is one, and sets `*masker` to NULL. So a second call does nothing. */
+DADO_INLINE void dado_masker_free(dado_masker **masker) {
+    if (masker != NULL) dado_raw_masker_free(masker);
 }
 
 /* ---- Queries. They take no memory and no time to speak of; any number of threads at the same time. ---- */

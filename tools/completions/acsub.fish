@@ -7,7 +7,7 @@ function __acsub_placed
     for word in $words[2..-1]
         if test $skip = 1
             set skip 0
-        else if contains -- $word --kind --engine --pairs --dense-depth
+        else if contains -- $word --with --kind --engine --pairs --dense-depth
             set skip 1
         else if not string match -q -- '-*' $word
             set placed (math $placed + 1)
@@ -19,9 +19,11 @@ complete -c acsub -f
 complete -c acsub -n '__acsub_placed 0' -a replace -d 'The input, with each match replaced'
 complete -c acsub -n '__acsub_placed 0' -a list -d 'A line for each match'
 complete -c acsub -n '__acsub_placed 0' -a overlap -d 'A line for each occurrence'
+complete -c acsub -n '__acsub_placed 0' -a mask -d 'The input, with each occurrence masked'
 complete -c acsub -n '__acsub_placed 1' -F
 complete -c acsub -l text -d 'Read the rule file as plain text'
 complete -c acsub -l stream -d 'Write while reading under every kind'
+complete -c acsub -l with -x -d 'Mask with this byte'
 complete -c acsub -l kind -x -a 'standard leftmost-first leftmost-longest' -d 'Which of several matches is taken'
 complete -c acsub -l fold -d 'Match ASCII letters in either case'
 complete -c acsub -l pairs -x -d 'Match the two bytes of each pair'

@@ -39,6 +39,7 @@ static const dado_bytes FOX[] = {WORD("fox"), WORD("brown"), WORD("quick")};
 static const dado_bytes SLOTH[] = {WORD("sloth and more"), WORD("grey and more"), WORD("slow and more")};
 static const char TEXT[] = "The quick brown fox.";
 static const char REPLACED[] = "The slow and more grey and more sloth and more.";
+static const char MASKED[] = "The ***** ***** ***.";
 
 /* A build into an empty handle and over an automaton, by these settings. */
 static long build_fails(const dado_settings *s) {
@@ -72,6 +73,7 @@ int main(void) {
     dado_automaton *ac = NULL, *two = NULL;
     dado_stream *stream = NULL, *kept;
     dado_replacer *replacer = NULL, *begun_one;
+    dado_masker *masker = NULL, *made_one;
     dado_held there;
     dado_bytes slice;
     dado_text text = DADO_NO_TEXT;
@@ -141,6 +143,17 @@ int main(void) {
     CHECK(n >= 2);
     begun_one = replacer, before = held, left = 0;
     CHECK(dado_replacer_new(ac, &replacer) == DADO_NO_MEMORY && replacer == begun_one && held == before);
+    for (n = 0;; n++, failed++) {
+        dado_status status;
+        before = held, left = n;
+        status = dado_masker_new(ac, '*', &masker);
+        left = -1;
+        if (status == DADO_OK || n > 1000) break;
+        CHECK(status == DADO_NO_MEMORY && masker == NULL && held == before);
+    }
+    CHECK(n >= 2);
+    made_one = masker, before = held, left = 0;
+    CHECK(dado_masker_new(ac, '*', &masker) == DADO_NO_MEMORY && masker == made_one && held == before);
     /* the searches take no memory */
     before = held, left = 0;
     {
@@ -163,11 +176,18 @@ int main(void) {
         CHECK(dado_replacer_finish(&replacer) == DADO_OK);
         for (n = 0; dado_replacer_next(&replacer, SLOTH, 3, &slice) == DADO_OK;) n++;
         CHECK(n == 7);
+        memcpy(out, TEXT, 20);
+        CHECK(dado_mask(ac, out, 20, '*') == DADO_OK && memcmp(out, MASKED, 20) == 0);
+        CHECK(dado_masker_push(&masker, BYTES(TEXT), &count) == DADO_OK && count == 20);
+        CHECK(dado_masker_ready(&masker, &slice) == DADO_OK && slice.len == 20 && memcmp(slice.at, MASKED, 20) == 0);
+        CHECK(dado_masker_finish(&masker) == DADO_OK);
+        CHECK(dado_masker_ready(&masker, &slice) == DADO_OK && slice.len == 0);
     }
     left = -1;
     CHECK(held == before);
     dado_stream_free(&stream);
     dado_replacer_free(&replacer);
+    dado_masker_free(&masker);
     dado_free(&ac);
     CHECK(held == begun);
     CHECK(failed > 40);

@@ -3,7 +3,7 @@ from ctypes import byref
 from typing import Any, AnyStr, Callable, Dict, Generic, Iterable, Iterator, List, Optional, Sequence, Tuple, cast
 
 from . import _native as native
-from . import _stream
+from . import _mask, _stream
 from ._built import SHORT, Built
 from ._match import Match, each, refuse
 from ._replacements import Replacements, one_each
@@ -181,6 +181,28 @@ class Automaton(Generic[AnyStr]):
         finally:
             native.text_free(byref(made))
         return cast(AnyStr, result.decode(*ENCODING) if is_text else result)
+
+    def mask(self, text: Any, star: Any = None) -> AnyStr:
+        """The text with each character, or byte, that lies in an occurrence of some pattern replaced by a star.
+
+        All occurrences count, overlapping ones too. So if no pattern has the star, no pattern occurs in the result, the empty one
+        aside. `replace` promises no such thing. The result is `str` or `bytes`, as the patterns are, and has the length of the text.
+        `star` is one character, or one byte: `"*"` or `b"*"` if it isn't given. Raises `Error` for an automaton of a leftmost kind,
+        and for one that was built for anchored searches alone.
+        """
+        built = self._built
+        built.fits(text)
+        is_text = isinstance(text, str)
+        return cast(AnyStr, _mask.masked(built, text, _mask.star_of(("*" if is_text else b"*") if star is None else star, is_text)))
+
+    def mask_in_place(self, buffer: Any, star: Any = b"*") -> None:
+        """Masks bytes where they lie, as `mask` does: those of a `bytearray`, of a `memoryview` or an `mmap` that can be written.
+
+        It takes no memory. Raises `TypeError` where the patterns are `str`, `BufferError` where the buffer can't be written, and
+        `Error` as `mask` does.
+        """
+        self._built.fits(buffer)
+        _mask.in_place(self._built, buffer, cast(int, _mask.star_of(star, False)))
 
     def replace_stream(self, reader: Any, writer: Any, replacements: Replacements[AnyStr]) -> int:
         """Writes what `reader` has to `writer`, with each match replaced as by `replace`, and returns how many there were.

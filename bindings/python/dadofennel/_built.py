@@ -85,11 +85,15 @@ class Built:
         if not anchored and self.start_kind == "anchored":
             raise Error(native.NOT_UNANCHORED)
 
+    def fits(self, text: Any) -> None:
+        """Raises a `TypeError` where the text isn't of the patterns' type."""
+        if self.text is not None and isinstance(text, str) is not self.text:
+            raise TypeError("patterns of str search str, and patterns of bytes search bytes")
+
     def source(self, text: Any, start: Optional[int] = None, end: Optional[int] = None, *, exact: bool = False,
                parts: bool = False) -> Source:
         """What is searched; with `exact` all bytes of it are those of the text, and with `parts` it may be one part after another."""
-        if self.text is not None and isinstance(text, str) is not self.text:
-            raise TypeError("patterns of str search str, and patterns of bytes search bytes")
+        self.fits(text)
         most = max(PART, 8 * self.longest) if parts and not self.any_empty else 0
         return Source(text, start, end, None if exact else self.codes, most)
 

@@ -98,6 +98,7 @@ some = _declare("dado_some", c_uint32, *_haystack, POINTER(Cursor), c_void_p, c_
 overlapping_some = _declare("dado_overlapping_some", c_uint32, *_haystack, POINTER(Place), c_void_p, c_size_t, POINTER(c_size_t))
 replace = _declare("dado_replace", c_uint32, *_haystack, c_void_p, c_size_t, POINTER(Text))
 text_free = _declare("dado_text_free", None, POINTER(Text))
+mask = _declare("dado_mask", c_uint32, *_haystack, c_uint8)
 stream_new = _declare("dado_stream_new", c_uint32, c_void_p, POINTER(c_void_p))
 stream_push = _declare("dado_stream_push", c_uint32, POINTER(c_void_p), c_void_p, c_size_t, POINTER(c_size_t))
 stream_some = _declare("dado_stream_some", c_uint32, POINTER(c_void_p), c_void_p, c_size_t, POINTER(c_size_t))
@@ -149,18 +150,23 @@ _as_utf8 = ctypes.pythonapi.PyUnicode_AsUTF8AndSize
 _as_utf8.restype, _as_utf8.argtypes = c_void_p, (ctypes.py_object, POINTER(c_ssize_t))
 
 
+WRITABLE = 1
+"""The memory of an object that may be written."""
+
+
 class Lent:
     """The memory of a bytes-like object without a copy: `len` bytes at `at`.
 
     The object keeps its size, and its memory stays where it is, as long as this lives: a `bytearray` can't be resized, a `mmap`
-    not be closed. An object that isn't bytes-like is a TypeError, and one whose bytes don't lie side by side a BufferError.
+    not be closed. An object that isn't bytes-like is a TypeError, and one whose bytes don't lie side by side a BufferError. With
+    `WRITABLE`, so is one that can't be written.
     """
 
     __slots__ = ("at", "len", "_view")
 
-    def __init__(self, source: Any) -> None:
+    def __init__(self, source: Any, flags: int = 0) -> None:
         view = _View()
-        _get_buffer(source, byref(view), 0)
+        _get_buffer(source, byref(view), flags)
         self._view, self.at, self.len = view, view.buf, view.len
 
     def __del__(self, release: Any = _release_buffer, reference: Any = byref) -> None:

@@ -32,6 +32,7 @@ WRAPPED(dado_raw_listed, dado_raw_list,
 WRAPPED(dado_status, dado_raw_replace,
         (const dado_automaton *at, const uint8_t *haystack, size_t len, const dado_bytes *replacements, size_t count, void **owner),
         at, (at, haystack, len, replacements, count, owner))
+WRAPPED(dado_status, dado_raw_mask, (const dado_automaton *at, uint8_t *text, size_t len, uint8_t byte), at, (at, text, len, byte))
 WRAPPED(dado_status, dado_raw_stream_new, (const dado_automaton *at, dado_stream **stream), at, (at, stream))
 WRAPPED(dado_raw_about, dado_raw_tell, (const dado_automaton *at), at, (at))
 WRAPPED(dado_raw_count, dado_raw_stream_push, (dado_stream **stream, const uint8_t *piece, size_t len), *stream, (stream, piece, len))

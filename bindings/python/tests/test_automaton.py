@@ -72,6 +72,12 @@ def replaced(text, matches, replacements):
     return text[:0].join(pieces + [text[at:]])
 
 
+def masked(patterns, text, star, fold=False):
+    """The text with each character or byte of each occurrence replaced by the star."""
+    covered = {at for found in occurrences(patterns, text, 0, len(text), fold) for at in range(found.start, found.end)}
+    return text[:0].join(star if at in covered else text[at:at + 1] for at in range(len(text)))
+
+
 class Pieces:
     """A reader that gives pieces of certain sizes."""
 
@@ -120,6 +126,7 @@ class Random(unittest.TestCase):
             return
         if kind == "standard":
             self.assertEqual(list(automaton.overlapping(lent, start, end)), occurrences(patterns, text, start, end, fold), what)
+            self.masks(rng, automaton, patterns, fold, lent, text, what)
         replacements = [f"<{number}é>" for number in range(len(patterns))]
         if isinstance(text, bytes):
             replacements = [it.encode() for it in replacements]
@@ -137,6 +144,18 @@ class Random(unittest.TestCase):
         self.assertEqual((writer.getvalue(), count, seen), (wanted, len(matches), matches), what)
         if all(patterns):
             self.in_pieces(rng, automaton, lent, matches, what)
+
+    def masks(self, rng, automaton, patterns, fold, lent, text, what):
+        star = rng.choice(["*", "a", "é", "😀"])
+        if isinstance(text, bytes):
+            star = star.encode()[:1]
+            buffer = bytearray(text)
+            automaton.mask_in_place(buffer, star[0])
+            self.assertEqual(buffer, masked(patterns, text, star, fold), (star, what))
+        made = automaton.mask(lent, star)
+        self.assertEqual((made, type(made)), (masked(patterns, text, star, fold), type(text)), (star, what))
+        if star in ("*", b"*") and all(patterns):
+            self.assertFalse(automaton.is_match(made), what)
 
     def in_pieces(self, rng, automaton, text, matches, what):
         stream, at, given = automaton.stream(), 0, []
@@ -386,7 +405,7 @@ class Callers(unittest.TestCase):
         for call in (
             lambda: leftmost.overlapping("a"), lambda: leftmost.find("a", anchored=True),
             lambda: leftmost.finditer("a", anchored=True), lambda: anchored.find("a"), lambda: anchored.finditer("a"),
-            lambda: anchored.overlapping("a"),
+            lambda: anchored.overlapping("a"), lambda: leftmost.mask("a"), lambda: anchored.mask("a"),
             lambda: anchored.replace("a", ["b"]), lambda: anchored.replace_stream(io.StringIO("a"), io.StringIO(), "b"),
         ):
             self.assertRaises(Error, call)
@@ -408,6 +427,28 @@ class Callers(unittest.TestCase):
         with unittest.mock.patch.object(native, "stream_new", lambda *arguments: native.NO_MEMORY):
             self.assertRaises(MemoryError, Automaton([b"a"]).stream)
         self.assertEqual(list(Automaton([b"a"]).finditer_stream(io.BytesIO(b"aba"))), [Match(0, 0, 1), Match(0, 2, 3)])
+
+    def test_masks(self):
+        automaton = Automaton(["abc", "cde", "été"])
+        self.assertEqual(automaton.mask("xabcdex, été"), "x*****x, ***")
+        self.assertEqual(automaton.mask("xabcdex, été", "█"), "x█████x, ███")
+        self.assertEqual(Automaton([]).mask("ab"), "ab")
+        self.assertEqual(Automaton([]).mask(b"ab"), b"ab")
+        raw = Automaton([b"ab"])
+        self.assertEqual((raw.mask(b"aabb"), raw.mask(bytearray(b"aabb"), 0)), (b"a**b", b"a\0\0b"))
+        buffer = bytearray(b"abab.")
+        raw.mask_in_place(memoryview(buffer)[1:])
+        self.assertEqual(bytes(buffer), b"ab**.")
+        for wrong in ("", "**", "é" * 2):
+            self.assertRaises(ValueError, automaton.mask, "abc", wrong)
+        for wrong in (b"", b"**", 256, -1):
+            self.assertRaises(ValueError, raw.mask, b"ab", wrong)
+        self.assertRaises(TypeError, automaton.mask, "abc", b"*")
+        self.assertRaises(TypeError, automaton.mask, b"abc")
+        self.assertRaises(TypeError, raw.mask, b"ab", "*")
+        self.assertRaises(TypeError, raw.mask, "ab")
+        self.assertRaises(TypeError, automaton.mask_in_place, bytearray(b"abc"))
+        self.assertRaises(BufferError, raw.mask_in_place, b"ab")
 
     def test_replacements(self):
         automaton = Automaton(["a", "b"])

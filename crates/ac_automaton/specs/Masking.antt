@@ -11,7 +11,6 @@ use Rattle.ac_input.specs.Mask.{masked}
 use Rattle.ac_input.specs.Work.{lookups_per_byte}
 use Rattle.ac_automaton.specs.Automaton.{Built, Leads}
 use Rattle.ac_automaton.specs.InMemory.Overlapping.{IsOverlappingRefusal}
-use Rattle.ac_automaton.specs.declared.automaton.Automaton.{Ghosts}
 use Rattle.ac_automaton.specs.declared.error.MatchErrorKind.{MatchErrorKind}
 use Rattle.ac_automaton.specs.declared.masking.Stretch.{Stretch}
 
@@ -29,22 +28,22 @@ pub record IsMaskedStretch (mask : ℕ) (bytes : List ℕ) (at : ℕ) (s : Stret
   pub within : s.end ≤ at
   pub masked : (i : ℕ) → s.start ≤ i → i < s.end → slice_index bytes i ≡ mask
 
-module _ {S : Type 0} (A : Ghosts S) (automaton : S) (mask : ℕ) where
-  -- The longest pattern that matches at a state gets the mask where it ends, as far as its bytes are held.
-  pub record MasksLongest (sid : StateID) (at : ℕ) (before after : List ℕ) : Type 0 where
-    pub pattern : ℕ
-    pub first : slice_get (A.matches automaton sid) 0 ≡ Some pattern
-    pub masked : after
-        ≡ masked_between mask before (at - length (get_or (A.built automaton).dictionary.patterns pattern [])) at
+-- The longest pattern that matches at a state gets the mask where it ends, as far as its bytes are held.
+pub record MasksLongest (b : Built) (matches : StateID → List ℕ) (mask : ℕ) (sid : StateID) (at : ℕ)
+    (before after : List ℕ) : Type 0 where
+  pub pattern : ℕ
+  pub first : slice_get (matches sid) 0 ≡ Some pattern
+  pub masked : after ≡ masked_between mask before (at - length (get_or b.dictionary.patterns pattern [])) at
 
-  -- Held bytes are masked from a place on. Whatever text the search has read up to there, if the bytes before the place
-  -- were the end of its masked text, then all of them are now the end of the masked text with the bytes after the place.
-  pub record MasksFrom (sid : StateID) (from : ℕ) (before after : List ℕ) (next : StateID) : Type 0 where
-    pub len : length after ≡ length before
-    pub reads : Leads (A.Reaches automaton No) sid (drop from before) next
-    pub masked : (x : List ℕ) (base : ℕ) → A.Reaches automaton No x sid → length x ≡ base + from
-        → take from before ≡ drop base (masked_in (A.built automaton) mask x)
-        → after ≡ drop base (masked_in (A.built automaton) mask (x ++ drop from before))
+-- Held bytes are masked from a place on. Whatever text the search has read up to there, if the bytes before the place were
+-- the end of its masked text, then all of them are now the end of the masked text with the bytes after the place.
+pub record MasksFrom (b : Built) (Reaches : List ℕ → StateID → Type 0) (mask : ℕ) (sid : StateID) (from : ℕ)
+    (before after : List ℕ) (next : StateID) : Type 0 where
+  pub len : length after ≡ length before
+  pub reads : Leads Reaches sid (drop from before) next
+  pub masked : (x : List ℕ) (base : ℕ) → Reaches x sid → length x ≡ base + from
+      → take from before ≡ drop base (masked_in b mask x)
+      → after ≡ drop base (masked_in b mask (x ++ drop from before))
 
 -- The text was masked in place; or an overlapping search isn't supported, and the text is unchanged.
 abbrev pub Masks : Built → (Anchored → Type 0) → ℕ → List ℕ → List ℕ → Result (Unit {0}) MatchErrorKind → Type 0

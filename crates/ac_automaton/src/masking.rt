@@ -62,7 +62,8 @@ fn mask_longest<A: Automaton>(
     requires matches { A.matches automaton.now sid ≢ [] }
     requires within { at ≤ length bytes.old }
     requires last { IsMaskedStretch mask bytes.old at last }
-    ensures masked { MasksLongest A.Automaton automaton.now mask sid at bytes.old bytes.new }
+    ensures masked { MasksLongest (A.built automaton.now) (A.matches automaton.now) mask sid at
+        bytes.old bytes.new }
     ensures last { IsMaskedStretch mask bytes.new at result }
 {
     let longest = automaton.pattern_len(automaton.match_pattern(sid, 0));
@@ -82,7 +83,8 @@ pub(crate) fn mask_from<A: Automaton>(
     requires standard { (A.built automaton.now).dictionary.kind ≡ Standard }
     requires reached { IsReached (A.Reaches automaton.now No) sid }
     requires within { from ≤ length bytes.old }
-    ensures masks { MasksFrom A.Automaton automaton.now mask sid from bytes.old bytes.new result }
+    ensures masks { MasksFrom (A.built automaton.now) (A.Reaches automaton.now No) mask sid from
+        bytes.old bytes.new result }
     ensures cost { IsReadCost (A.built automaton.now) (A.Reaches automaton.now) No sid (drop from bytes.old) steps.old steps.new }
 {
     let mut ahead = Ahead::none();

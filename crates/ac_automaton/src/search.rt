@@ -163,7 +163,8 @@ pub trait Search: Automaton {
         requires standard { (Self.built self.now).dictionary.kind ≡ Standard }
         requires reached { IsReached (Self.Reaches self.now No) sid }
         requires within { from ≤ length bytes.old }
-        ensures masks { MasksFrom Self.Automaton self.now mask sid from bytes.old bytes.new result }
+        ensures masks { MasksFrom (Self.built self.now) (Self.Reaches self.now No) mask sid from
+            bytes.old bytes.new result }
         ensures cost { IsReadCost (Self.built self.now) (Self.Reaches self.now) No sid (drop from bytes.old) steps.old steps.new }
     {
         masking::mask_from(self, sid, bytes, from, mask, steps)

@@ -11,7 +11,7 @@ pub use Rattle.std.proofs.Common.{ℕ, List, [], ◌∷◌, refl}
 use Rattle.std.proofs.Common.{◌≡◌, ◌++◌, subst, Bor}
 use Rattle.std.proofs.raw_atomic.Walks.{leaves, proved}
 use mir.Syntax.{Callee, Fn, Ty}
-pub use mir.Syntax.{named, w32, w64}
+pub use mir.Syntax.{named, w8, w32, w64}
 use mir.Val.{Val, WT, has_ty, vptr}
 use base.Logic.{SProp, ent, ex, sep, via, never, fst∗}
 pub use base.Logic.{id⊢}

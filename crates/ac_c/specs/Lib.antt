@@ -4,6 +4,8 @@ pub mod Found
 pub mod Handle
 pub mod Lent
 pub mod List
+pub mod Masker
+pub mod Masking
 pub mod Replace
 pub mod Replacer
 pub mod Replacing

@@ -53,6 +53,9 @@ too_many_bytes = 23
 abbrev pub no_replacer : ℕ
 no_replacer = 24
 
+abbrev pub no_masker : ℕ
+no_masker = 25
+
 -- the status of a search that the automaton doesn't support
 abbrev pub refusal_status : MatchErrorKind → ℕ
 refusal_status InvalidInputAnchored = 12

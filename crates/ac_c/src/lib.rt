@@ -17,6 +17,8 @@ ghost use Rattle.ac_c.specs.Find.{AnswersFindIn, bounds};
 ghost use Rattle.ac_c.specs.Lent.{Lent, is_lent, lasting};
 ghost use Rattle.ac_c.specs.List.{AnswersListed, place};
 ghost use Rattle.ac_c.specs.Found.{found};
+ghost use Rattle.ac_c.specs.Masker.{AnswersMaskEnd, AnswersMaskPush, AnswersMasking, ready_by};
+ghost use Rattle.ac_c.specs.Masking.{AnswersMasked};
 ghost use Rattle.ac_c.specs.Replace.{AnswersInto, AnswersText};
 ghost use Rattle.ac_c.specs.Replacer.{AnswersPushOn, AnswersReplacing, AnswersSlice, end_by, end_status};
 ghost use Rattle.ac_c.specs.Stream.{AnswersStream, AnswersNext, AnswersPush, finish_by, finish_status, view_by};
@@ -29,6 +31,8 @@ pub mod find;
 pub mod found;
 pub mod handle;
 pub mod list;
+pub mod masker;
+pub mod masking;
 pub mod replace;
 pub mod replacer;
 pub mod replacing;
@@ -48,10 +52,11 @@ use find::Answer;
 use found::Found;
 use handle::{Handle, Opaque};
 use list::Listed;
+use masker::Masker;
 use replace::Length;
 use replacer::Replacer;
 use searching::{Count, View};
-use status::{NO_REPLACER, NO_STREAM, OK};
+use status::{NO_MASKER, NO_REPLACER, NO_STREAM, OK};
 use std::alloc::Global;
 use std::mem::replace;
 use std::ptr::NonNull;
@@ -249,6 +254,46 @@ pub extern "C" fn dado_raw_replacer_free(alloc: Global, replacer: &mut Replacer)
     *replacer = Replacer::none(alloc);
 }
 
+/// Takes the first bytes of a piece, after all that was passed before, and masks them.
+#[unsafe(no_mangle)]
+pub extern "C" fn dado_raw_masker_push(alloc: Global, masker: &mut Masker, piece: &[u8]) -> Count
+    ensures { AnswersMaskPush piece.now masker.old.value masker.new.value result }
+{
+    with!(masker: Masker in alloc, Count::none(NO_MASKER), |begun| begun.push(piece))
+}
+
+/// The masked bytes that are ready: how many there are, and their place, if there are any. They lie there until the next push.
+#[unsafe(no_mangle)]
+pub extern "C" fn dado_raw_masker_ready(
+    alloc: Global,
+    masker: &mut Masker,
+    at: &mut *const u8,
+) -> Length
+    ensures kept { masker.new.value ≡ masker.old.value }
+    ensures ready { result ≡ ready_by masker.old.value }
+{
+    with!(masker: Masker in alloc, Length::none(NO_MASKER), |begun| begun.ready(at))
+}
+
+/// Tells the masking that no more pieces come.
+#[unsafe(no_mangle)]
+pub extern "C" fn dado_raw_masker_finish(alloc: Global, masker: &mut Masker) -> u32
+    ensures { AnswersMaskEnd masker.old.value masker.new.value result }
+{
+    with!(masker: Masker in alloc, NO_MASKER, |begun| {
+        begun.finish();
+        OK
+    })
+}
+
+/// Frees the masking, if there is one.
+#[unsafe(no_mangle)]
+pub extern "C" fn dado_raw_masker_free(alloc: Global, masker: &mut Masker)
+    ensures { masker.new.value ≡ None }
+{
+    *masker = Masker::none(alloc);
+}
+
 /// A second owner of an automaton that is lent.
 #[unsafe(no_mangle)]
 pub unsafe extern "C" fn dado_raw_share(at: *const Opaque, alloc: Global, other: &mut Handle) -> u32
@@ -291,6 +336,35 @@ pub unsafe extern "C" fn dado_raw_replacer_new(
 {
     let ac = at as *const AhoCorasick;
     replacer::begin(&*ac, alloc, replacer)
+}
+
+/// A masking of pieces by an automaton that is lent, which it owns too. What the handle held before is freed once it is made.
+#[unsafe(no_mangle)]
+pub unsafe extern "C" fn dado_raw_masker_new(
+    at: *const Opaque,
+    byte: u8,
+    alloc: Global,
+    masker: &mut Masker,
+) -> u32
+    ghost g: { Lent }
+    requires* lent { sem 𝓛 (is_lent at g) }
+    ensures* lasts { sem 𝓛 (lasting g) }
+    ensures answer { AnswersMasking g.automaton byte masker.old.value masker.new.value result }
+{
+    let ac = at as *const AhoCorasick;
+    masker::begin(&*ac, byte, alloc, masker)
+}
+
+/// Masks a text where it lies.
+#[unsafe(no_mangle)]
+pub unsafe extern "C" fn dado_raw_mask(at: *const Opaque, text: &mut [u8], byte: u8) -> u32
+    ghost g: { Lent }
+    requires* lent { sem 𝓛 (is_lent at g) }
+    ensures* lasts { sem 𝓛 (lasting g) }
+    ensures answer { AnswersMasked g.automaton byte text.old text.new result }
+{
+    let ac = at as *const AhoCorasick;
+    masking::mask(&*ac, text, byte)
 }
 
 /// The match of a span, if it has one.

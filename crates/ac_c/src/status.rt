@@ -50,6 +50,8 @@ pub const TOO_MANY_BYTES: u32 = 23;
 
 pub const NO_REPLACER: u32 = 24;
 
+pub const NO_MASKER: u32 = 25;
+
 /// The status of a search that the automaton doesn't have.
 pub fn refused(error: &MatchError) -> u32
     ensures { result ≡ refusal_status error.now }

@@ -1,4 +1,5 @@
 pub mod BuiltLemmas
+pub mod ByteLemmas
 pub mod EmptyLemmas
 pub mod PairsLemmas
 pub mod ParseLemmas

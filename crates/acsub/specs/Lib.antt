@@ -7,5 +7,6 @@ pub mod Outcome
 pub mod Served
 pub mod Finder
 pub mod Matches
+pub mod Masked
 pub mod Stream
 pub mod Plan

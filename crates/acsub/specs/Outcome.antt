@@ -1,5 +1,5 @@
 -- What the program did, by its outcome.
-use Rattle.std.specs.Prelude.{◌≡◌, ◌↔◌, ℕ, ◌+◌, List, ◌⊎◌, Option, IfSome, Result, Ok, Err, String, Vec, map, string_bytes}
+use Rattle.std.specs.Prelude.{◌≡◌, ◌↔◌, ℕ, ◌+◌, List, ◌⊎◌, Option, Some, None, IfSome, Result, Ok, Err, String, Vec, map, string_bytes}
 use Rattle.std.specs.Io.KnownBytes.{Keeps}
 use Rattle.std.specs.IoError.{error_kind}
 use Rattle.std.specs.declared.io.Error.{Error}
@@ -11,12 +11,14 @@ use Rattle.ac_automaton.specs.declared.error.StreamError.{StreamError}
 use Rattle.ac_automaton.specs.declared.stream.devices.watched.Watched.{Watched}
 use Rattle.acsub.specs.declared.error.RunError.{RunError}
 use Rattle.acsub.specs.declared.error.RunError.TheVariants as errors
+use Rattle.acsub.specs.declared.mask.MaskError.TheVariants as masking
 use Rattle.acsub.specs.declared.rules.RuleError.TheVariants as rule_errors
 use Rattle.acsub.specs.declared.tool.Fault.{Fault}
 use Rattle.acsub.specs.declared.tool.Fault.TheVariants as faults
 use Rattle.acsub.specs.declared.args.Words.{Words}
 use Rattle.acsub.specs.declared.args.WordsFault.{WordsFault}
 use Rattle.acsub.specs.declared.args.WordsFault.TheVariants.{Help, Bad, Memory, Pairing}
+use Rattle.acsub.specs.Masked.{AnswersMaskIn}
 use Rattle.acsub.specs.Plan.{plan_of}
 use Rattle.acsub.specs.Rules.File.{grammar_of}
 use Rattle.acsub.specs.Run.{RanIn}
@@ -56,12 +58,12 @@ module _ {W : Type 0} (contents : W → Option (List ℕ)) where
       × WritesWhole contents before after text written × NoneRead before after
 
   -- the outcome of a run with this result, and of the flush after it
-  abbrev pub Finishes : Result (Unit {0}) RunError → Watched W → Watched W → Result (Unit {0}) Fault → Type 0
+  abbrev pub Finishes : Result (Unit {0}) Fault → Watched W → Watched W → Result (Unit {0}) Fault → Type 0
   Finishes (Ok ran) before after (Ok done) = Flushes contents before after 0
   Finishes (Ok ran) before after (Err fault) = (fault ≡ faults.Flush) × Flushes contents before after 1
-  Finishes (Err e) before after (Ok done) = ⊥
-  Finishes (Err e) before after (Err fault) =
-      (fault ≡ faults.Run e) × (Flushes contents before after 0 ⊎ Flushes contents before after 1)
+  Finishes (Err stopped) before after (Ok done) = ⊥
+  Finishes (Err stopped) before after (Err fault) =
+      (fault ≡ stopped) × (Flushes contents before after 0 ⊎ Flushes contents before after 1)
 
   module _ (before after : Watched W) where
     -- Some text was written, with this result; then the writer was flushed, and this many flushes failed.
@@ -80,22 +82,46 @@ module _ {W : Type 0} (contents : W → Option (List ℕ)) where
 
 -- ---- the whole program
 
+-- What the run that was asked for read, wrote and returned, by the bytes of a rule file: a run that masks, where a mask
+-- was asked for, or another.
+module _ {R W : Type 0} (remaining : R → Option (List ℕ)) (contents : W → Option (List ℕ)) where
+  abbrev pub RanAsBy : Option ℕ → Words → Watched R × Watched W → Watched R × Watched W → List ℕ
+      → Result (Unit {0}) Fault → Type 0
+  RanAsBy None asked old new file (Ok done) =
+      RanIn remaining contents old new ((grammar_of asked.text).holds file) (plan_of asked.stream asked.settings)
+      (Ok done)
+  RanAsBy None asked old new file (Err (faults.Run e)) =
+      RanIn remaining contents old new ((grammar_of asked.text).holds file) (plan_of asked.stream asked.settings) (Err e)
+  RanAsBy None asked old new file (Err other) = ⊥
+  RanAsBy (Some mask) asked old new file (Ok done) =
+      AnswersMaskIn remaining contents old new ((grammar_of asked.text).holds file) asked.settings mask (Ok done)
+  RanAsBy (Some mask) asked old new file (Err (faults.Mask refusal)) =
+      AnswersMaskIn remaining contents old new ((grammar_of asked.text).holds file) asked.settings mask
+      (Err (masking.Refused refusal))
+  RanAsBy (Some mask) asked old new file (Err (faults.Run e)) =
+      AnswersMaskIn remaining contents old new ((grammar_of asked.text).holds file) asked.settings mask
+      (Err (masking.Run e))
+  RanAsBy (Some mask) asked old new file (Err other) = ⊥
+
+  abbrev pub RanAsked : Words → Watched R × Watched W → Watched R × Watched W → List ℕ → Result (Unit {0}) Fault → Type 0
+  RanAsked asked = RanAsBy asked.mask asked
+
 -- The rule file has these bytes, in the form that was asked for, and a run by them returned this result. The first bad
 -- line is reported whatever memory does.
 pub record RanFile {F R W : Type 0} (held : F → Option (List ℕ)) (remaining : R → Option (List ℕ))
     (contents : W → Option (List ℕ)) (asked : Words) (old new : Watched R × Watched W)
-    (answer : Result (Unit {0}) RunError) : Type 0 where
+    (answer : Result (Unit {0}) Fault) : Type 0 where
   pub file : List ℕ
   pub is_file : IsFile held file
-  pub ran : RanIn remaining contents old new ((grammar_of asked.text).holds file) (plan_of asked.stream asked.settings)
-      answer
-  pub fault : (n : ℕ) → (answer ≡ Err (errors.Rule (rule_errors.Line n))) ↔ (grammar_of asked.text).bad file n
+  pub ran : RanAsked remaining contents asked old new file answer
+  pub fault : (n : ℕ)
+      → (answer ≡ Err (faults.Run (errors.Rule (rule_errors.Line n)))) ↔ (grammar_of asked.text).bad file n
 
 module _ {F R W : Type 0} (held : F → Option (List ℕ)) (remaining : R → Option (List ℕ))
     (contents : W → Option (List ℕ)) (old new : Watched R × Watched W) where
   module _ (asked : Words) where
     -- A run by the rule file returned this result; then the writer was flushed, and this many flushes failed.
-    abbrev pub RanAndFlushed : Result (Unit {0}) RunError → ℕ → Type 0
+    abbrev pub RanAndFlushed : Result (Unit {0}) Fault → ℕ → Type 0
     RanAndFlushed answer failed =
         (between : Watched W) × RanFile held remaining contents asked old (new.0, between) answer
         × Flushes contents between new.1 failed
@@ -106,8 +132,10 @@ module _ {F R W : Type 0} (held : F → Option (List ℕ)) (remaining : R → Op
     AnswersFile (Err faults.Words) = ⊥
     AnswersFile (Err (faults.Pairs e)) = ⊥
     AnswersFile (Err faults.RuleFile) = new ≡ old
+    AnswersFile (Err (faults.Mask r)) = RanAndFlushed (Err (faults.Mask r)) 0 ⊎ RanAndFlushed (Err (faults.Mask r)) 1
     AnswersFile (Err (faults.Run e)) =
-        RanAndFlushed (Err e) 0 ⊎ RanAndFlushed (Err e) 1 ⊎ ((e ≡ errors.Memory) × (new ≡ old))
+        RanAndFlushed (Err (faults.Run e)) 0 ⊎ RanAndFlushed (Err (faults.Run e)) 1
+        ⊎ ((e ≡ errors.Memory) × (new ≡ old))
     AnswersFile (Err faults.Flush) = RanAndFlushed (Ok tt) 1
 
   module _ (words : List Text) (outcome : Result (Unit {0}) Fault) where

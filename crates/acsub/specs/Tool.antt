@@ -1,5 +1,6 @@
 -- The lines that report faults, and the exit statuses of the program.
-use Rattle.std.specs.Prelude.{◌≡◌, ℕ, List, ◌++◌, OnOk, Option, Result, Ok, Err, codes, decimal}
+use Rattle.std.specs.Fmt.{radix_digits}
+use Rattle.std.specs.Prelude.{◌≡◌, ℕ, ◌/◌, ◌%◌, false, List, ◌++◌, OnOk, Option, Result, Ok, Err, codes, decimal}
 use Rattle.std.specs.Io.KnownBytes.{Appends}
 use Rattle.std.specs.declared.io.ErrorKind.{ErrorKind}
 use Rattle.std.specs.declared.io.ErrorKind.TheVariants as kind
@@ -10,6 +11,10 @@ use Rattle.acsub.specs.declared.error.RunError.{RunError}
 use Rattle.acsub.specs.declared.error.RunError.TheVariants as errors
 use Rattle.acsub.specs.Rules.File.{rule_text}
 use Rattle.acsub.specs.Args.Settings.{setting_text}
+use Rattle.acsub.specs.declared.mask.MaskError.{MaskError}
+use Rattle.acsub.specs.declared.mask.MaskError.TheVariants as masking
+use Rattle.acsub.specs.declared.mask.MaskRefusal.{MaskRefusal}
+use Rattle.acsub.specs.declared.mask.MaskRefusal.TheVariants as refusals
 use Rattle.acsub.specs.declared.tool.Fault.{Fault}
 use Rattle.acsub.specs.declared.tool.Fault.TheVariants as faults
 
@@ -30,11 +35,20 @@ run_text errors.WriteZero = codes "write took no byte"
 run_text errors.Memory = codes "out of memory"
 run_text errors.Position = codes "input too long"
 
+-- the two hex digits of a byte
+abbrev pub hex_of : ℕ → List ℕ
+hex_of byte = radix_digits 16 false (byte / 16) ++ radix_digits 16 false (byte % 16)
+
+abbrev pub refusal_text : MaskRefusal → List ℕ
+refusal_text refusals.Empty = codes "a pattern is empty"
+refusal_text (refusals.Occurs byte) = codes "byte " ++ hex_of byte ++ codes " occurs in a pattern"
+
 -- the message of a fault, after the program's name
 abbrev pub fault_text : Fault → List ℕ
 fault_text faults.Words = codes "bad words"
 fault_text (faults.Pairs e) = codes "setting: " ++ (codes "byte " ++ decimal (twice_of e) ++ codes " is named twice")
 fault_text faults.RuleFile = codes "rules: file cannot be read"
+fault_text (faults.Mask refusal) = codes "mask: " ++ refusal_text refusal
 fault_text (faults.Run e) = run_text e
 fault_text faults.Flush = codes "flush failed"
 
@@ -53,6 +67,7 @@ abbrev pub status_of : Fault → ℕ
 status_of faults.Words = 2
 status_of (faults.Pairs e) = 2
 status_of faults.RuleFile = 3
+status_of (faults.Mask refusal) = 4
 status_of (faults.Run e) = run_status e
 status_of faults.Flush = 6
 
@@ -63,6 +78,11 @@ line_of fault = codes "acsub: " ++ fault_text fault ++ codes "\n"
 -- If the write succeeded, the contents of a writer in memory grew by the fault's line.
 abbrev pub WritesLine : {E F : Type 0} → (E → Option (List ℕ)) → E → E → Fault → Result (Unit {0}) F → Type 0
 WritesLine contents before after fault result = OnOk result (Appends (contents before) (contents after) (line_of fault))
+
+-- the fault for a run that masks and stopped
+abbrev pub masking_fault : MaskError → Fault
+masking_fault (masking.Refused refusal) = faults.Mask refusal
+masking_fault (masking.Run e) = faults.Run e
 
 -- the exit status for an outcome
 abbrev pub exit_of : Result (Unit {0}) Fault → ℕ

@@ -1,15 +1,17 @@
 //! The command line of `acsub`: its words, and the settings that they ask for.
 //!
-//! `acsub MODE RULES [--text] [--stream] [--kind K] [--fold] [--pairs HEX] [--engine E] [--no-prefilter] [--dense-depth N] [--no-byte-classes]`
+//! `acsub MODE RULES [--text] [--stream] [--with HEX] [--kind K] [--fold] [--pairs HEX] [--engine E] [--no-prefilter]
+//! [--dense-depth N] [--no-byte-classes]`
 //!
 //! clap splits the words, names the values that an argument takes and writes the help; what a value means is said here. The
 //! command stands as data in `specs/Args/Command.antt`. So the contract of `read_words` says of all words what comes of them. It goes
 //! by clap's own account of which words such a command takes, and which value each argument then has.
-ghost use Rattle.std.specs.Prelude.{◌≡◌, ◌<◌, List, Some, IfOk, MatchResult, false, map, option_map, string_bytes};
+ghost use Rattle.std.specs.Prelude.{◌≡◌, ◌<◌, ℕ, List, [], ◌∷◌, Some, IfOk, MatchResult, false, map, option_map, string_bytes};
 ghost use Rattle.clap.specs.Words.{first_of, rule_of};
 ghost use Rattle.acsub.specs.Args.Command.{AddsEngine, AddsMatching, IsCommand, Shows, choice, flag, option, placed};
-ghost use Rattle.acsub.specs.Args.Words.{AreTwoByTwo, IsPairedBy, IsTyped, IsWordsFault, Misspells, Parses, Reads, ReadsMatches, SpellsPairs, Unpairs, rows_in};
-ghost use Rattle.acsub.specs.Args.Words.{engine_named, engine_of, hex_fault, is_given, kind_named, match_kind_of, mode_named, mode_of};
+ghost use Rattle.ac_input.specs.Rules.{Spells};
+ghost use Rattle.acsub.specs.Args.Words.{AreTwoByTwo, IsMaskedBy, IsPairedBy, IsTyped, IsWordsFault, Misspells, Parses, Reads, ReadsMatches, SpellsPairs, Unmasks, Unpairs, rows_in};
+ghost use Rattle.acsub.specs.Args.Words.{engine_named, engine_of, hex_fault, is_given, is_masking, kind_named, match_kind_of, mode_named, mode_of};
 
 pub mod settings;
 mod version;
@@ -25,7 +27,7 @@ use clap::{Arg, ArgAction, ArgMatches, Command};
 use hex::FromHexError;
 use std::alloc::{AllocError, Global};
 
-static MODES: [&str; 3] = ["replace", "list", "overlap"];
+static MODES: [&str; 4] = ["replace", "list", "overlap", "mask"];
 
 static KINDS: [&str; 3] = ["standard", "leftmost-first", "leftmost-longest"];
 
@@ -50,6 +52,7 @@ Modes:
   replace  The input, with each match replaced
   list     A line 'number start end' for each match: pattern and places from 0, in bytes
   overlap  Such a line for each occurrence, overlapping ones too; needs the standard kind
+  mask     The input, with each byte that lies in an occurrence replaced by '*'; needs the standard kind
 
 Kinds:
   standard          The match that ends first
@@ -66,8 +69,8 @@ Example:
   echo 'The fox ran.' | acsub replace words.tsv --text    # The sloth ran.
 
 Status:
-  0 done, 2 words or settings, 3 the rule file, 4 a limit of a build, 5 a read failed,
-  6 a write or the flush failed, 7 out of memory, 8 the input is too long
+  0 done, 2 words or settings, 3 the rule file, 4 a limit of a build or a mask that a pattern has,
+  5 a read failed, 6 a write or the flush failed, 7 out of memory, 8 the input is too long
 ";
 
 /// What a command line asks for.
@@ -76,8 +79,10 @@ pub struct Words<'a> {
     pub settings: Settings,
     /// Whether the rule file is of plain text, and not of hex.
     pub text: bool,
-    /// Whether the text is asked for while the input is read, under every kind.
+    /// Whether the text is asked for while the input is read, under every kind. A mask is always written so.
     pub stream: bool,
+    /// The byte that masks, in mode `mask`. The settings are then those of a list of all that overlap.
+    pub mask: Option<u8>,
     /// The path of the rule file.
     pub rules: &'a str,
 }
@@ -108,7 +113,7 @@ impl From<AllocError> for WordsFault {
 /// Reads the words of the command line, of which the first is the program's name.
 ///
 /// A number takes a `+` before its digits, as Rust's integers do. `--pairs` beside `--fold` is bad, and so are pairs that are
-/// none; whether pairs name a byte twice is looked at last.
+/// none, `--with` in another mode than `mask`, and a mask that is no byte; whether pairs name a byte twice is looked at last.
 pub fn read_words<'a>(alloc: Global, words: &'a [String]) -> Result<Words<'a>, WordsFault>
     ensures { Reads (map string_bytes words.entry.now) result }
 {
@@ -203,7 +208,7 @@ fn command<'a>(alloc: Global) -> Result<Command<'a>, AllocError>
 {
     let command = Command::new(alloc, "acsub")
         .version(VERSION)
-        .about("Replaces, or lists, what the patterns of a rule file match in standard input")
+        .about("Replaces, masks or lists what the patterns of a rule file match in standard input")
         .after_help(AFTER_HELP)
         .after_long_help(AFTER_LONG_HELP)
         .arg(placed(alloc, "mode", "MODE", "What to write").value_parser(MODES.as_slice()))?
@@ -217,6 +222,12 @@ fn command<'a>(alloc: Global) -> Result<Command<'a>, AllocError>
             alloc,
             "stream",
             "Write while reading under every kind and mode, where that can be",
+        ))?
+        .arg(option(
+            alloc,
+            "with",
+            "HEX",
+            "Mask with this byte, two hex digits [default: 2a, which is *]",
         ))?;
     with_engine(alloc, with_matching(alloc, command)?)
 }
@@ -280,6 +291,7 @@ fn asked_for<'a>(alloc: Global, matches: &ArgMatches<'a>) -> Result<Words<'a>, W
     requires { IsTyped (rows_in matches.now) }
     ensures { ReadsMatches (rows_in matches.now) result }
 {
+    let mask = mask_of(matches)?;
     let settings = Settings {
         mode: mode_of(matches).unwrap(),
         kind: match_kind_of(matches).unwrap(),
@@ -293,6 +305,7 @@ fn asked_for<'a>(alloc: Global, matches: &ArgMatches<'a>) -> Result<Words<'a>, W
         settings,
         text: is_given(matches, "text"),
         stream: is_given(matches, "stream"),
+        mask,
         rules: text_of(matches, "rules").unwrap(),
     })
 }
@@ -328,7 +341,7 @@ fn mode_named(word: &str) -> Option<Mode>
     match word {
         "replace" => Some(Mode::Replace),
         "list" => Some(Mode::List),
-        "overlap" => Some(Mode::Overlap),
+        "overlap" | "mask" => Some(Mode::Overlap),
         _ => None,
     }
 }
@@ -364,6 +377,40 @@ fn is_given(matches: &ArgMatches<'_>, id: &str) -> bool
     match text_of(matches, id) {
         Some(text) => text == "true",
         None => false,
+    }
+}
+
+// The byte that masks, if the mode asks for one.
+fn mask_of(matches: &ArgMatches<'_>) -> Result<Option<u8>, WordsFault>
+    ensures { MatchResult result (IsMaskedBy (rows_in matches.now)) (Unmasks (rows_in matches.now)) }
+{
+    match (is_masking(matches), text_of(matches, "with")) {
+        (false, None) => Ok(None),
+        (true, None) => Ok(Some(b'*')),
+        (false, Some(_)) => Err(WordsFault::Bad),
+        (true, Some(hex)) => Ok(Some(byte_of(hex)?)),
+    }
+}
+
+// Whether the mode is `mask`.
+fn is_masking(matches: &ArgMatches<'_>) -> bool
+    ensures { result ≡ is_masking (rows_in matches.now) }
+{
+    match text_of(matches, "mode") {
+        Some(text) => text == "mask",
+        None => false,
+    }
+}
+
+// The byte that hex spells.
+fn byte_of(hex: &str) -> Result<u8, WordsFault>
+    ensures { MatchResult result (λ byte. Spells hex.now (byte ∷ []))
+        (λ fault. (fault ≡ WordsFault.Bad) × ((byte : ℕ) → ¬ Spells hex.now (byte ∷ []))) }
+{
+    let mut byte = [0u8; 1];
+    match hex::decode_to_slice(hex.as_bytes(), &mut byte) {
+        Ok(()) => Ok(byte[0]),
+        Err(_) => Err(WordsFault::Bad),
     }
 }
 

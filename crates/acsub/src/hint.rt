@@ -30,7 +30,7 @@ fn hint_for<F: Files>(
     }
 }
 
-/// The reason for which clap refuses the words; where it takes them, the value of `--pairs` is bad.
+/// The reason for which clap refuses the words; where it takes them, the value of `--pairs` or of `--with` is bad.
 fn hint_for_words(alloc: Global, words: &[String]) -> Result<Option<String>, AllocError> {
     match words_refused(alloc, words) {
         Some(error) => {
@@ -38,8 +38,9 @@ fn hint_for_words(alloc: Global, words: &[String]) -> Result<Option<String>, All
             Ok(Some(on_one_line(alloc, reason_of(text.as_str()))?))
         }
         None => {
-            let pairs = "--pairs takes four hex digits a pair, and no --fold beside it";
-            Ok(Some(String::from_str(alloc, pairs)?))
+            let values =
+                "--pairs takes four hex digits a pair, and no --fold beside it; --with takes two, in mode mask";
+            Ok(Some(String::from_str(alloc, values)?))
         }
     }
 }

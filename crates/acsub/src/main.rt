@@ -1,8 +1,8 @@
-//! `acsub` rewrites or lists what it finds in a stream.
+//! `acsub` rewrites, masks or lists what it finds in a stream.
 //!
-//! It reads rules, each a pattern and its replacement, and an input. It writes the input with each match replaced, or a line for
-//! each match, or a line for each occurrence. Definitions alone fix that text: the mode, the kind of match and the pairing of
-//! bytes, and nothing else.
+//! It reads rules, each a pattern and its replacement, and an input. It writes the input with each match replaced, or with each
+//! byte masked that lies in an occurrence, or a line for each match, or a line for each occurrence. Definitions alone fix that text:
+//! the mode, the kind of match, the pairing of bytes and the mask, and nothing else.
 #![tactic(auto)]
 
 mod args;
@@ -10,6 +10,7 @@ mod error;
 mod hint;
 mod input;
 mod line;
+mod mask;
 mod matches;
 mod prepared;
 mod rewrite;

@@ -167,7 +167,11 @@ fn finder_for(alloc: Global, settings: &Settings, rules: &Rules) -> Result<Finde
 }
 
 /// An automaton for the rules' patterns, by settings that ask for one.
-fn automaton_for(alloc: Global, settings: &Settings, rules: &Rules) -> Result<AhoCorasick, RunError>
+pub(crate) fn automaton_for(
+    alloc: Global,
+    settings: &Settings,
+    rules: &Rules,
+) -> Result<AhoCorasick, RunError>
     requires { settings.now.engine ≢ Packed }
     ensures serves { IfOk result (IsServing settings.now rules.now) }
     ensures fails { IfErr result (FailsToBuild settings.now rules.now) }

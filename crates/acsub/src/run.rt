@@ -190,7 +190,7 @@ pub fn runs_write_alike()
 {}
 
 /// The error of a run that has no rules.
-fn unread(error: RuleError) -> RunError
+pub(crate) fn unread(error: RuleError) -> RunError
     ensures { result ≡ not_read error }
 {
     match error {

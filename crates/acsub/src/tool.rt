@@ -5,14 +5,19 @@
 //!
 //! A fault is reported by one line on the error stream, and by the status. Faults are found in this order: words, rule file, run,
 //! flush. After a fault of the run the writer is still flushed, and the fault of the run is the one that is reported.
-ghost use Rattle.std.specs.Prelude.{◌≡◌, false, map, string_bytes};
+ghost use Rattle.std.specs.Prelude.{◌≡◌, ◌↔◌, ℕ, Err, false, map, string_bytes};
 ghost use Rattle.std.specs.IoError.{error_kind};
 ghost use Rattle.std.specs.Process.{exit_status};
-ghost use Rattle.acsub.specs.Outcome.{AnswersHelp, AnswersTool, Collects, EndsProgram, EndsTool, Finishes, ReadsFile, WritesText};
+ghost use Rattle.acsub.specs.Outcome.{AnswersHelp, AnswersTool, Collects, EndsProgram, EndsTool, Finishes, RanAsked, ReadsFile, WritesText};
+ghost use Rattle.acsub.specs.Rules.File.{grammar_of};
+ghost use Rattle.acsub.specs.declared.error.RunError.TheVariants.{Rule};
+ghost use Rattle.acsub.specs.declared.rules.RuleError.TheVariants.{Line};
+ghost use Rattle.acsub.specs.declared.tool.Fault.TheVariants.{Run};
 ghost use Rattle.acsub.specs.Tool.{IsFaultOf, WritesLine, status_of};
 
-use crate::args::{WordsFault, read_words};
+use crate::args::{Words, WordsFault, read_words};
 use crate::error::RunError;
+use crate::mask::{MaskError, MaskRefusal, run_mask_in};
 use crate::run::{Request, run_in};
 use crate::stream::told;
 use ac_automaton::watched::{Watched, write_whole};
@@ -34,6 +39,8 @@ pub enum Fault {
     Pairs(PairingError),
     /// The rule file cannot be read.
     RuleFile,
+    /// The rules can't be masked by.
+    Mask(MaskRefusal),
     /// The run stopped.
     Run(RunError),
     /// What was written cannot be flushed.
@@ -48,6 +55,7 @@ impl Fault {
         match self {
             Fault::Words | Fault::Pairs(_) => 2,
             Fault::RuleFile => 3,
+            Fault::Mask(_) => 4,
             Fault::Run(RunError::Rule(_)) => 3,
             Fault::Run(RunError::Setting(_)) => 2,
             Fault::Run(RunError::Build(_)) => 4,
@@ -72,8 +80,32 @@ impl fmt::Display for Fault {
             Fault::Words => write!(f, "bad words"),
             Fault::Pairs(error) => write!(f, "setting: {error}"),
             Fault::RuleFile => write!(f, "rules: file cannot be read"),
+            Fault::Mask(refusal) => write!(f, "mask: {refusal}"),
             Fault::Run(error) => write!(f, "{error}"),
             Fault::Flush => write!(f, "flush failed"),
+        }
+    }
+}
+
+impl From<RunError> for Fault {
+    ghost use Rattle.acsub.specs.declared.tool.Fault.TheVariants.{Run};
+
+    ghost from_gives = { λ error fault. fault ≡ Run error };
+
+    fn from(error: RunError) -> Fault {
+        Fault::Run(error)
+    }
+}
+
+impl From<MaskError> for Fault {
+    ghost use Rattle.acsub.specs.Tool.{masking_fault};
+
+    ghost from_gives = { λ error fault. fault ≡ masking_fault error };
+
+    fn from(error: MaskError) -> Fault {
+        match error {
+            MaskError::Refused(refusal) => Fault::Mask(refusal),
+            MaskError::Run(error) => Fault::Run(error),
         }
     }
 }
@@ -174,19 +206,41 @@ fn work<F: Files, R: Read, W: Write>(
     match read_words(alloc, words) {
         Ok(asked) => {
             let rules = read_file(rt, alloc, asked.rules)?;
-            let mut steps = Steps::new();
-            let wanted = Request {
-                settings: asked.settings,
-                text: asked.text,
-                stream: asked.stream,
-            };
-            let ran = run_in(alloc, wanted, rules.as_slice(), reader, writer, &mut steps);
+            let ran = serve(alloc, &asked, rules.as_slice(), reader, writer);
             finish(ran, writer)
         }
         Err(WordsFault::Help(help)) => show_help(alloc, &help, writer),
         Err(WordsFault::Bad) => Err(Fault::Words),
         Err(WordsFault::Memory) => Err(Fault::Run(RunError::Memory)),
         Err(WordsFault::Pairing(error)) => Err(Fault::Pairs(error)),
+    }
+}
+
+/// The run that the words ask for, by the bytes of the rule file.
+fn serve<R: Read, W: Write>(
+    alloc: Global,
+    asked: &Words<'_>,
+    file: &[u8],
+    reader: &mut Watched<R>,
+    writer: &mut Watched<W>,
+) -> Result<(), Fault>
+    requires { reader.old.ended ≡ false }
+    ensures ran { RanAsked R.remaining W.contents asked.now (reader.old, writer.old) (reader.new, writer.new)
+        file.now result }
+    ensures fault { (n : ℕ) → (result ≡ Err (Run (Rule (Line n))))
+        ↔ (grammar_of asked.now.text).bad file.now n }
+{
+    let wanted = Request {
+        settings: asked.settings,
+        text: asked.text,
+        stream: asked.stream,
+    };
+    match asked.mask {
+        None => {
+            let mut steps = Steps::new();
+            Ok(run_in(alloc, wanted, file, reader, writer, &mut steps)?)
+        }
+        Some(mask) => Ok(run_mask_in(alloc, wanted, mask, file, reader, writer)?),
     }
 }
 
@@ -201,8 +255,10 @@ fn show_help<W: Write>(
     let Ok(text) = help.to_string(alloc) else {
         return Err(Fault::Run(RunError::Memory));
     };
-    let shown = write_text(text.as_str(), writer);
-    finish(shown, writer)
+    match write_text(text.as_str(), writer) {
+        Ok(()) => finish(Ok(()), writer),
+        Err(error) => finish(Err(Fault::Run(error)), writer),
+    }
 }
 
 /// Writes a whole text.
@@ -213,14 +269,11 @@ fn write_text<W: Write>(text: &str, writer: &mut Watched<W>) -> Result<(), RunEr
 }
 
 /// Flushes the writer after a run. A fault of the run is reported before one of the flush.
-fn finish<W: Write>(ran: Result<(), RunError>, writer: &mut Watched<W>) -> Result<(), Fault>
+fn finish<W: Write>(ran: Result<(), Fault>, writer: &mut Watched<W>) -> Result<(), Fault>
     ensures { Finishes W.contents ran writer.old writer.new result }
 {
     let flushed = writer.flush();
-    match ran {
-        Ok(()) => {}
-        Err(error) => return Err(Fault::Run(error)),
-    }
+    ran?;
     match flushed {
         Ok(()) => Ok(()),
         Err(_) => Err(Fault::Flush),

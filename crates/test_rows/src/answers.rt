@@ -109,3 +109,21 @@ pub fn by_plain(
             .collect(alloc)?,
     )
 }
+
+/// The text as the plain program masks it.
+pub fn masked_by_plain(
+    alloc: Global,
+    asked: Asked<'_>,
+    text: &[u8],
+    mask: u8,
+) -> Result<Vec<u8>, Fail> {
+    let whole = Input::new(text);
+    let plain = Naive::new(
+        asked.patterns,
+        pairing(asked.letters)?,
+        text,
+        whole.get_span(),
+        whole.get_anchored(),
+    );
+    Ok(plain.masked(alloc, mask)?)
+}

@@ -16,6 +16,8 @@ mod front;
 #[cfg(test)]
 mod listed;
 #[cfg(test)]
+mod masks;
+#[cfg(test)]
 mod replacement;
 #[cfg(test)]
 mod stream_memory;

@@ -36,6 +36,7 @@ pub const DADO_NO_STREAM: dado_status = 21;
 pub const DADO_FINISHED: dado_status = 22;
 pub const DADO_TOO_MANY_BYTES: dado_status = 23;
 pub const DADO_NO_REPLACER: dado_status = 24;
+pub const DADO_NO_MASKER: dado_status = 25;
 
 pub const DADO_STANDARD: u32 = 0;
 pub const DADO_LEFTMOST_FIRST: u32 = 1;
@@ -170,6 +171,13 @@ pub struct dado_replacer {
     _lent: PhantomData<(*mut u8, PhantomPinned)>,
 }
 
+/// A masking of a text that comes in pieces, which is only pointed to.
+#[repr(C)]
+pub struct dado_masker {
+    _bytes: [u8; 0],
+    _lent: PhantomData<(*mut u8, PhantomPinned)>,
+}
+
 extern "C" {
     pub fn dado_settings_default() -> dado_settings;
     pub fn dado_build(
@@ -252,6 +260,12 @@ extern "C" {
     ) -> dado_status;
     pub fn dado_replacer_finish(replacer: *mut *mut dado_replacer) -> dado_status;
     pub fn dado_replacer_free(replacer: *mut *mut dado_replacer);
+    pub fn dado_mask(ac: *const dado_automaton, text: *mut u8, len: usize, byte: u8) -> dado_status;
+    pub fn dado_masker_new(ac: *const dado_automaton, byte: u8, masker: *mut *mut dado_masker) -> dado_status;
+    pub fn dado_masker_push(masker: *mut *mut dado_masker, piece: *const u8, len: usize, taken: *mut usize) -> dado_status;
+    pub fn dado_masker_ready(masker: *mut *mut dado_masker, slice: *mut dado_bytes) -> dado_status;
+    pub fn dado_masker_finish(masker: *mut *mut dado_masker) -> dado_status;
+    pub fn dado_masker_free(masker: *mut *mut dado_masker);
     pub fn dado_pattern_len(ac: *const dado_automaton, pattern: u32, len: *mut usize) -> dado_status;
     pub fn dado_pattern_count(ac: *const dado_automaton) -> usize;
     pub fn dado_shortest(ac: *const dado_automaton) -> usize;

@@ -204,7 +204,7 @@ impl AhoCorasick {
     }
 
     /// An error where the automaton can't list occurrences by searches that are anchored so.
-    fn lists(&self, anchored: Anchored) -> Result<(), MatchError> {
+    pub(crate) fn lists(&self, anchored: Anchored) -> Result<(), MatchError> {
         self.serves(anchored)?;
         match self.match_kind {
             MatchKind::Standard => Ok(()),

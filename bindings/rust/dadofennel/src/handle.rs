@@ -140,6 +140,25 @@ impl Handle {
         }
     }
 
+    /// Masks bytes where they lie.
+    pub(crate) fn mask(&self, bytes: &mut [u8], mask: u8) -> Result<(), sys::dado_status> {
+        // SAFETY: the automaton and the bytes are lent.
+        match unsafe { sys::dado_mask(self.0.as_ptr(), bytes.as_mut_ptr(), bytes.len(), mask) } {
+            sys::DADO_OK => Ok(()),
+            other => Err(other),
+        }
+    }
+
+    /// A masking of a text that comes in pieces, which owns the automaton too.
+    pub(crate) fn masker(&self, mask: u8) -> Result<Masker, sys::dado_status> {
+        let mut masker = Masker(ptr::null_mut());
+        // SAFETY: the automaton is lent; the masker is null.
+        match unsafe { sys::dado_masker_new(self.0.as_ptr(), mask, &mut masker.0) } {
+            sys::DADO_OK => Ok(masker),
+            other => Err(other),
+        }
+    }
+
     pub(crate) fn engine(&self) -> u32 {
         // SAFETY: the automaton is lent.
         unsafe { sys::dado_engine(self.0.as_ptr()) }
@@ -222,6 +241,47 @@ impl Pieces {
     pub(crate) fn finish(&mut self) {
         // SAFETY: the stream is lent.
         unsafe { sys::dado_stream_finish(&mut self.0) };
+    }
+}
+
+/// A masking of the library, of a text that comes in pieces. It is not null, once it was made.
+#[derive(Debug)]
+pub(crate) struct Masker(*mut sys::dado_masker);
+
+// SAFETY: a masker has all its state to itself but the automaton, which threads may share; any thread may go on with it or free it.
+unsafe impl Send for Masker {}
+// SAFETY: each call takes it mutably.
+unsafe impl Sync for Masker {}
+
+impl Drop for Masker {
+    fn drop(&mut self) {
+        // SAFETY: it is null or was made by `dado_masker_new`, and nothing else frees it.
+        unsafe { sys::dado_masker_free(&mut self.0) }
+    }
+}
+
+impl Masker {
+    /// Takes the first bytes of a piece; how many these are.
+    pub(crate) fn push(&mut self, piece: &[u8]) -> Result<usize, sys::dado_status> {
+        let mut taken = 0;
+        // SAFETY: the masker and the piece are lent.
+        let status = unsafe { sys::dado_masker_push(&mut self.0, piece.as_ptr(), piece.len(), &mut taken) };
+        counted(status, taken)
+    }
+
+    /// The masked bytes that are ready.
+    pub(crate) fn ready(&mut self) -> &[u8] {
+        let mut ready = lent(&[]);
+        // SAFETY: the masker is lent.
+        unsafe { sys::dado_masker_ready(&mut self.0, &mut ready) };
+        // SAFETY: so many bytes lie there until the next push, which needs the masker mutably.
+        unsafe { slice::from_raw_parts(ready.at, ready.len) }
+    }
+
+    /// Nothing more comes.
+    pub(crate) fn finish(&mut self) {
+        // SAFETY: the masker is lent.
+        unsafe { sys::dado_masker_finish(&mut self.0) };
     }
 }
 

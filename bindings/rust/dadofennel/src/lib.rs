@@ -38,6 +38,7 @@ mod error;
 mod handle;
 mod id;
 mod iter;
+mod mask;
 mod replace;
 mod search;
 mod stream;

@@ -14,7 +14,7 @@ use crate::iter::{found, Batch};
 use crate::{AhoCorasick, Match, MatchError, MatchKind};
 
 /// How many bytes are read at once: as many as a stream mostly takes at once.
-const READ_AT_ONCE: usize = 56 * 1024;
+pub(crate) const READ_AT_ONCE: usize = 56 * 1024;
 
 /// Streams. They need the standard kind, patterns that are not empty, and an automaton that wasn't built for anchored searches
 /// alone. Calls without `try_` panic otherwise, and all of them where memory runs out.

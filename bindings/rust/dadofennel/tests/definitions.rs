@@ -269,6 +269,33 @@ fn streams() {
     });
 }
 
+/// In memory and over a stream, beside the occurrences.
+#[test]
+fn masks() {
+    cases(|rng, case| {
+        let (text, mask) = (case.text.as_bytes(), rng.one(b"*a\xff"));
+        let mut wanted = text.to_vec();
+        for found in case.occurrences(0, text.len(), false) {
+            wanted[found.range()].fill(mask);
+        }
+        let can = case.kind == MatchKind::Standard && case.start_kind != StartKind::Anchored;
+        let mut bytes = text.to_vec();
+        assert_eq!(can, case.ac.try_mask(&mut bytes, mask).is_ok());
+        assert_eq!(if can { &wanted } else { text }, &bytes[..], "{}", case.shown());
+        let size = rng.one(&[1, 2, 7, 100]);
+        let reader = |fails_after| Pieces { text, size, fails_after };
+        let streams = can && !case.patterns.contains(&String::new());
+        let mut written = vec![];
+        assert_eq!(streams, case.ac.try_stream_mask(reader(0), &mut written, mask).is_ok());
+        assert_eq!(if streams { &wanted[..] } else { &[] }, &written[..], "{}", case.shown());
+        if streams {
+            let mut beginning = vec![];
+            assert_eq!(!text.is_empty(), case.ac.stream_mask(reader(2), &mut beginning, mask).is_err());
+            assert!(wanted.starts_with(&beginning), "{}", case.shown());
+        }
+    });
+}
+
 /// A stream of many buffers, and matches across their ends.
 #[test]
 fn long_streams() {
@@ -285,6 +312,9 @@ fn long_streams() {
             let mut written = vec![];
             ac.stream_replace_all(reader(), &mut written, &[""]).unwrap();
             assert!(text.replace(pattern, "").as_bytes() == written);
+            let mut masked = vec![];
+            ac.stream_mask(reader(), &mut masked, b'*').unwrap();
+            assert!(text.replace(pattern, &"*".repeat(pattern.len())).as_bytes() == masked);
         }
     }
 }

@@ -16,7 +16,7 @@ use Rattle.ac_automaton.specs.Stream.{CanBeCounted, CanStream, Picks, room_of}
 use Rattle.ac_automaton.specs.Stream.Answer.{WroteToFailedWrite}
 use Rattle.ac_automaton.specs.Stream.Devices.Moved.{AllFit, AreFilled, HasGiven, HasMoved, HasTaken, Moved, NoneTouched, but_last}
 use Rattle.ac_automaton.specs.Stream.Devices.Watched.{IsOfWrite, NoneRead, WritesWhole}
-use Rattle.ac_automaton.specs.Stream.Mask.{AcceptsMask, CostsMaskStream, HasTakenIn, IsAllMasked, IsMaskCut, IsMaskFront, IsOnMask, MaskCounts, MaskProgress, MasksRead, MasksStream, WritesMasked, finished, fresh_mask, front_of, masked_of, passed_to, ready_of}
+use Rattle.ac_automaton.specs.Stream.Mask.{AcceptsMask, CostsMaskStream, HasTakenIn, IsAllMasked, IsMaskCut, IsMaskFront, IsOnMask, MaskCounts, MaskProgress, MasksRead, MasksStream, WritesMasked, finished_mask, fresh_mask, front_of, masked_of, passed_to, ready_of}
 use Rattle.ac_automaton.specs.Stream.Overlapping.{IsListingRefusal}
 use Rattle.ac_automaton.specs.Stream.Replace.{IsBegun}
 use Rattle.ac_automaton.specs.declared.error.StreamError.{StreamError}
@@ -144,12 +144,12 @@ module _ {R W : Type 0} (remaining : R → Option (List ℕ)) (contents : W → 
 
     -- all was read, and the rest was written
     pub wrote-whole : {r1 : Watched R} {w1 : Watched W} → piece ≡ [] → IsAllMasked t → t.cut ≡ s.cut
-        → HasGiven remaining r r1 (piece ∷ []) 0 → HasTaken contents w w1 (ready_of (finished t)) 0 0
+        → HasGiven remaining r r1 (piece ∷ []) 0 → HasTaken contents w w1 (ready_of (finished_mask t)) 0 0
         → WritesMasked remaining contents b mask r0 r1 w0 w1 (Ok tt)
     wrote-whole {r1} {w1} none all cut given wrote =
         let whole_len = masked-length b mask (passed_to t) in
         let le = on.ordered.0 in
-        let ready : ready_of (finished t) ≡ slice_range (masked_in b mask (passed_to t)) s.cut t.at =
+        let ready : ready_of (finished_mask t) ≡ slice_range (masked_in b mask (passed_to t)) s.cut t.at =
         ap (λ n. slice_range (masked_of t) n t.at) cut
         ∙ ap (λ x. slice_range (masked_in t.built t.mask x) s.cut t.at) (all-front t all)
         ∙ ap (λ c. slice_range (masked_in c t.mask (passed_to t)) s.cut t.at) same-built
@@ -328,7 +328,7 @@ module _ {R W : Type 0} (remaining : R → Option (List ℕ)) (contents : W → 
 
   -- the last write, by its result
   pub wrote-to_end : {n : ℕ} {w1 : Watched W} (bytes : List ℕ) (result : Result (Unit {0}) StreamError)
-      → MasksRead remaining s t r r1 (Ok n) → n ≡ 0 → bytes ≡ ready_of (finished t)
+      → MasksRead remaining s t r r1 (Ok n) → n ≡ 0 → bytes ≡ ready_of (finished_mask t)
       → WritesWhole contents w w1 bytes result → NoneRead w w1
       → WritesMasked remaining contents b mask r0 r1 w0 w1 result
   wrote-to_end {w1 = w1} bytes (Ok done) read none ready wrote reads =

@@ -24,12 +24,12 @@ use Rattle.ac_automaton.specs.Automaton.{Built, IsReadCost, StartTells}
 use Rattle.ac_automaton.specs.Masking.{MasksFrom, masked_in}
 use Rattle.ac_automaton.specs.Stream.{CanBeCounted, NothingIsLive, Picks, room_of}
 use Rattle.ac_automaton.specs.Stream.Devices.Buffer.{Held, IsRollPaid, room_for, rolled}
-use Rattle.ac_automaton.specs.Stream.Mask.{Appends, CutsAfter, FillsMask, HasMadeRoom, HasMasked, HasMaskedAll, HasOutrun, HasTakenIn, IsAllMasked, IsOpenFor, MaskCounts, MasksFront, MasksPushed, MasksRead, TakesPiece, IsMaskCut, IsOnMask, IsStreamMask, IsWithinMaskBudget, MaskProgress, front_of, mask_at, masked_of, passed_to, ready_of}
+use Rattle.ac_automaton.specs.Stream.Mask.{AppendsFront, CutsAfter, FillsMask, HasMadeRoom, HasMasked, HasMaskedAll, HasOutrun, HasTakenIn, IsAllMasked, IsOpenFor, MaskCounts, MasksFront, MasksPushed, MasksRead, TakesPiece, IsMaskCut, IsOnMask, IsStreamMask, IsWithinMaskBudget, MaskProgress, front_of, mask_at, masked_of, passed_to, ready_of}
 use Rattle.ac_automaton.specs.declared.automaton.Automaton.{Ghosts}
 use Rattle.ac_automaton.specs.declared.error.StreamError.{StreamError}
 use Rattle.ac_automaton.specs.declared.error.StreamError.TheVariants.{Config, Read, Write, WriteZero, Memory, Position}
 use Rattle.ac_automaton.specs.declared.stream.devices.watched.Watched.{Watched}
-use Rattle.ac_automaton.specs.declared.stream.mask.StreamMask.TheInside.{Inside}
+use Rattle.ac_automaton.specs.declared.stream.mask.masker.Masker.TheInside.{Inside}
 use Rattle.ac_automaton.proofs.stream.StreamPushLemmas.{as_piece-some}
 use Rattle.ac_automaton.proofs.stream.StreamSearchLemmas.{IsGrown}
 
@@ -412,7 +412,7 @@ module _ {S : Type 0} (A : Ghosts S) (a : S) (s : MaskProgress) (sid : StateID) 
 
   -- what it keeps is right once all is masked
   pub mask-all : {bytes : List ℕ} (new : Held) (next : StateID) (cut : ℕ)
-      → MasksFrom A a s.mask sid (s.at - s.from) old.bytes bytes next → new ≡ record old { bytes = bytes }
+      → MasksFrom (A.built a) (A.Reaches a No) s.mask sid (s.at - s.from) old.bytes bytes next → new ≡ record old { bytes = bytes }
       → s.closed ≡ false → s.out ≤ cut → IsMaskCut s.built.dictionary (passed_to s) cut
       → IsStreamMask (A.Reaches a No) (masked_all s cut taken) next new over
   mask-all {bytes} new next cut masks grown unclosed later is_cut =
@@ -489,7 +489,7 @@ cut-right A a x more sid {cut} {keep} {place} reads long is cuts =
 -- and so it is once all that came is masked
 pub mask-cut : {S : Type 0} (A : Ghosts S) (a : S) (s : MaskProgress) (sid : StateID) (old : Held) (over : Bool)
     → A.built a ≡ s.built → IsStreamMask (A.Reaches a No) s sid old over → {bytes : List ℕ} (next : StateID)
-    {keep place : ℕ} → MasksFrom A a s.mask sid (s.at - s.from) old.bytes bytes next
+    {keep place : ℕ} → MasksFrom (A.built a) (A.Reaches a No) s.mask sid (s.at - s.from) old.bytes bytes next
     → keep ≡ max (longest s.built.dictionary.patterns) 1 → s.closed ≡ false
     → CutsAfter A a next s.cut keep (length (passed_to s)) place
     → (s.cut ≤ place) × IsMaskCut s.built.dictionary (passed_to s) place
@@ -688,7 +688,7 @@ module _ {s mid : MaskProgress} (t : MaskProgress) (made : HasMadeRoom s mid) wh
   fill-stopped remaining before after WriteZero masked few fills = absurd fills
   fill-stopped remaining before after Memory masked few fills = absurd fills
 
-  pub append-stopped : (piece : List ℕ) (error : StreamError) → 0 < length piece → Appends mid t piece (Err error)
+  pub append-stopped : (piece : List ℕ) (error : StreamError) → 0 < length piece → AppendsFront mid t piece (Err error)
       → MasksPushed s t piece (Err error)
   append-stopped piece Position some appends =
       let n = appends.0 in
@@ -703,7 +703,7 @@ module _ {s mid : MaskProgress} (t : MaskProgress) (made : HasMadeRoom s mid) wh
   append-stopped piece Memory some appends = absurd appends
 
   -- a piece came, and was masked
-  pub append-masked : {last : MaskProgress} (piece : List ℕ) {n : ℕ} → 0 < n → Appends mid t piece (Ok n)
+  pub append-masked : {last : MaskProgress} (piece : List ℕ) {n : ℕ} → 0 < n → AppendsFront mid t piece (Ok n)
       → HasMaskedAll t last → MasksPushed s last piece (Ok n)
   append-masked {last} piece {n} any appends all =
       let front = appends.1 in

@@ -201,14 +201,14 @@ MasksPushed s t piece (Err Position) = (n : ℕ) × HasOutrun s t (as_piece (tak
 MasksPushed s t piece (Err other) = ⊥
 
 -- the first bytes of a piece, of which there are some, came
-abbrev pub Appends : MaskProgress → MaskProgress → List ℕ → Result ℕ StreamError → Type 0
-Appends s t piece (Ok n) = TakesPiece s t (take n piece) × MasksFront t piece n × CanBeCounted (passed_to t)
-Appends s t piece (Err Position) = (n : ℕ) × (0 < n) × TakesPiece s t (take n piece) × ¬ CanBeCounted (passed_to t)
-Appends s t piece (Err other) = ⊥
+abbrev pub AppendsFront : MaskProgress → MaskProgress → List ℕ → Result ℕ StreamError → Type 0
+AppendsFront s t piece (Ok n) = TakesPiece s t (take n piece) × MasksFront t piece n × CanBeCounted (passed_to t)
+AppendsFront s t piece (Err Position) = (n : ℕ) × (0 < n) × TakesPiece s t (take n piece) × ¬ CanBeCounted (passed_to t)
+AppendsFront s t piece (Err other) = ⊥
 
 -- a masking that was told that nothing more comes: the rest is ready
-abbrev pub finished : MaskProgress → MaskProgress
-finished s = record s { closed = true; out = s.cut; cut = s.at }
+abbrev pub finished_mask : MaskProgress → MaskProgress
+finished_mask s = record s { closed = true; out = s.cut; cut = s.at }
 
 -- ---- what it keeps
 

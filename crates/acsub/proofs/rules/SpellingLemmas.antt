@@ -36,7 +36,7 @@ IsDigit-from_test c p =
 -- ---- a text of digits
 
 -- a text is twice as long as what it spells
-Spells-length : (text bytes : List ℕ) → Spells text bytes → length text ≡ 2 * length bytes
+pub Spells-length : (text bytes : List ℕ) → Spells text bytes → length text ≡ 2 * length bytes
 Spells-length [] [] p = refl
 Spells-length [] (x ∷ bytes) p = absurd p
 Spells-length (h ∷ []) [] p = absurd p

@@ -139,7 +139,7 @@ not-true : ¬ IsTrue false
 not-true is = cc
 
 -- a search of at most n bytes is within the plan's look-ups for n, if its automaton is deterministic where a DFA serves
-looks-for : (plan : Plan) (deterministic : Bool) (looks less n : ℕ) (before after : Steps)
+pub looks-for : (plan : Plan) (deterministic : Bool) (looks less n : ℕ) (before after : Steps)
     → (IsServedByDfa plan.settings plan.rules → IsTrue deterministic) → less ≤ n
     → looks ≤ lookups_per_byte deterministic * less → after.looked.value ≤ before.looked.value + looks
     → AreLooksFor plan n before after
@@ -149,7 +149,7 @@ looks-for plan false looks less n before after serves le paid counted =
     record { most = omega arith; by_dfa = λ by_dfa. absurd (not-true (serves by_dfa)) }
 
 -- no look-up was counted
-no-looks : (plan : Plan) (n : ℕ) (steps : Steps) → AreLooksFor plan n steps steps
+pub no-looks : (plan : Plan) (n : ℕ) (steps : Steps) → AreLooksFor plan n steps steps
 no-looks plan n steps = record { most = omega arith; by_dfa = λ by_dfa. omega arith }
 
 -- nothing was counted

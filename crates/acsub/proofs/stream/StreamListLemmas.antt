@@ -60,7 +60,7 @@ lists-nothing q remaining contents b old = (
 )
 
 -- a supported search isn't refused
-can-list : (b : Built) (supports : Anchored → Type 0) (refusal : MatchErrorKind) → CanStream OnlyStandard b supports
+pub can-list : (b : Built) (supports : Anchored → Type 0) (refusal : MatchErrorKind) → CanStream OnlyStandard b supports
     → IsListingConfigRefusal b supports refusal → ⊥
 can-list b supports refusal can (inl (inl start)) = start.0 can.0
 can-list b supports refusal can (inl (inr other)) = other.1 can.1

@@ -10,7 +10,7 @@ use Rattle.clap.specs.declared.builder.value_parser.ValueParser.TheVariants as p
 
 -- the values that three of the arguments take
 abbrev pub mode_names : List Text
-mode_names = codes "replace" ∷ codes "list" ∷ codes "overlap" ∷ []
+mode_names = codes "replace" ∷ codes "list" ∷ codes "overlap" ∷ codes "mask" ∷ []
 
 abbrev pub kind_names : List Text
 kind_names = codes "standard" ∷ codes "leftmost-first" ∷ codes "leftmost-longest" ∷ []
@@ -94,11 +94,12 @@ command_with lists =
     with_engine lists.engines
     (with_matching lists.kinds
     (with_rule
+    (with_rule
     (with_rule (with_rule (with_rule versioned (mode_rule lists.modes)) (placed (codes "rules"))) (flag (codes "text")))
-    (flag (codes "stream"))))
+    (flag (codes "stream"))) (option (codes "with"))))
 
--- acsub MODE RULES [--text] [--stream] [--kind K] [--fold] [--pairs HEX] [--engine E] [--no-prefilter] [--dense-depth
--- N] [--no-byte-classes]
+-- acsub MODE RULES [--text] [--stream] [--with HEX] [--kind K] [--fold] [--pairs HEX] [--engine E] [--no-prefilter]
+-- [--dense-depth N] [--no-byte-classes]
 abbrev pub command : App
 command =
     command_with (record { modes = as_names mode_names; kinds = as_names kind_names; engines = as_names engine_names })

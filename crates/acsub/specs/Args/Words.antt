@@ -1,5 +1,5 @@
 -- What the words of a command line ask for.
-use Rattle.std.specs.Prelude.{◌++◌, ◌<◌, length, ◌≡◌, ◌≢◌, ◌⊎◌, ℕ, Bool, true, false, not, if◌then◌else◌, List, [], Option, Some, None, Result, Ok, Err, codes, option_map, option_and_then, is_some}
+use Rattle.std.specs.Prelude.{◌++◌, ◌∷◌, ◌||◌, ◌<◌, length, ◌≡◌, ◌≢◌, ◌⊎◌, ℕ, Bool, true, false, not, if◌then◌else◌, List, [], Option, Some, None, Result, Ok, Err, codes, option_map, option_and_then, is_some}
 use Rattle.std.specs.Option.{option_map_or}
 use Rattle.std.specs.Str.{bytes_eq}
 use Rattle.std.specs.Str.Parse.{digits_value, without_leading_plus}
@@ -32,7 +32,7 @@ abbrev pub mode_named : Text → Option Mode
 mode_named word =
     if bytes_eq word (codes "replace") then Some mode.Replace
     else (if bytes_eq word (codes "list") then Some mode.List
-    else (if bytes_eq word (codes "overlap") then Some mode.Overlap else None))
+    else (if bytes_eq word (codes "overlap") || bytes_eq word (codes "mask") then Some mode.Overlap else None))
 
 abbrev pub kind_named : Text → Option MatchKind
 kind_named word =
@@ -84,6 +84,32 @@ is_given id rows = option_map_or (λ text. bytes_eq text (codes "true")) (first_
 abbrev pub folds : List Row → Bool
 folds rows = is_given (codes "fold") rows
 
+-- the mode is `mask`
+abbrev pub is_masking : List Row → Bool
+is_masking rows = option_map_or (λ text. bytes_eq text (codes "mask")) (first_of (codes "mode") rows) false
+
+-- ---- the mask, by whether the mode is `mask` and the value of `--with`
+
+-- the mask that is asked for: without `--with`, a star
+abbrev pub MasksAs : Bool → Option Text → Option ℕ → Type 0
+MasksAs false None mask = mask ≡ None
+MasksAs true None mask = mask ≡ Some 42
+MasksAs false (Some hex) mask = ⊥
+MasksAs true (Some hex) mask = (byte : ℕ) × Spells hex (byte ∷ []) × (mask ≡ Some byte)
+
+-- `--with` stands beside another mode, or spells no byte
+abbrev pub MasksBadly : Bool → Option Text → Type 0
+MasksBadly masking None = ⊥
+MasksBadly false (Some hex) = Unit {0}
+MasksBadly true (Some hex) = (byte : ℕ) → ¬ Spells hex (byte ∷ [])
+
+abbrev pub IsMaskedBy : List Row → Option ℕ → Type 0
+IsMaskedBy rows mask = MasksAs (is_masking rows) (first_of (codes "with") rows) mask
+
+-- why the matches give no mask
+abbrev pub Unmasks : List Row → WordsFault → Type 0
+Unmasks rows fault = (fault ≡ Bad) × MasksBadly (is_masking rows) (first_of (codes "with") rows)
+
 -- ---- the pairing, by whether `--fold` is there and the value of `--pairs`
 
 -- this is the table of the pairing that `--fold` or `--pairs` asks for
@@ -130,12 +156,13 @@ Misspells hex (Pairing e) = ⊥
 
 -- ---- the result
 
--- the settings, the rule file's path and form, and whether to stream, are those that the matches give
+-- the settings, the rule file's path and form, whether to stream, and the mask, are those that the matches give
 pub record AsksFor (rows : List Row) (w : Words) : Type 0 where
   pub mode : mode_of rows ≡ Some w.settings.mode
   pub rules : rules_path rows ≡ Some w.rules.now
   pub text : w.text ≡ is_given (codes "text") rows
   pub stream : w.stream ≡ is_given (codes "stream") rows
+  pub mask : IsMaskedBy rows w.mask
   pub kind : match_kind_of rows ≡ Some w.settings.kind
   pub pairing : IsPairedBy rows w.settings.pairing
   pub engine : engine_of rows ≡ Some w.settings.engine
@@ -151,10 +178,16 @@ pub record IsTyped (rows : List Row) : Type 0 where
   pub engine : is_some (engine_of rows) ≡ true
   pub dense_depth : (text : Text) → one_of (codes "dense-depth") rows ≡ Some text → IsUnsignedIn 0 greatest_depth text
 
--- the words that these matches ask for, or the fault in their pairing
+-- why the matches ask for nothing: the mask, or else the pairing
+abbrev pub AsksNothing : List Row → WordsFault → Type 0
+AsksNothing rows fault =
+    Unmasks rows fault
+    ⊎ (¬ MasksBadly (is_masking rows) (first_of (codes "with") rows) × Unpairs rows fault)
+
+-- the words that these matches ask for, or the fault in their mask or pairing
 abbrev pub ReadsMatches : List Row → Result Words WordsFault → Type 0
 ReadsMatches rows (Ok w) = AsksFor rows w
-ReadsMatches rows (Err fault) = Unpairs rows fault
+ReadsMatches rows (Err fault) = AsksNothing rows fault
 
 -- the kind of an error that is a text to show: the help, or the version
 abbrev pub IsShown : ErrorKind → Type 0
@@ -171,9 +204,9 @@ abbrev pub Reads : List Text → Result Words WordsFault → Type 0
 Reads words (Ok w) = (fault_of command words ≡ []) × AsksFor (matches_of command words) w
 Reads words (Err (Help e)) = IsShown (kind_of e) × IsAmong (kind_of e) (fault_of command words)
 Reads words (Err Bad) =
-    IsRefused (fault_of command words) ⊎ ((fault_of command words ≡ []) × Unpairs (matches_of command words) Bad)
+    IsRefused (fault_of command words) ⊎ ((fault_of command words ≡ []) × AsksNothing (matches_of command words) Bad)
 Reads words (Err Memory) = Unit {0}
-Reads words (Err (Pairing e)) = (fault_of command words ≡ []) × Unpairs (matches_of command words) (Pairing e)
+Reads words (Err (Pairing e)) = (fault_of command words ≡ []) × AsksNothing (matches_of command words) (Pairing e)
 
 -- what clap's parser returns for the words
 abbrev pub Parses : List Text → Result ArgMatches WordsFault → Type 0

@@ -16,6 +16,8 @@ enum Asks {
     Text(Told),
     /// The same, where the text is asked for while the input is read.
     Stream(Told),
+    /// For a mask by this byte, by rules that are of hex.
+    Mask(u8),
     /// For nothing: they are bad words.
     Bad,
     /// For a pairing that names this byte twice.
@@ -24,7 +26,7 @@ enum Asks {
     Help,
 }
 
-use Asks::{Bad, Help, Run, Stream, Text, Twice};
+use Asks::{Bad, Help, Mask, Run, Stream, Text, Twice};
 
 /// The words after the program's name.
 struct Row(&'static [&'static str], Asks);
@@ -34,16 +36,35 @@ const LISTING: Told = Told {
     ..PLAIN
 };
 
+const OVERLAPPING: Told = Told {
+    mode: Mode::Overlap,
+    ..PLAIN
+};
+
 const ROWS: &[Row] = &[
     // Each mode, with what is taken where no option stands.
     Row(&["replace", "rules"], Run(PLAIN)),
     Row(&["list", "rules"], Run(LISTING)),
+    Row(&["overlap", "rules"], Run(OVERLAPPING)),
+    Row(&["mask", "rules"], Mask(b'*')),
+    // Another mask, in digits of either case.
+    Row(&["mask", "rules", "--with", "23"], Mask(b'#')),
+    Row(&["--with", "fF", "mask", "rules"], Mask(255)),
+    // No byte: one digit, three, two bytes, nothing, no digits; a mask twice, and one in each other mode.
+    Row(&["mask", "rules", "--with", "2"], Bad),
+    Row(&["mask", "rules", "--with", "232"], Bad),
+    Row(&["mask", "rules", "--with", "2323"], Bad),
+    Row(&["mask", "rules", "--with", ""], Bad),
+    Row(&["mask", "rules", "--with", "zz"], Bad),
+    Row(&["mask", "rules", "--with", "23", "--with", "23"], Bad),
+    Row(&["replace", "rules", "--with", "23"], Bad),
+    Row(&["list", "rules", "--with", "23"], Bad),
+    Row(&["overlap", "rules", "--with", "23"], Bad),
+    // A mask that is no byte comes before a byte that is named twice.
+    Row(&["mask", "rules", "--with", "2", "--pairs", "3030"], Bad),
     Row(
-        &["overlap", "rules"],
-        Run(Told {
-            mode: Mode::Overlap,
-            ..PLAIN
-        }),
+        &["mask", "rules", "--with", "23", "--pairs", "3030"],
+        Twice(48),
     ),
     // Plain text, wherever the word stands; and no value for it.
     Row(&["replace", "rules", "--text"], Text(PLAIN)),
@@ -202,8 +223,11 @@ fn asks_for(rt: &impl Abort, alloc: Global, row: &Row) -> Result<(), Fail> {
     let asked = match (asks, read_words(alloc, line.as_slice())) {
         (Run(told) | Text(told) | Stream(told), Ok(read)) => {
             let forms = (matches!(asks, Text(_)), matches!(asks, Stream(_)));
-            let same = (read.text, read.stream) == forms;
+            let same = (read.text, read.stream) == forms && read.mask.is_none();
             read.rules == "rules" && same && read.settings == told.settings()?
+        }
+        (Mask(byte), Ok(read)) => {
+            read.mask == Some(*byte) && read.settings == OVERLAPPING.settings()?
         }
         (Bad, Err(WordsFault::Bad)) => true,
         (Twice(byte), Err(WordsFault::Pairing(PairingError::Twice(twice)))) => *byte == twice,

@@ -12,6 +12,10 @@ use std::process::Abort;
 use std::rt::Files;
 use std::test::Fail;
 
+mod masks;
+
+use masks::MASKS;
+
 /// Where the rule file lies while a row is tried.
 const PATH: &str = "out/tool.rules";
 
@@ -22,7 +26,7 @@ const LETTERS: &str = "62\t\n616263\t\n61626364\t\n";
 const SLOTH: &str = "666f78\t736c6f7468\n";
 
 const HELP: &str = "\
-Replaces, or lists, what the patterns of a rule file match in standard input
+Replaces, masks or lists what the patterns of a rule file match in standard input
 
 Usage: acsub [OPTIONS] <MODE> <RULES>
 
@@ -30,7 +34,7 @@ Arguments:
   <MODE>
           What to write
          \x20
-          [possible values: replace, list, overlap]
+          [possible values: replace, list, overlap, mask]
 
   <RULES>
           The path of the rule file
@@ -41,6 +45,9 @@ Options:
 
       --stream
           Write while reading under every kind and mode, where that can be
+
+      --with <HEX>
+          Mask with this byte, two hex digits [default: 2a, which is *]
 
       --kind <K>
           Which of several matches is taken
@@ -79,6 +86,7 @@ Modes:
   replace  The input, with each match replaced
   list     A line 'number start end' for each match: pattern and places from 0, in bytes
   overlap  Such a line for each occurrence, overlapping ones too; needs the standard kind
+  mask     The input, with each byte that lies in an occurrence replaced by '*'; needs the standard kind
 
 Kinds:
   standard          The match that ends first
@@ -95,8 +103,8 @@ Example:
   echo 'The fox ran.' | acsub replace words.tsv --text    # The sloth ran.
 
 Status:
-  0 done, 2 words or settings, 3 the rule file, 4 a limit of a build, 5 a read failed,
-  6 a write or the flush failed, 7 out of memory, 8 the input is too long
+  0 done, 2 words or settings, 3 the rule file, 4 a limit of a build or a mask that a pattern has,
+  5 a read failed, 6 a write or the flush failed, 7 out of memory, 8 the input is too long
 ";
 
 /// A command line, the rule file and the devices; and what the program does.
@@ -515,9 +523,11 @@ fn does<F: Abort + Files>(rt: &F, alloc: Global, row: &Row) -> Result<(), AllocE
 #[test]
 fn does_what_the_words_say(rt: HostRuntime) -> Result<(), Fail> {
     fs::create_dir_all(&rt, "out")?;
-    for row in ROWS {
-        fs::write(&rt, PATH, row.rules)?;
-        does(&rt, rt.alloc(), row)?;
+    for rows in [ROWS, MASKS] {
+        for row in rows {
+            fs::write(&rt, PATH, row.rules)?;
+            does(&rt, rt.alloc(), row)?;
+        }
     }
     fs::remove_file(&rt, PATH)?;
     Ok(())
@@ -529,7 +539,7 @@ const LITTLE: &str = "out/little.rules";
 /// The line of a program that is out of memory.
 const NO_MEMORY: &str = "acsub: out of memory\n";
 
-/// A run that writes while it reads, one that holds its input, by an automaton and by packed search, and help.
+/// Runs that write while they read, one that masks too; those that hold their input, by an automaton and by packed search; and help.
 const IN_LITTLE: &[Row] = &[
     Row {
         words: &["replace", LITTLE, "--pairs", "5878"],
@@ -567,6 +577,15 @@ const IN_LITTLE: &[Row] = &[
         text: "0 4 7\n",
         fewest: 6,
         most: 6,
+        ..REPLACED
+    },
+    Row {
+        words: &["mask", LITTLE],
+        status: 0,
+        told: "",
+        text: "The ***",
+        fewest: 7,
+        most: 7,
         ..REPLACED
     },
     SHOWN,

@@ -228,4 +228,15 @@ impl Search for AhoCorasick {
     ) -> Listed {
         dispatch!(self.search_stream_overlapping(place, held, ahead, steps))
     }
+
+    fn mask_from(
+        &self,
+        sid: StateID,
+        bytes: &mut [u8],
+        from: usize,
+        mask: u8,
+        steps: &mut Steps,
+    ) -> StateID {
+        dispatch!(self.mask_from(sid, bytes, from, mask, steps))
+    }
 }

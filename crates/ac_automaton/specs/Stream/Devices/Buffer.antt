@@ -1,10 +1,13 @@
 -- The bytes of a stream that are held in memory, and what reading and rolling do to them.
 use Rattle.std.specs.Prelude.{◌≡◌, ℕ, ◌+◌, ◌-◌, ◌*◌, ◌≤◌, max, List, [], ◌∷◌, ◌++◌, length, drop, Option, Result, Ok, Err}
+use Rattle.ac_input.specs.Number.{StateID}
+use Rattle.ac_automaton.specs.Automaton.{Built}
+use Rattle.ac_automaton.specs.Masking.{MasksFrom}
 use Rattle.ac_automaton.specs.Stream.Devices.Moved.{HasGiven}
+use Rattle.ac_automaton.specs.declared.automaton.Advance.{Advance}
 use Rattle.ac_automaton.specs.declared.stream.devices.watched.Watched.{Watched}
 
--- What is held: some bytes, in a room that never grows; how many of them are kept at most when the room is full; how
--- many were
+-- What is held: some bytes, in a room that never grows; how many of them are kept at most when the room is full; how many were
 -- read so far, and how many were moved within the room.
 pub record Held : Type 0 where
   pub bytes : List ℕ
@@ -25,8 +28,7 @@ room_for keep = max (keep * 8) least_room
 abbrev pub nothing_held : ℕ → Held
 nothing_held keep = record { bytes = []; room = room_for keep; keep = keep; read = 0; moved = 0 }
 
--- What holds of a buffer at any time. Seven bytes were read for each byte that was moved. Bytes held beyond those that
--- may be kept
+-- What holds of a buffer at any time. Seven bytes were read for each byte that was moved. Bytes held beyond those that may be kept
 -- were read too, and have paid for no move yet.
 pub record IsRollPaid (h : Held) : Type 0 where
   pub keeps : 1 ≤ h.keep
@@ -54,3 +56,11 @@ Fills remaining old new before after (Err error) = HasGiven remaining before aft
 -- the held bytes from a place on were moved to the front
 abbrev pub rolled : Held → ℕ → Held
 rolled old from = record old { bytes = drop from old.bytes; moved = old.moved + (length old.bytes - from) }
+
+-- Of the held bytes those from a place on were masked, by an automaton that stood in this state at the place. All of them were
+-- read, and nothing else has changed.
+pub record MasksHeld (b : Built) (Reaches : List ℕ → StateID → Type 0) (mask : ℕ) (sid : StateID) (from : ℕ)
+    (old new : Held) (stop : Advance) : Type 0 where
+  pub masks : MasksFrom b Reaches mask sid from old.bytes new.bytes stop.sid
+  pub taken : from + stop.taken ≡ length old.bytes
+  pub same : new ≡ record old { bytes = new.bytes }

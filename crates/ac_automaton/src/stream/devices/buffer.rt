@@ -1,10 +1,10 @@
 //! The bytes of a stream that are held in memory.
 //!
 //! A stream is searched by pieces, in one buffer of a size that never changes. Each piece goes after what is held, read from a reader
-//! or taken from a slice. A match may
-//! begin in one piece and end in another, so of the held bytes as many are kept as the longest pattern has. They are moved to the
-//! front only when no room is left after them. They are an eighth of the buffer at most, and the rest of it is read before they
-//! are moved again: so seven bytes are read for each byte that is moved. One function moves bytes, and counts them.
+//! or taken from a slice. A match may begin in one piece and end in another, so of the held bytes as many are kept as the longest
+//! pattern has. They are moved to the front only when no room is left after them. They are an eighth of the buffer at most, and the
+//! rest of it is read before they are moved again: so seven bytes are read for each byte that is moved. One function moves bytes, and
+//! counts them.
 ghost use Rattle.std.specs.Prelude.{◌≡◌, ◌+◌, ◌-◌, ◌≤◌, ◌<◌, ◌↔◌, false, length, min, take, drop, IfOk, IsTrue, vec_len, max};
 ghost use Rattle.std.specs.List.{copy_within};
 ghost use Rattle.ac_input.specs.declared.search.Anchored.TheVariants.{No};
@@ -12,7 +12,7 @@ ghost use Rattle.ac_input.specs.declared.search.MatchKind.TheVariants.{Standard}
 ghost use Rattle.ac_input.specs.Steps.{Done};
 ghost use Rattle.ac_automaton.specs.Automaton.{IsReached, IsReadCost};
 ghost use Rattle.ac_automaton.specs.Masking.{MasksFrom};
-ghost use Rattle.ac_automaton.specs.Stream.Devices.Buffer.{Fills, IsRollPaid, nothing_held, rolled, taken_into};
+ghost use Rattle.ac_automaton.specs.Stream.Devices.Buffer.{Fills, IsRollPaid, MasksHeld, nothing_held, rolled, taken_into};
 
 use crate::automaton::Advance;
 use crate::search::Search;
@@ -145,9 +145,7 @@ impl Buffer {
         requires standard { (A.built automaton.now).dictionary.kind ≡ Standard }
         requires reached { IsReached (A.Reaches automaton.now No) sid }
         requires within { from ≤ length self.old.bytes }
-        ensures masks { MasksFrom A.Automaton automaton.now mask sid from self.old.bytes self.new.bytes result.sid }
-        ensures taken { from + result.taken ≡ length self.old.bytes }
-        ensures same { self.new ≡ record self.old { bytes = self.new.bytes } }
+        ensures masked { MasksHeld (A.built automaton.now) (A.Reaches automaton.now No) mask sid from self.old self.new result }
         ensures cost { IsReadCost (A.built automaton.now) (A.Reaches automaton.now) No sid (drop from self.old.bytes)
             steps.old steps.new }
     {
@@ -188,7 +186,8 @@ fn mask_front<A: Search>(
     requires reached { IsReached (A.Reaches automaton.now No) sid }
     requires within { from ≤ len }
     requires fits { len ≤ length bytes.old }
-    ensures masks { MasksFrom A.Automaton automaton.now mask sid from (take len bytes.old) (take len bytes.new) result }
+    ensures masks { MasksFrom (A.built automaton.now) (A.Reaches automaton.now No) mask sid from
+        (take len bytes.old) (take len bytes.new) result }
     ensures len { length bytes.new ≡ length bytes.old }
     ensures cost { IsReadCost (A.built automaton.now) (A.Reaches automaton.now) No sid (drop from (take len bytes.old))
         steps.old steps.new }

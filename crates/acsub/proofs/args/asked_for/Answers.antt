@@ -38,4 +38,5 @@ returns c =
       prefilter = search rules;
       byte_classes = search rules;
       pairing = c.in_ok-pairing_of.ensures;
+      mask = c.in_ok-mask.ensures;
     }

@@ -16,7 +16,7 @@ returns-in_err-rules-in-Ok g c =
 
 pub returns-in_ok-rules-in-Ok : goal.returns-in_ok-rules-in-Ok
 returns-in_ok-rules-in-Ok g c =
-    let ran = c.run_in-ran in (
+    let ran = c.serve-ran in (
       Ok c.in-Ok.asked,
       c.in-Ok.ensures,
       run-finished g.F.File.Read.remaining g.R.Read.remaining g.W.Write.contents c.in-Ok.asked
@@ -25,7 +25,7 @@ returns-in_ok-rules-in-Ok g c =
           (record {
             file = c.as_slice.result.now;
             is_file = rw c.as_slice.ensures.value c.in_ok-rules-in-Ok.ensures;
-            ran = ran.ensures.answered;
+            ran = ran.ensures.ran;
             fault = ran.ensures.fault;
           })
           c.finish.ensures,

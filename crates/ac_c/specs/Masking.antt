@@ -1,0 +1,67 @@
+-- Masking: what a call on a text returns, what a masking of pieces begins as, and what each call does.
+use Rattle.std.specs.Prelude.{◌≡◌, ◌⊎◌, ℕ, true, false, List, [], length, Result, Ok, Err}
+use Rattle.ac_automaton.specs.InMemory.Overlapping.{IsOverlappingRefusal}
+use Rattle.ac_automaton.specs.Masking.{masked_in}
+use Rattle.ac_automaton.specs.Stream.{CanBeCounted, CanStream}
+use Rattle.ac_automaton.specs.Stream.Mask.{MaskProgress, MasksPushed, finished_mask, fresh_mask, passed_to, ready_of}
+use Rattle.ac_automaton.specs.Stream.Overlapping.{IsListingConfigRefusal}
+use Rattle.ac_automaton.specs.declared.error.MatchErrorKind.{MatchErrorKind}
+use Rattle.ac_automaton.specs.declared.error.StreamError.{StreamError}
+use Rattle.ac_automaton.specs.declared.stream.StreamKinds.TheVariants.{OnlyStandard}
+use Rattle.ac_input.specs.Input.{whole_of}
+use Rattle.ac_input.specs.declared.search.Anchored.TheVariants.{No}
+use Rattle.ac_input.specs.declared.search.MatchKind.TheVariants.{Standard}
+use Rattle.aho_corasick.specs.AhoCorasick.{as_built, supported_by}
+use Rattle.aho_corasick.specs.declared.ahocorasick.AhoCorasick.{AhoCorasick}
+use Rattle.ac_c.specs.declared.masking.Masking.{Masking}
+use Rattle.ac_c.specs.declared.replace.Length.{Length}
+use Rattle.ac_c.specs.declared.searching.Count.{Count}
+use Rattle.ac_c.specs.Searching.{push_of}
+use Rattle.ac_c.specs.Status.{ok, no_memory, finished, refusal_status}
+
+-- ---- a text where it lies
+
+-- The text was masked; or it is unchanged, as the automaton has no search for all that overlap.
+abbrev pub AnswersMasked : AhoCorasick → ℕ → List ℕ → List ℕ → ℕ → Type 0
+AnswersMasked ac byte before after status =
+    (supported_by ac No × ((as_built ac).dictionary.kind ≡ Standard) × (after ≡ masked_in (as_built ac) byte before)
+    × (status ≡ ok))
+    ⊎ ((error : MatchErrorKind) × IsOverlappingRefusal (as_built ac) (supported_by ac) (whole_of []) error
+    × (after ≡ before) × (status ≡ refusal_status error))
+
+-- ---- pieces
+
+-- a masking by this automaton and with this byte that was passed nothing yet
+abbrev pub masking_by : AhoCorasick → ℕ → Masking
+masking_by ac byte = record { stream = fresh_mask (as_built ac) byte }
+
+-- Why there is no masking: the automaton has no start for it, or isn't of the standard kind, or has an empty pattern; or
+-- memory ran out.
+abbrev pub IsRefusedMask : AhoCorasick → ℕ → Type 0
+IsRefusedMask ac status =
+    ((error : MatchErrorKind) × IsListingConfigRefusal (as_built ac) (supported_by ac) error
+    × (status ≡ refusal_status error))
+    ⊎ (CanStream OnlyStandard (as_built ac) (supported_by ac) × (status ≡ no_memory))
+
+-- the library's masking, or why there is none
+abbrev pub IsMaskingOfPieces : AhoCorasick → ℕ → Result MaskProgress ℕ → Type 0
+IsMaskingOfPieces ac byte (Ok s) =
+    CanStream OnlyStandard (as_built ac) (supported_by ac) × (s ≡ fresh_mask (as_built ac) byte)
+IsMaskingOfPieces ac byte (Err status) = IsRefusedMask ac status
+
+-- A finished masking takes nothing, and is unchanged. Any other takes what the library's masking takes.
+abbrev pub IsPushedTo : Masking → List ℕ → Masking → Count → Type 0
+IsPushedTo s piece t taken =
+    ((s.stream.closed ≡ true) × (t ≡ s) × (taken ≡ record { count = 0; status = finished }))
+    ⊎ ((s.stream.closed ≡ false) × (r : Result ℕ StreamError) × MasksPushed s.stream t.stream piece r
+    × (taken ≡ push_of r))
+
+-- how many masked bytes are ready
+abbrev pub ready_len : Masking → Length
+ready_len s = record { len = length (ready_of s.stream); status = ok }
+
+-- No more pieces come: all that waited is ready. After more bytes than places nothing is.
+abbrev pub IsClosedMask : Masking → Masking → Type 0
+IsClosedMask s t =
+    (CanBeCounted (passed_to s.stream) → t ≡ record { stream = finished_mask s.stream })
+    × (¬ CanBeCounted (passed_to s.stream) → t ≡ record { stream = (record s.stream { out = s.stream.cut }) })

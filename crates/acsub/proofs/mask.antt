@@ -1,0 +1,3 @@
+pub mod MaskFileLemmas
+pub mod MaskRunLemmas
+pub mod UnusedLemmas

@@ -31,7 +31,7 @@ BLOCK = 1 << 20
 
 MILLION = 1000000
 
-MODES = ("replace", "list", "overlap")
+MODES = ("replace", "list", "overlap", "mask")
 
 Progress = Callable[[int, int], None]
 """What is told how many bytes are done, and of how many."""
@@ -61,6 +61,11 @@ def matches(client: Any, rules: str, inputs: Sequence[str], out: str, **how: Any
 def overlapping(client: Any, rules: str, inputs: Sequence[str], out: str, **how: Any) -> List[str]:
     """`run` with the mode `overlap`."""
     return run(client, "overlap", rules, inputs, out, **how)
+
+
+def masks(client: Any, rules: str, inputs: Sequence[str], out: str, **how: Any) -> List[str]:
+    """`run` with the mode `mask`."""
+    return run(client, "mask", rules, inputs, out, **how)
 
 
 def run(
@@ -329,7 +334,7 @@ def _through(words: Sequence[str], longest: int, file: IO[bytes], low: int, high
     Line feeds before these bytes, which no pattern has, make them start a whole number of millions from their place in the file. So
     nearly all places are moved by a change of their first digits.
     """
-    moved = words[1] != "replace" and low > 0
+    moved = words[1] in ("list", "overlap") and low > 0
     child = _started(words, stdin=subprocess.PIPE, stdout=subprocess.PIPE if moved else out)
     assert child.stdin
     fed: List[Union[int, OSError]] = []
@@ -481,7 +486,7 @@ def _parser() -> argparse.ArgumentParser:
         "pattern is empty, since it would match on both sides of a cut; and where a pattern holds a line feed, or the byte that\n"
         "--pairs makes match it, since a match could lie across a cut. A line that is longer than a piece is in one piece.\n\n"
         "Workers need this package and acsub, and see the inputs and FOLDER by the paths that are given here.")
-    ask.add_argument("mode", choices=MODES, metavar="MODE", help="replace, list or overlap; a list's places count from the file's beginning")
+    ask.add_argument("mode", choices=MODES, metavar="MODE", help="replace, list, overlap or mask; a list's places count from the file's beginning")
     ask.add_argument("rules", metavar="RULES", help="the rule file")
     ask.add_argument("inputs", metavar="IN", nargs="+", help="a file")
     ask.add_argument("--scheduler", required=True, metavar="ADDRESS", help="of the cluster's scheduler, as tcp://host:8786")
@@ -498,7 +503,7 @@ def _parser() -> argparse.ArgumentParser:
 
 
 FLAGS = ("--text", "--stream", "--fold", "--no-prefilter", "--no-byte-classes")
-VALUES = {"--kind": "K", "--pairs": "HEX", "--engine": "E", "--dense-depth": "N"}
+VALUES = {"--with": "HEX", "--kind": "K", "--pairs": "HEX", "--engine": "E", "--dense-depth": "N"}
 
 
 def _options(given: argparse.Namespace) -> List[str]:

@@ -151,7 +151,7 @@ class OnACluster(unittest.TestCase):
         words = [b"fox", b"foxes", b"ox", b"brown fox", b"e", b"\n", b"\r\n", b" "]
         rules = self.written("rules", b"fox\tsloth\nox\nfoxes\tsloths\nbrown\tgrey\n")
         sources = [self.written(f"text{n}", b"".join(draw.choices(words, k=size))) for n, size in enumerate([0, 1, 200, 600])]
-        for mode, kinds in [("replace", KINDS), ("list", KINDS), ("overlap", KINDS[:1])]:
+        for mode, kinds in [("replace", KINDS), ("list", KINDS), ("overlap", KINDS[:1]), ("mask", KINDS[:1])]:
             for kind in kinds:
                 words_ = ["--text", "--kind", kind]
                 came = self.run_all(mode, rules, sources, *words_, piece=draw.choice([40, 100, 1000]))
@@ -165,7 +165,7 @@ class OnACluster(unittest.TestCase):
 
     def test_by_functions(self):
         rules, source, out = self.written("rules", b"fox\tsloth\nox\t\n"), self.written("text", b"a fox\n" * 50), os.path.join(self.folder, "out")
-        for function, mode in [(dask.replace, "replace"), (dask.matches, "list"), (dask.overlapping, "overlap")]:
+        for function, mode in [(dask.replace, "replace"), (dask.matches, "list"), (dask.overlapping, "overlap"), (dask.masks, "mask")]:
             told = []
             paths = function(self.client, rules, [source], out, options=["--text"], acsub=ACSUB, piece=100, progress=lambda *it: told.append(it))
             self.assertEqual(open_bytes(paths[0]), self.one_run(mode, rules, source, "--text"))

@@ -45,8 +45,7 @@ abbrev pub onward : (StateID → List ℕ) → Option StateID → StateID → St
 onward matches anew sid = if is_matching matches sid then unwrap_or anew sid else sid
 
 -- A search that stands at a place in a state comes to the note and takes it: the note begins there in that state, or
--- later, after a
--- byte that frees the search for the note's state.
+-- later, after a byte that frees the search for the note's state.
 pub record ComesTo (Free : ℕ → StateID → Type 0) (bytes : List ℕ) (at : ℕ) (sid : StateID) (note : Note) : Type 0 where
   pub later : at ≤ note.from
   pub here : at ≡ note.from → note.sid ≡ sid
@@ -83,8 +82,7 @@ abbrev pub TakesEach : (List ℕ → StateID → Type 0) → (StateID → List �
 TakesEach Reaches matches = TakesEachBy (Frees Reaches matches) matches
 
 -- An automaton has read so many bytes ahead of a search, of the next `len` from a place on: just those that these notes
--- cover. It
--- looked at one state for each. A search of the standard kind takes each note.
+-- cover. It looked at one state for each. A search of the standard kind takes each note.
 pub record ReadsAheadBy (Free : ℕ → StateID → Type 0) (b : Built) (Reaches : List ℕ → StateID → Type 0)
     (matches : StateID → List ℕ) (anew : Option StateID) (sid : StateID) (bytes : List ℕ) (at len read : ℕ)
     (notes : List Note) (before after : Steps) : Type 0 where
@@ -146,8 +144,7 @@ pub record HasForgotten (before : Ahead) (place : ℕ) (after : Ahead) : Type 0 
   pub room : after.end ≤ length after.notes
 
 -- Before these bytes, `base` bytes were read. No byte of all these was read ahead twice, and none after the place up to
--- which nothing
--- more is read ahead.
+-- which nothing more is read ahead.
 abbrev pub IsReadOnce : ℕ → List ℕ → Ahead → Type 0
 IsReadOnce base bytes ahead = bytes_ahead ahead ≤ base + min ahead.until (length bytes)
 
@@ -156,8 +153,7 @@ abbrev pub StaysReadOnce : List ℕ → Ahead → Ahead → Type 0
 StaysReadOnce bytes before after = (base : ℕ) → IsReadOnce base bytes before → IsReadOnce base bytes after
 
 -- What a call's bytes cost, whenever they were looked at: the looks that the call made, and those that were made ahead
--- of it, less
--- those that it made ahead of later bytes.
+-- of it, less those that it made ahead of later bytes.
 pub record Settles (before after : Ahead) (steps paid : Steps) : Type 0 where
   pub looked : paid.looked.value + bytes_ahead after ≡ steps.looked.value + bytes_ahead before
   pub scanned : paid.scanned.value ≡ steps.scanned.value
@@ -222,8 +218,7 @@ abbrev pub HaveOwnNotes : Lanes → Type 0
 HaveOwnNotes lanes = (lanes.a.slots ≤ lanes.b.slot) × (lanes.b.slots ≤ lanes.c.slot) × (lanes.c.slots ≤ lanes.d.slot)
 
 -- Four lanes cut the bytes from one place to another. The first begins in the state of the search. Each other one
--- begins in the
--- start, just after one of the bytes of `after`.
+-- begins in the start, just after one of the bytes of `after`.
 pub record CutBytes (after : List Bool) (bytes : List ℕ) (at : ℕ) (sid start : StateID) (to slots : ℕ)
     (lanes : Lanes) : Type 0 where
   pub a : LaneBegins at sid slots lanes.a
@@ -238,8 +233,7 @@ pub record CutBytes (after : List Bool) (bytes : List ℕ) (at : ℕ) (sid start
   pub apart : HaveOwnNotes lanes
 
 -- The bytes that a lane has read since its last note lead from its first state to the one where it stands, and a search
--- would stop
--- at no state between.
+-- would stop at no state between.
 pub record WalkedTo (Reaches : List ℕ → StateID → Type 0) (stops : StateID → Bool) (bytes : List ℕ)
     (lane : Lane) : Type 0 where
   pub ordered : lane.from ≤ lane.at
@@ -318,8 +312,7 @@ abbrev pub lane_notes : List Note → Lane → Lane → List Note
 lane_notes notes begun lane = slice_range notes begun.slot lane.slot
 
 -- A lane's notes cover what it has read up to its last note, and each begins where the one before it ends. Where this
--- is sure, a
--- search that comes to the lane takes each.
+-- is sure, a search that comes to the lane takes each.
 pub record HasNoted (Reaches : List ℕ → StateID → Type 0) (matches : StateID → List ℕ) (anew : Option StateID)
     (sure : Type 0) (bytes : List ℕ) (notes : List Note) (begun lane : Lane) : Type 0 where
   pub slots : (begun.slot ≤ lane.slot) × (lane.slot ≤ lane.slots) × (lane.slots ≡ begun.slots)
@@ -332,8 +325,7 @@ pub record HasNoted (Reaches : List ℕ → StateID → Type 0) (matches : State
   pub full : lane.slots ≤ lane.slot → lane.from ≡ lane.at
 
 -- The notes of each lane cover what it has read up to its last note. Under the standard kind, a search that comes to
--- the lane takes
--- each.
+-- the lane takes each.
 abbrev pub HaveNoted : {S : Type 0} → Ghosts S → S → Option StateID → List ℕ → List Note → Lanes → Lanes → Type 0
 HaveNoted A automaton anew bytes notes begun lanes =
     EachPair
@@ -347,8 +339,8 @@ lanes_notes notes begun lanes =
     ++ (lane_notes notes begun.b lanes.b ++ (lane_notes notes begun.c lanes.c ++ lane_notes notes begun.d lanes.d))
 
 -- What walking side by side requires of an automaton. It looks at one state for a byte, a search begins in `start`, and
--- no state
--- after `last` matches. Under the standard kind all others do, and a byte of `after` leads each search to the start.
+-- no state after `last` matches. Under the standard kind all others do, and a byte of `after` leads each search to the
+-- start.
 pub record MayNote {S : Type 0} (A : Ghosts S) (automaton : S) (start last : StateID) (after : List Bool) : Type 0 where
   pub one : IsTrue (A.built automaton).deterministic
   pub starts : A.Reaches automaton No [] start

@@ -68,8 +68,7 @@ StartIsEmpty b matches start anchored text =
     IsTrue start → matches ≡ [] → IsLive b.dictionary (is_anchored anchored) text (Some (length text))
 
 -- What the result of `is_start` means for a text. A start isn't dead, and has no live byte if no pattern matches there.
--- A state
--- whose text has no live byte is a start.
+-- A state whose text has no live byte is a start.
 pub record StartTells (b : Built) (matches : List ℕ) (start : Bool) (anchored : Anchored) (text : List ℕ) : Type 0 where
   pub alive : IsTrue start → ¬ IsDead b anchored text
   pub empty : StartIsEmpty b matches start anchored text
@@ -80,8 +79,7 @@ abbrev pub TellsStart : Built → (Anchored → List ℕ → StateID → Type 0)
 TellsStart b Reaches matches sid start = AtEach Reaches sid (StartTells b (matches sid) start)
 
 -- A state at which a search has more to do than to read on: the text is dead, or patterns match, or it is a start and
--- there is a
--- prefilter to run.
+-- there is a prefilter to run.
 abbrev pub IsSpecial : Built → List ℕ → Bool → Anchored → List ℕ → Type 0
 IsSpecial b matches start anchored text =
     IsDead b anchored text ⊎ (matches ≢ []) ⊎ (IsTrue start × (b.prefilter ≢ None))

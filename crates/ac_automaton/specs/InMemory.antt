@@ -4,3 +4,4 @@ pub mod Items
 pub mod Iter
 pub mod Overlapping
 pub mod Replace
+pub mod Words

@@ -17,6 +17,7 @@ pub use Rattle.ac_input.specs.Input
 pub use Rattle.ac_input.specs.Work
 pub mod Look
 pub mod Masking
+pub mod Words
 pub mod Ahead
 pub mod Errors
 pub mod Automaton

@@ -1,12 +1,9 @@
 -- An automaton over named states: what its numbers stand for, and what follows for its calls.
 --
 -- A number of an automaton stands for a state of the definitions: a text of canonical bytes, or the dead state. How the
--- number is
--- made differs between automata; what follows from it doesn't. So an automaton proves three things of its own: for
--- which states
--- its numbers stand, that the list and the tests of a number are those of its state, and that one look-up is one step.
--- The lemmas
--- are in NamedLemmas, and those of automata that follow failures in LinkedLemmas.
+-- number is made differs between automata; what follows from it doesn't. So an automaton proves three things of its
+-- own: for which states its numbers stand, that the list and the tests of a number are those of its state, and that one
+-- look-up is one step. The lemmas are in NamedLemmas, and those of automata that follow failures in LinkedLemmas.
 use Rattle.std.specs.Prelude.{◌≡◌, ◌≢◌, ◌↔◌, ℕ, ◌+◌, ◌<◌, ◌≤◌, Bool, true, false, IsTrue, map, List, [], ◌∷◌, ◌++◌, length, Option, Some, None}
 use Rattle.ac_input.specs.declared.search.Anchored.{Anchored}
 use Rattle.ac_input.specs.declared.steps.Steps.{Steps}
@@ -70,8 +67,7 @@ pub record IsFirst (names : Naming) (anchored : Bool) (sid : ℕ) : Type 0 where
 -- ---- what a search reads
 
 -- An automaton over named states: what it is built as, which namings fit it, the patterns that match at a number, and
--- the tests
--- whether a number is a start and whether it is special.
+-- the tests whether a number is a start and whether it is special.
 pub record NamedStates : Type 1 where
   pub built : Built
   pub Fits : Naming → Type 0
@@ -96,8 +92,7 @@ abbrev pub nowhere : ℕ
 nowhere = 1
 
 -- Where a byte leads from a number without a look at its failure: to the state that is one byte longer, or else
--- nowhere. From the
--- unanchored start it leads where the byte alone leads, and from the dead state to itself.
+-- nowhere. From the unanchored start it leads where the byte alone leads, and from the dead state to itself.
 pub record IsEdgeBy (m : Dictionary) (names : Naming) (start sid byte next : ℕ) : Type 0 where
   pub dead : names.text sid ≡ None
       → IsTrue (names.met true next) × IsTrue (names.met false next) × (next ≢ nowhere) × (names.text next ≡ None)

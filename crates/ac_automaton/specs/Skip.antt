@@ -50,8 +50,7 @@ pub record ReadsAll {S : Type 0} (A : Ghosts S) (automaton : S) (sid : StateID) 
 -- ---- what may be passed
 
 -- In the start, nothing of what was read is live, and every text leads to some state. A text in which no pattern opens
--- leads to the
--- same state as its end, if the end has all bytes that can still be live.
+-- leads to the same state as its end, if the end has all bytes that can still be live.
 pub record MayPass (m : Dictionary) (len : ℕ) (Reaches : List ℕ → StateID → Type 0) (start : StateID) : Type 0 where
   pub begins : Reaches [] start
   pub empty : (text : List ℕ) → Reaches text start → IsLive m false text (Some (length text))
@@ -60,8 +59,7 @@ pub record MayPass (m : Dictionary) (len : ℕ) (Reaches : List ℕ → StateID 
       → Leads Reaches start end sid → Leads Reaches start (front ++ end) sid
 
 -- Openings by which a search that stops between two numbers may pass. They are those of the automaton's dictionary, and
--- neither
--- number is greater than the start's. A state that isn't dead and has no match is not between the two.
+-- neither number is greater than the start's. A state that isn't dead and has no match is not between the two.
 pub record MaySkipBy {S : Type 0} (A : Ghosts S) (automaton : S) (openings : Openings) (start : StateID)
     (two : Between) : Type 0 where
   pub open_ : AreOpenings (A.built automaton).dictionary openings
@@ -71,8 +69,7 @@ pub record MaySkipBy {S : Type 0} (A : Ghosts S) (automaton : S) (openings : Ope
       → ¬ IsLive (A.built automaton).dictionary false text None → ¬ IsTrue (is_between two sid)
 
 -- An automaton may read on by these skips to the first state between two numbers. Each byte that is no starter leads
--- from the start
--- to itself. An unanchored search may pass by the openings, if the start's number is greater than both.
+-- from the start to itself. An unanchored search may pass by the openings, if the start's number is greater than both.
 pub record MayReadBy {S : Type 0} (A : Ghosts S) (automaton : S) (skips : Skips) (two : Between) : Type 0 where
   pub stays : (anchored : Anchored) → StaysBut (A.Reaches automaton anchored) skips.starters skips.start
   pub passes : (openings : Openings) (sid : StateID) → skips.openings ≡ Some openings → two.last < skips.start
@@ -81,8 +78,7 @@ pub record MayReadBy {S : Type 0} (A : Ghosts S) (automaton : S) (skips : Skips)
 -- ---- what was passed
 
 -- A search passed `skipped` bytes, each counted as one look, and then read `end` bytes from the start. No pattern opens
--- before the
--- place where it stopped, and the bytes it read are all that can still be live.
+-- before the place where it stopped, and the bytes it read are all that can still be live.
 pub record PassesTo {S : Type 0} (A : Ghosts S) (automaton : S) (openings : Openings) (start : StateID) (bytes : List ℕ)
     (stop : Advance) (before after : Steps) : Type 0 where
   pub skipped : ℕ
@@ -104,8 +100,7 @@ HasPassed A automaton openings start bytes stop before after =
 -- ---- special states
 
 -- The last state at which a search has more to do than to read on: the anchored start if there is a prefilter,
--- otherwise the last
--- one that matches.
+-- otherwise the last one that matches.
 abbrev pub last_special_of : Option Filter → ℕ → ℕ → ℕ
 last_special_of None start_anchored max_match = max_match
 last_special_of (Some f) start_anchored max_match = start_anchored

@@ -31,8 +31,7 @@ pub record IsIdleFront (starters : Starters) (bytes : List ℕ) (len : ℕ) : Ty
   pub ends : len < length bytes → is_starter starters (slice_index bytes len) ≡ true
 
 -- The first `passed` bytes are passed over, each with one look, and none of them is a starter. In a state other than
--- the start,
--- none is passed.
+-- the start, none is passed.
 pub record PassesIdle (starters : Starters) (start sid : StateID) (bytes : List ℕ) (passed : ℕ)
     (before after : Steps) : Type 0 where
   pub within : passed ≤ length bytes

@@ -66,14 +66,11 @@ room_of Occurrences b = least_room
 -- ---- how far it has come
 
 -- How far a search of a stream has come: its automaton; the pieces that its reads returned; whether it was told that no
--- more
--- comes; the items that it returned; where the held bytes begin, which reach to the end of what was read; up to which
--- place the
--- automaton has read; before which place it needs no byte any more; and how many states it looked at, places it scanned
--- and bytes
--- it moved. For matches `last` is where it last began anew: at first, after a match, and where nothing of what was read
--- is live.
--- For occurrences it is `at`. Places are counted from the first byte that was read.
+-- more comes; the items that it returned; where the held bytes begin, which reach to the end of what was read; up to
+-- which place the automaton has read; before which place it needs no byte any more; and how many states it looked at,
+-- places it scanned and bytes it moved. For matches `last` is where it last began anew: at first, after a match, and
+-- where nothing of what was read is live. For occurrences it is `at`. Places are counted from the first byte that was
+-- read.
 pub record StreamProgress (sequence : Sequence) : Type 0 where
   pub built : Built
   pub pieces : List (List ℕ)
@@ -107,8 +104,7 @@ abbrev pub read_by : {q : Sequence} → StreamProgress q → List ℕ
 read_by s = concat s.pieces
 
 -- The place up to which everything is decided: each match not returned yet begins there or later, and each occurrence
--- ends there or
--- later, whatever is still read.
+-- ends there or later, whatever is still read.
 abbrev pub cut_of : {q : Sequence} → StreamProgress q → ℕ
 cut_of s = max s.last (s.at - max (longest s.built.dictionary.patterns) 1)
 
@@ -189,8 +185,7 @@ IsDecided {q} s =
     × All (λ o. cut_of s ≤ place_of q o) rest
 
 -- How many of n bytes may be looked at again, with so many matches: none under standard; under a leftmost kind each
--- once, read ahead
--- in vain, and after each match as many as the longest pattern has, and one.
+-- once, read ahead in vain, and after each match as many as the longest pattern has, and one.
 abbrev pub again_for : MatchKind → ℕ → ℕ → ℕ → ℕ
 again_for Standard longest n matches = 0
 again_for LeftmostFirst longest n matches = n + (longest + 1) * matches
@@ -205,12 +200,9 @@ abbrev pub read_in_all : {q : Sequence} → StreamProgress q → ℕ
 read_in_all s = length (read_by s) + read_again s.built.dictionary (length (read_by s)) (length s.given)
 
 -- What a search has cost. It made at least one look for each byte that it has passed. In total it made at most one, or
--- two if the
--- automaton isn't deterministic, for each byte that was read, those looked at again included. Under standard it made at
--- most as many
--- for the bytes that it has passed, and one for each byte that was read ahead. It scanned nothing, and moved at most a
--- seventh of the
--- bytes that were read. A search for occurrences moved none.
+-- two if the automaton isn't deterministic, for each byte that was read, those looked at again included. Under standard
+-- it made at most as many for the bytes that it has passed, and one for each byte that was read ahead. It scanned
+-- nothing, and moved at most a seventh of the bytes that were read. A search for occurrences moved none.
 pub record IsWithinStreamBudget {q : Sequence} (s : StreamProgress q) : Type 0 where
   pub some : s.at ≤ s.looked
   pub looked : s.looked ≤ lookups_per_byte s.built.deterministic * read_in_all s
@@ -220,9 +212,8 @@ pub record IsWithinStreamBudget {q : Sequence} (s : StreamProgress q) : Type 0 w
   pub unmoved : q ≡ Occurrences → s.moved ≡ 0
 
 -- What holds of a search wherever it stands. No read returned more than the buffer has room for. The items that it
--- returned are
--- the first of those of what was read. Only a search under standard returns occurrences, and it needs nothing of what
--- it has passed.
+-- returned are the first of those of what was read. Only a search under standard returns occurrences, and it needs
+-- nothing of what it has passed.
 pub record IsOnCourse {q : Sequence} (s : StreamProgress q) : Type 0 where
   pub standard : q ≡ Occurrences → s.built.dictionary.kind ≡ Standard
   pub passed : q ≡ Occurrences → s.last ≡ s.at
@@ -289,8 +280,7 @@ pub record ReadsNothing {q : Sequence} (s t : StreamProgress q) : Type 0 where
   pub from : t.from ≡ s.from
 
 -- An item among the bytes that were read. The bytes of a match are held; under standard the automaton had not read the
--- last of them
--- before. Nor had it read the last of an occurrence, if all occurrences in what it had read were returned.
+-- last of them before. Nor had it read the last of an occurrence, if all occurrences in what it had read were returned.
 pub record IsHeldItem {q : Sequence} (s : StreamProgress q) (o : Occurrence) : Type 0 where
   pub pattern : o.pattern < length s.built.dictionary.patterns
   pub held : q ≡ Picks → s.from ≤ o.start
@@ -305,8 +295,7 @@ abbrev pub EachIsDecided : {q : Sequence} → StreamProgress q → Type 0
 EachIsDecided s = (s.built.dictionary.kind ≡ Standard) ⊎ (s.closed ≡ true)
 
 -- All that was read was searched, and all items that it decides were returned. What comes after the last of them isn't
--- dead. If
--- nothing of that is live, the search began anew at its end.
+-- dead. If nothing of that is live, the search began anew at its end.
 pub record AreAllGiven {q : Sequence} (s : StreamProgress q) : Type 0 where
   pub searched : IsSearched s
   pub all : EachIsDecided s → s.given ≡ items_of q s.built.dictionary (read_by s)
@@ -335,8 +324,7 @@ pub record HasRead {R : Type 0} {q : Sequence} (remaining : R → Option (List �
   pub read : HasGiven remaining before after (piece ∷ []) failed
 
 -- The result of a read: how many bytes it returned, none at the end; or the error of a failed read; or that there are
--- more bytes
--- than places.
+-- more bytes than places.
 abbrev pub ReadsMore : {R : Type 0} {q : Sequence} → (R → Option (List ℕ)) → StreamProgress q → StreamProgress q
     → Watched R → Watched R → Result ℕ StreamError → Type 0
 ReadsMore remaining s t before after (Ok n) =

@@ -17,6 +17,7 @@ pub mod search;
 pub mod skip;
 pub mod starters;
 pub mod stream;
+mod words;
 
 pub use ac_input::pairing::{Pairing, PairingError};
 pub use ac_input::primitives::{PatternID, StateID};

@@ -11,6 +11,7 @@ use crate::automaton::Automaton;
 use crate::error::{MatchError, StreamError};
 use crate::in_memory::mask::mask_all;
 use crate::in_memory::overlapping::{Position, Shown};
+use crate::in_memory::words::{FindWordIter, find_word_iter};
 use crate::in_memory::{find, overlapping};
 use crate::stream::Progress;
 use crate::stream::devices::watched::Watched;
@@ -18,7 +19,7 @@ use crate::stream::mask::{StreamMask, mask_stream};
 use crate::stream::overlapping::{ListPlace, Listed};
 use crate::{masking, stream};
 use ac_input::primitives::StateID;
-use ac_input::search::{Input, Match};
+use ac_input::search::{Input, Match, MatchKind};
 use ac_input::steps::Steps;
 use std::alloc::Global;
 use std::io::{Read, Write};
@@ -33,6 +34,7 @@ pub trait Search: Automaton {
     ghost use Rattle.ac_automaton.specs.InMemory.Find.Ahead.{IsAheadIn, MayReadAhead, ended_at};
     ghost use Rattle.ac_automaton.specs.InMemory.Items.{FindsWithin};
     ghost use Rattle.ac_automaton.specs.InMemory.Overlapping.OverlappingSearch.{CountsOn, HasLeft, IsAheadAt, KeepsPaying, ShowsNextAt};
+    ghost use Rattle.ac_automaton.specs.InMemory.Words.{AnswersWords};
     ghost use Rattle.ac_automaton.specs.Masking.{CostsMask, Masks, MasksFrom};
     ghost use Rattle.ac_automaton.specs.Stream.Mask.{AcceptsMask, AnswersNewMask, CostsMaskStream, MasksStream};
     ghost use Rattle.ac_automaton.specs.Stream.Overlapping.Walk.{IsAheadFor, ListsNext, MayList};
@@ -168,6 +170,30 @@ pub trait Search: Automaton {
         ensures cost { IsReadCost (Self.built self.now) (Self.Reaches self.now) No sid (drop from bytes.old) steps.old steps.new }
     {
         masking::mask_from(self, sid, bytes, from, mask, steps)
+    }
+
+    /// The whole words of a text, one after another: the matches under a kind of the occurrences beside which no word byte stands. A word
+    /// byte is an ASCII letter, a digit, `_`, or a byte from 0x80 on; the ends of the text are none. So with `new` and `new york` a text
+    /// `new yorker` has the word `new`, whatever the kind. What a word is stands in `ac_input` (`specs.Word`), with its laws
+    /// ([`word_laws`](ac_input::word_laws)).
+    ///
+    /// The kind is that of the words, and may be any. The automaton has to be of the standard kind, since it then meets every occurrence.
+    /// It takes no memory, and uses no prefilter. For each word it looks once at each byte up to its end, or twice if it isn't
+    /// deterministic; under a leftmost kind up to one byte past the longest pattern that begins with it, and it looks at these bytes again
+    /// for the next word.
+    ///
+    /// Returns an error if the automaton has no start for a search that isn't anchored, isn't of the standard kind, or has an empty
+    /// pattern, checked in that order.
+    final fn try_find_word_iter<'a, 'h>(
+        &'a self,
+        kind: MatchKind,
+        haystack: &'h [u8],
+    ) -> Result<FindWordIter<'a, 'h, Self>, MatchError>
+    where
+        Self: Sized,
+        ensures { AnswersWords (Self.built self.now) (Self.supports self.now) kind haystack.entry.now result }
+    {
+        find_word_iter(self, kind, haystack)
     }
 
     /// Masks the text in place: each byte that lies in an occurrence of some pattern becomes `mask`, and every other byte stays.

@@ -1,6 +1,5 @@
 -- An export that borrows an automaton, and makes a value of it that a handle holds. Its parameters are the pointer, the
--- allocator
--- and the variable with the handle, and its result is a status.
+-- allocator and the variable with the handle, and its result is a status.
 use Rattle.ac_c.proofs.Lending.{ℕ, List, [], ◌∷◌, refl, id⊢, raw, ◌⊛◌, later, ◌$◌, ◌∵◌, !, qed, move, use1, split, await, done, of_opd, addr, stop, no_more, and_then, returns, enter, alloc_all, pass_all, free_all, look_at, get, through, sets, lands_as, fact, tables, shr_vals, heard, calls_from, triple_of, framed, Ghosts, Good, lent_to, lends, Says, over, says, named, mut_vals, mut_Tells, u32, uint_Lawful, w32}
 use seplogic.Ra.Ura.{Ura}
 use mir.Syntax.{Callee, Fn, Lifetime, Mutability, Ty, addr_of, assign, call, copy, deref, local, mut, place, return, rv_opd, seq, ty_int, ty_ptr, ty_ref, value_local}

@@ -1,7 +1,6 @@
 -- An export that borrows an automaton. C passes the pointer to an automaton that is lent. The export makes a reference
--- of it, and
--- returns what a callee returns for the reference and for the export's other parameters. So the export's clause is the
--- callee's:
+-- of it, and returns what a callee returns for the reference and for the export's other parameters. So the export's
+-- clause is the callee's:
 --     over      the export's signature: the pointer, the other parameters, and the type of the result
 --     says      its clauses: the automaton stays lent, and the callee's fact
 --     lends     it meets them, if its code runs as the callee does

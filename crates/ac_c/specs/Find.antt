@@ -42,8 +42,7 @@ IsRefusedStart ac asked status =
     (¬ supported_by ac asked.anchored) × (status ≡ refusal_status (refusal_of asked.anchored))
 
 -- the match within the bounds, if there is one; or why nothing was searched: the span is bad, or the automaton has no
--- start for the
--- search
+-- start for the search
 abbrev pub IsFoundBy : AhoCorasick → List ℕ → Bounds → Result (Option Occurrence) ℕ → Type 0
 IsFoundBy ac haystack b (Ok r) =
     IsSpanIn haystack b × supported_by ac (anchoring b.anchored) × IsFound (as_built ac) (asked_by haystack b) r

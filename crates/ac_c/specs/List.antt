@@ -87,16 +87,14 @@ abbrev pub run_from : AhoCorasick → List ℕ → Place → Run
 run_from ac haystack p = fresh_run (as_built ac) (asked_from haystack p (begins_at p (longest (patterns_of ac))))
 
 -- A run that filled a buffer has counted each byte up to the end of the last occurrence given, and has looked not far
--- ahead of it; or
--- it has counted every byte of its span, if there is room left after n of them.
+-- ahead of it; or it has counted every byte of its span, if there is room left after n of them.
 pub record CountsFilled (later : Run) (p : Place) (out : List Found) (n : ℕ) : Type 0 where
   pub last : 0 < n → n ≡ length out → CountsRun later (before_of (place_after p out n))
   pub near : 0 < n → n ≡ length out → LooksNear later (before_of (place_after p out n))
   pub all : n < length out → CountsRun later None
 
 -- The next occurrences cost what the run does from where it starts, and each byte that it passes is counted. A call
--- that is refused
--- costs nothing.
+-- that is refused costs nothing.
 abbrev pub CostsListing : AhoCorasick → List ℕ → Place → List Found → Steps → Steps → Result ℕ ℕ → Type 0
 CostsListing ac haystack p new before after (Ok count) =
     (later : Run) × RunsTo (run_from ac haystack p) later before after × CountsFilled later p new count

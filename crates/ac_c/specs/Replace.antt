@@ -63,8 +63,7 @@ abbrev pub begun_with : List ℕ → List ℕ → List ℕ
 begun_with bytes old = bytes ++ drop (length bytes) old
 
 -- The buffer begins with the text, whose length is told; or it is too short, and the length is told; or no number of 64
--- bits says the
--- length. The buffer is unchanged there.
+-- bits says the length. The buffer is unchanged there.
 abbrev pub PutsText : List ℕ → List ℕ → List ℕ → Length → Type 0
 PutsText text old new made =
     ((length text ≤ length old) × (made ≡ record { len = length text; status = ok }) × (new ≡ begun_with text old))
@@ -87,15 +86,13 @@ abbrev pub is_long : List ℕ → Bool
 is_long haystack = nat_le 4096 (length haystack)
 
 -- What it costs to know the length: a walk to its end, which may read ahead or not. If no number of 64 bits says the
--- length, the walk
--- may stop before.
+-- length, the walk may stop before.
 abbrev pub CostsLen : Bool → Walk → Steps → Steps → Result ℕ ℕ → Type 0
 CostsLen ahead w before after (Ok len) = WalksToEnd ahead w before after
 CostsLen ahead w before after (Err status) = WalksOn ahead w before after
 
 -- What a text into a buffer costs: a walk over the haystack for the length, and another one to write the text, if there
--- is room. They
--- read ahead only where the haystack is long.
+-- is room. They read ahead only where the haystack is long.
 pub record CostsInto (ac : AhoCorasick) (haystack : List ℕ) (status : ℕ) (before after : Steps) : Type 0 where
   pub written : status ≡ ok → (between : Steps) × WalksToEnd (is_long haystack) (walk_over ac haystack) before between
       × WalksToEnd (is_long haystack) (walk_over ac haystack) between after

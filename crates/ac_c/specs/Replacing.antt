@@ -45,8 +45,7 @@ slice_of None = record { len = 0; status = none }
 slice_of (Some bytes) = record { len = length bytes; status = ok }
 
 -- There isn't one replacement for each pattern, and nothing changed. Or the next slice of the text has this length; or
--- there is no
--- slice.
+-- there is no slice.
 abbrev pub IsGivenText : Replacing → List (Bor (List ℕ)) → Replacing → Length → Type 0
 IsGivenText r replacements t given =
     ((length replacements ≢ patterns_in r) × (t ≡ r) × (given ≡ record { len = 0; status = wrong_count }))

@@ -102,8 +102,7 @@ pub record AreGiven (left : List Occurrence) (old new : List Found) (n : ℕ) : 
   pub given : take n new ≡ map shown (take n left)
 
 -- The walk, which may read ahead or not, stands at the first cursor, and its next matches went to the buffer. It stands
--- at the second
--- cursor after them.
+-- at the second cursor after them.
 pub record TakesSome (ahead : Bool) (w : Walk) (c : Cursor) (old new : List Found) (before after : Steps)
     (taken : ℕ × Cursor) : Type 0 where
   pub given : AreGiven (left_of w) old new taken.0
@@ -125,8 +124,7 @@ abbrev pub are_many : ℕ → Bool
 are_many room = nat_le 16 room
 
 -- The next matches cost what the walk does from one cursor to the other. With room for few it reads nothing ahead. A
--- call that is
--- refused costs nothing.
+-- call that is refused costs nothing.
 abbrev pub CostsSome : AhoCorasick → List ℕ → Cursor → ℕ → Steps → Steps → Result (ℕ × Cursor) ℕ → Type 0
 CostsSome ac haystack c room before after (Ok taken) =
     (v : Walk) × WalksTo (are_many room) (walk_of_cursor ac haystack c) v before after × (v.at ≡ taken.1.start)

@@ -13,8 +13,7 @@ abbrev pub IsAccounted : Bool → Walk → Type 0
 IsAccounted ahead w = IsOnItsWay w × IsPaidWalk ahead w × CountsWalk w
 
 -- A walk, which may read ahead or not, went on to where the second one stands, and counted exactly what it did. So far
--- it is within
--- the budget of such a walk.
+-- it is within the budget of such a walk.
 pub record WalksTo (ahead : Bool) (w v : Walk) (before after : Steps) : Type 0 where
   pub built : v.built ≡ w.built
   pub asked : v.asked ≡ w.asked

@@ -1,10 +1,11 @@
 -- The worked rows: what the definitions give for small texts, by computation.
-use Rattle.std.specs.Prelude.{◌≡◌, ℕ, List, [], ◌∷◌, Some, false, refl}
+use Rattle.std.specs.Prelude.{◌≡◌, ℕ, List, [], ◌∷◌, Some, None, false, refl}
 use Rattle.ac_input.specs.declared.search.MatchKind.TheVariants.{Standard, LeftmostFirst, LeftmostLongest}
 use Rattle.ac_input.specs.Occurrence.{Search}
 use Rattle.ac_input.specs.Text.{replaced_from}
-use Rattle.ac_input.specs.Computed.{occurrences, best_of, walk_of, listing_of}
-use Rattle.ac_input.specs.Mask.{masked, in_masked}
+use Rattle.ac_input.specs.Computed.{occurrences, best_of, walk_among, walk_of, listing_of}
+use Rattle.ac_input.specs.Mask.{masked, masked_among, in_masked, in_masked_among}
+use Rattle.ac_input.specs.Word.{whole_occurrences}
 
 -- the patterns b, abc and abcd, searched in abcd
 abbrev pub nested : Search
@@ -187,3 +188,75 @@ ab_in_abb =
 -- a mask that the pattern has may make the pattern occur again
 pub ab_in_abb-masked : occurrences (in_masked 97 ab_in_abb) ≡ record { pattern = 0; start = 1; end = 3 } ∷ []
 ab_in_abb-masked = refl
+
+-- a and -x, searched in a-x
+abbrev pub a_and_dash_x : Search
+a_and_dash_x =
+    record {
+      patterns = (97 ∷ []) ∷ (45 ∷ 120 ∷ []) ∷ [];
+      pairing = [];
+      haystack = 97 ∷ 45 ∷ 120 ∷ [];
+      start = 0;
+      end = 3;
+      anchored = false;
+    }
+
+-- only a is a whole word: a word byte stands before -x
+pub a_and_dash_x-whole : whole_occurrences a_and_dash_x ≡ record { pattern = 0; start = 0; end = 1 } ∷ []
+a_and_dash_x-whole = refl
+
+-- once a is masked by a star, -x is a whole word
+pub a_and_dash_x-masked : masked_among whole_occurrences 42 a_and_dash_x ≡ 42 ∷ 45 ∷ 120 ∷ []
+a_and_dash_x-masked = refl
+
+pub a_and_dash_x-left : whole_occurrences (in_masked_among whole_occurrences 42 a_and_dash_x)
+    ≡ record { pattern = 1; start = 1; end = 3 } ∷ []
+a_and_dash_x-left = refl
+
+-- a, searched in the first byte of a and one more
+abbrev pub a_before : ℕ → Search
+a_before byte =
+    record {
+      patterns = (97 ∷ []) ∷ [];
+      pairing = [];
+      haystack = 97 ∷ byte ∷ [];
+      start = 0;
+      end = 1;
+      anchored = false;
+    }
+
+-- The byte after the span counts: before an underscore, a digit or a byte that isn't ASCII, a is no whole word.
+pub a_before-underscore : whole_occurrences (a_before 95) ≡ []
+a_before-underscore = refl
+
+pub a_before-digit : whole_occurrences (a_before 48) ≡ []
+a_before-digit = refl
+
+pub a_before-no_ascii : whole_occurrences (a_before 195) ≡ []
+a_before-no_ascii = refl
+
+-- before a space it is one
+pub a_before-space : whole_occurrences (a_before 32) ≡ record { pattern = 0; start = 0; end = 1 } ∷ []
+a_before-space = refl
+
+-- a, ab and b, searched in "ab b"
+abbrev pub ab_b : Search
+ab_b =
+    record {
+      patterns = (97 ∷ []) ∷ (97 ∷ 98 ∷ []) ∷ (98 ∷ []) ∷ [];
+      pairing = [];
+      haystack = 97 ∷ 98 ∷ 32 ∷ 98 ∷ [];
+      start = 0;
+      end = 4;
+      anchored = false;
+    }
+
+-- the walk of whole words takes ab, which the walk of all occurrences does not
+pub ab_b-whole : walk_among whole_occurrences LeftmostFirst ab_b 0 None
+    ≡ record { pattern = 1; start = 0; end = 2 } ∷ record { pattern = 2; start = 3; end = 4 } ∷ []
+ab_b-whole = refl
+
+pub ab_b-all : walk_of LeftmostFirst ab_b
+    ≡ record { pattern = 0; start = 0; end = 1 } ∷ record { pattern = 2; start = 1; end = 2 }
+    ∷ record { pattern = 2; start = 3; end = 4 } ∷ []
+ab_b-all = refl

@@ -1,4 +1,5 @@
 pub mod AlikeLemmas
+pub mod AmongLemmas
 pub mod BeginningLemmas
 pub mod BestLemmas
 pub mod ClassLemmas
@@ -15,6 +16,7 @@ pub mod LeftmostListLemmas
 pub mod LimitLemmas
 pub mod ListingLemmas
 pub mod LiveLemmas
+pub mod MaskAmongLemmas
 pub mod MaskGrowthLemmas
 pub mod MaskLemmas
 pub mod MaskTextLemmas
@@ -40,3 +42,4 @@ pub mod UnpairedLemmas
 pub mod UnusedLemmas
 pub mod Utf8Lemmas
 pub mod WalkLemmas
+pub mod WordLemmas

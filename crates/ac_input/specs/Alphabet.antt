@@ -30,8 +30,7 @@ abbrev pub class : List ℕ → ℕ → ℕ
 class classes byte = get_or classes byte 0
 
 -- A table of classes has an entry for each of the 256 bytes. Byte 0 is in class 0, and each other byte is in the class
--- of the byte
--- before it or in the next class.
+-- of the byte before it or in the next class.
 pub record IsClasses (classes : List ℕ) : Type 0 where
   pub len : length classes ≡ 256
   pub first : class classes 0 ≡ 0
@@ -39,8 +38,7 @@ pub record IsClasses (classes : List ℕ) : Type 0 where
       ⊎ (class classes (b + 1) ≡ class classes b + 1)
 
 -- The classes that boundaries make. A boundary is a byte after which a class ends. Byte 0 is in class 0; any other byte
--- is in the
--- next class if the byte before it is a boundary, else in that byte's class.
+-- is in the next class if the byte before it is a boundary, else in that byte's class.
 pub record AreClassesOf (boundaries : List Bool) (classes : List ℕ) : Type 0 where
   pub first : class classes 0 ≡ 0
   pub next : (b : ℕ) → b < 255 → class classes (b + 1) ≡ class classes b + (if has boundaries b then 1 else 0)

@@ -8,9 +8,8 @@ use Rattle.ac_input.specs.declared.search.MatchKind.TheVariants.{Standard, Leftm
 use Rattle.ac_input.specs.Occurrence.{Search, Occurrence, Occurs}
 
 -- The order in which a kind prefers occurrences, the preferred one first. Standard prefers the earliest end, then the
--- earliest
--- start. The leftmost kinds prefer the earliest start, leftmost-longest then the latest end. Ties go to the lowest
--- pattern number.
+-- earliest start. The leftmost kinds prefer the earliest start, leftmost-longest then the latest end. Ties go to the
+-- lowest pattern number.
 abbrev pub preference : MatchKind → Occurrence → Occurrence → Ordering
 preference Standard a b =
     ordering_then (nat_cmp a.end b.end) (ordering_then (nat_cmp a.start b.start) (nat_cmp a.pattern b.pattern))

@@ -24,10 +24,8 @@ pub record Filter : Type 0 where
   pub needles : List ℕ
 
 -- What a prefilter may return. `None` means that nothing occurs. A possible start lies in the span, and no occurrence
--- begins before
--- it. A match is the best of the search under a leftmost kind, and under every kind where there is one pattern. Under
--- standard a
--- match is returned only where there is one pattern.
+-- begins before it. A match is the best of the search under a leftmost kind, and under every kind where there is one
+-- pattern. Under standard a match is returned only where there is one pattern.
 abbrev pub IsCandidate : MatchKind → Search → Candidate → Type 0
 IsCandidate kind s candidates.None = (o : Occurrence) → ¬ Occurs s o
 IsCandidate kind s (candidates.Match m) =
@@ -66,8 +64,7 @@ IsNearFound (Some found) c =
     (at : ℕ) × (c ≡ candidates.PossibleStartOfMatch at) × (at ≤ found) × (found ≤ at + max_distance)
 
 -- A scan for bytes covered exactly these places of the span: those up to and including the first byte that it looks
--- for, or all of
--- them, where there is none. They lie before the end of every occurrence that is whole in the span.
+-- for, or all of them, where there is none. They lie before the end of every occurrence that is whole in the span.
 pub record IsScan (bytes : List ℕ) (s : Search) (places : ℕ) (c : Candidate) : Type 0 where
   pub found : Option ℕ
   pub first : IsFirstOf bytes s found

@@ -3,16 +3,13 @@ use Rattle.std.specs.Prelude.{◌≡◌, ℕ, Bool, true, false, List, [], ◌�
 use Rattle.ac_input.specs.Occurrence.{Occurrence}
 
 -- A call of the closure. It takes a state, an occurrence, the bytes of the occurrence and the destination; it returns
--- whether to
--- go on (none where it fails), and leaves a state and a destination.
+-- whether to go on (none where it fails), and leaves a state and a destination.
 abbrev pub Calls : Type 0 → Type 1
 Calls F = F → Occurrence → List ℕ → List ℕ → Option Bool → F → List ℕ → Type 0
 
 -- How a replacement goes on from place `at` of the text, for the occurrences that are left. For each one the bytes
--- before it are
--- appended to the destination, then the closure is called. After the last one, or once the closure returns false, the
--- rest of the
--- text is appended.
+-- before it are appended to the destination, then the closure is called. After the last one, or once the closure
+-- returns false, the rest of the text is appended.
 abbrev pub IsChain : {F : Type 0} → Calls F → List ℕ → ℕ → List Occurrence → F → List ℕ → F → List ℕ → Type 0
 IsChain Call x at [] f old last new = (last ≡ f) × (new ≡ old ++ drop at x)
 IsChain {F} Call x at (o ∷ os) f old last new =

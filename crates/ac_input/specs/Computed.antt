@@ -1,6 +1,5 @@
 -- The best, the pick, the walk and the listing as functions that compute them. The laws prove that each is the only
--- value that
--- meets its relation.
+-- value that meets its relation.
 use Rattle.std.specs.Prelude.{ℕ, zero, suc, ◌+◌, ◌-◌, ◌*◌, Bool, true, false, ◌&&◌, ◌==◌, nat_le, List, [], ◌∷◌, ◌++◌, length, Option, Some, None, if◌then◌else◌, slice_range, filter}
 use Rattle.std.specs.declared.cmp.Ordering.{Ordering}
 use Rattle.std.specs.declared.cmp.Ordering.TheVariants.{Less, Equal, Greater}
@@ -48,37 +47,49 @@ abbrev pub repeats : Option ℕ → Occurrence → Bool
 repeats None o = false
 repeats (Some last) o = (o.start == last) && (o.end == last)
 
--- the pick of a walk that stands at a place
-abbrev pub pick_of : MatchKind → Search → ℕ → Option ℕ → Option Occurrence
-pick_of kind s at last =
-    elim (best_of kind (starting_at s at)) [
+-- the pick of a walk that stands at a place, where `all` lists the occurrences of a search that count
+abbrev pub pick_among : (Search → List Occurrence) → MatchKind → Search → ℕ → Option ℕ → Option Occurrence
+pick_among all kind s at last =
+    elim (least kind (all (starting_at s at))) [
       | None ↦ None
       | Some b ↦
-          (if repeats last b then best_of kind (starting_at s (at + 1)) else Some b)
+          (if repeats last b then least kind (all (starting_at s (at + 1))) else Some b)
     ]
 
 -- the picks of a walk that stands at a place, at most this many
-abbrev pub walk_from : ℕ → MatchKind → Search → ℕ → Option ℕ → List Occurrence
-walk_from zero kind s at last = []
-walk_from (suc turns) kind s at last =
-    elim (pick_of kind s at last) [ None ↦ [] | Some o ↦ o ∷ walk_from turns kind s o.end (Some o.end) ]
+abbrev pub walk_from : (Search → List Occurrence) → ℕ → MatchKind → Search → ℕ → Option ℕ → List Occurrence
+walk_from all zero kind s at last = []
+walk_from all (suc turns) kind s at last =
+    elim (pick_among all kind s at last) [ None ↦ [] | Some o ↦ o ∷ walk_from all turns kind s o.end (Some o.end) ]
 
 -- The walk that stands at a place. Each pick that isn't empty moves it on, so two turns a place are enough.
+abbrev pub walk_among : (Search → List Occurrence) → MatchKind → Search → ℕ → Option ℕ → List Occurrence
+walk_among all kind s at last = walk_from all (2 * (s.end + 1 - at) + 1) kind s at last
+
+-- the pick where every occurrence counts
+abbrev pub pick_of : MatchKind → Search → ℕ → Option ℕ → Option Occurrence
+pick_of kind s at last = pick_among occurrences kind s at last
+
+-- the walk where every occurrence counts
 abbrev pub walk_after : MatchKind → Search → ℕ → Option ℕ → List Occurrence
-walk_after kind s at last = walk_from (2 * (s.end + 1 - at) + 1) kind s at last
+walk_after kind s at last = walk_among occurrences kind s at last
 
 -- the whole walk
 abbrev pub walk_of : MatchKind → Search → List Occurrence
 walk_of kind s = walk_after kind s s.start None
 
--- the occurrences that end at one of the next `places` places, from place `at` on, by their ends
-abbrev pub to_place : Search → ℕ → ℕ → List Occurrence
-to_place s at zero = []
-to_place s at (suc places) = filter (λ o. o.end == at) (occurrences s) ++ to_place s (at + 1) places
+-- those of the occurrences that count that end at one of the next `places` places, from place `at` on, by their ends
+abbrev pub to_place : (Search → List Occurrence) → Search → ℕ → ℕ → List Occurrence
+to_place all s at zero = []
+to_place all s at (suc places) = filter (λ o. o.end == at) (all s) ++ to_place all s (at + 1) places
 
--- the overlapping listing: for each end in turn the occurrences that end there
+-- the listing of the occurrences that count: for each end in turn those that end there
+abbrev pub listing_among : (Search → List Occurrence) → Search → List Occurrence
+listing_among all s = to_place all s s.start (s.end + 1 - s.start)
+
+-- the overlapping listing, of every occurrence
 abbrev pub listing_of : Search → List Occurrence
-listing_of s = to_place s s.start (s.end + 1 - s.start)
+listing_of s = listing_among occurrences s
 
 -- whether an occurrence comes after `before` by end, start and number; with no `before`, each one does
 abbrev pub is_after : Option Occurrence → Occurrence → Bool

@@ -17,16 +17,14 @@ Serves starts.Unanchored anchored = anchored ≡ anchorings.No
 Serves starts.Anchored anchored = anchored ≡ anchorings.Yes
 
 -- How many states a deterministic automaton has, where one with failure links has `states`. For both anchorings it has
--- each state
--- twice, except those that stand for no prefix.
+-- each state twice, except those that stand for no prefix.
 abbrev pub dfa_states : StartKind → ℕ → ℕ
 dfa_states starts.Both states = 2 * states - fixed_states
 dfa_states starts.Unanchored states = states
 dfa_states starts.Anchored states = states
 
 -- The number of the last state of a deterministic automaton. A state's number is the place of its row. A row has as
--- many entries as
--- the least power of two that is enough for the classes.
+-- many entries as the least power of two that is enough for the classes.
 abbrev pub IsDfaSize : Dictionary → StartKind → Bool → ℕ → Type 0
 IsDfaSize m kind classes n =
     (states alphabet stride : ℕ) × HasStates m states × IsAlphabet m classes alphabet

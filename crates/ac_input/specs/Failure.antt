@@ -1,23 +1,17 @@
 -- Failure links: which part of a text may still grow into the match when the whole of it no longer can, and which
--- patterns the
--- state of a text lists. They are why an automaton needs one state for each beginning of an entered pattern, and no
--- more.
+-- patterns the state of a text lists. They are why an automaton needs one state for each beginning of an entered
+-- pattern, and no more.
 --
 -- A state stands for a text that begins an entered pattern, so the state that is reached is the live prefix of the
--- bytes that were
--- read. If the next byte doesn't extend that text to a longer beginning, the byte is tried from the failure. This is
--- the longest
--- part of the text that may still grow into the match. Failures are followed until the byte leads somewhere. Each
--- failure is
--- shorter, so the bytes that it drops pay for the look. The failure of a text is computed from that of the text without
--- its last
--- byte. Under a leftmost kind a text that matches has none.
+-- bytes that were read. If the next byte doesn't extend that text to a longer beginning, the byte is tried from the
+-- failure. This is the longest part of the text that may still grow into the match. Failures are followed until the
+-- byte leads somewhere. Each failure is shorter, so the bytes that it drops pay for the look. The failure of a text is
+-- computed from that of the text without its last byte. Under a leftmost kind a text that matches has none.
 --
 -- A state lists the patterns that are the same as its text, and then what its failure lists. Searches need nothing else
--- of a state,
--- whichever text reached it. Texts that are the same have the same failures and lists, so an automaton may store the
--- canonical
--- bytes of each. The lemmas are in FailureLemmas, AlikeLemmas, TellsLemmas, ShadowLemmas and SomeLemmas.
+-- of a state, whichever text reached it. Texts that are the same have the same failures and lists, so an automaton may
+-- store the canonical bytes of each. The lemmas are in FailureLemmas, AlikeLemmas, TellsLemmas, ShadowLemmas and
+-- SomeLemmas.
 use Rattle.std.specs.Prelude.{◌↔◌, ℕ, ◌<◌, ◌≤◌, List, [], ◌∷◌, ◌++◌, length, drop, Contains, IsTrue, false, Option, Some, None}
 use Rattle.ac_input.specs.Pairing.{IsDistinct}
 use Rattle.ac_input.specs.Same.{same_text}
@@ -29,10 +23,8 @@ IsLeastPlace P None = (at : ℕ) → ¬ P at
 IsLeastPlace P (Some at) = P at × ((another : ℕ) → P another → at ≤ another)
 
 -- Where the failure of a text begins: its longest proper suffix that is alive. That suffix begins an entered pattern
--- and, under a
--- leftmost kind, starts no later than the best of the text. Where no proper suffix is alive there is no failure; the
--- empty text has
--- none.
+-- and, under a leftmost kind, starts no later than the best of the text. Where no proper suffix is alive there is no
+-- failure; the empty text has none.
 abbrev pub IsFailure : Dictionary → List ℕ → Option ℕ → Type 0
 IsFailure m text r = IsLeastPlace (λ at. (1 ≤ at) × IsAlive m false text at) r
 

@@ -7,8 +7,7 @@ use Rattle.ac_input.specs.Occurrence.{Search}
 use Rattle.ac_input.specs.Dictionary.{Dictionary}
 
 -- an input: the haystack, the span that is searched, whether a match must start where the span does, and whether the
--- earliest end
--- is taken
+-- earliest end is taken
 pub record Asked : Type 0 where
   pub haystack : List ℕ
   pub span : Span

@@ -4,6 +4,7 @@ pub mod BeginningLaws
 pub mod LiveLaws
 pub mod MaskLaws
 pub mod Utf8Laws
+pub mod WordLaws
 use Rattle.std.specs.Prelude.{◌≡◌, ◌≢◌, ◌↔◌, ℕ, ◌<◌, ◌≤◌, false, List, [], ◌∷◌, ◌++◌, length, Contains, Option, None}
 use Rattle.std.specs.declared.cmp.Ordering.TheVariants.{Greater}
 use Rattle.ac_input.specs.declared.search.MatchKind.{MatchKind}
@@ -17,8 +18,7 @@ use Rattle.ac_input.specs.Rules.{FirstBadLine, FirstBadTextLine, IsRuleFile, IsT
 use Rattle.ac_input.specs.Computed.{best_of, pick_of, walk_after, walk_of}
 
 -- Each occurrence starts where the one before it ended or later, and later than that one started. None is empty at the
--- very place
--- where the one before it ended.
+-- very place where the one before it ended.
 abbrev pub IsApart : List Occurrence → Type 0
 IsApart [] = Unit {0}
 IsApart (p ∷ []) = Unit {0}

@@ -25,3 +25,4 @@ pub mod Work
 pub mod Dfa
 pub mod Unused
 pub mod Mask
+pub mod Word

@@ -46,8 +46,7 @@ pub data Limit : Type 0 where
   StateNumber : Limit
 
 -- The limit that one more pattern passes: its number is too great, or it is too long, or with it there are too many
--- states. Where
--- several are passed, the first of these counts.
+-- states. Where several are passed, the first of these counts.
 abbrev pub Passes : Dictionary → List ℕ → Limit → Type 0
 Passes m p PatternNumber = greatest_number < length m.patterns
 Passes m p PatternLength = (length m.patterns ≤ greatest_number) × (greatest_number < length p)

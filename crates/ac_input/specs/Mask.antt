@@ -11,15 +11,24 @@ use Rattle.ac_input.specs.Dictionary.{Dictionary, whole}
 abbrev pub Covers : Occurrence → ℕ → Type 0
 Covers o at = (o.start ≤ at) × (at < o.end)
 
--- some occurrence of the search covers the place; all count, whether or not they overlap
-abbrev pub IsCovered : Search → ℕ → Type 0
-IsCovered s at = (o : Occurrence) × Occurs s o × Covers o at
+-- Some occurrence covers the place. `Is` says which occurrences of a search count; all that do count here, whether or
+-- not they overlap.
+abbrev pub IsCoveredAmong : (Search → Occurrence → Type 0) → Search → ℕ → Type 0
+IsCoveredAmong Is s at = (o : Occurrence) × Is s o × Covers o at
 
 -- the text has the mask at each covered place, and the byte of the haystack at each other
-pub record IsMasked (mask : ℕ) (s : Search) (text : List ℕ) : Type 0 where
+pub record IsMaskedAmong (Is : Search → Occurrence → Type 0) (mask : ℕ) (s : Search) (text : List ℕ) : Type 0 where
   pub len : length text ≡ length s.haystack
-  pub covered : (at : ℕ) → IsCovered s at → slice_index text at ≡ mask
-  pub kept : (at : ℕ) → ¬ IsCovered s at → slice_index text at ≡ slice_index s.haystack at
+  pub covered : (at : ℕ) → IsCoveredAmong Is s at → slice_index text at ≡ mask
+  pub kept : (at : ℕ) → ¬ IsCoveredAmong Is s at → slice_index text at ≡ slice_index s.haystack at
+
+-- the place is covered, where every occurrence counts
+abbrev pub IsCovered : Search → ℕ → Type 0
+IsCovered s at = IsCoveredAmong Occurs s at
+
+-- the text is the masked haystack, where every occurrence counts
+abbrev pub IsMasked : ℕ → Search → List ℕ → Type 0
+IsMasked mask s text = IsMaskedAmong Occurs mask s text
 
 -- whether an occurrence covers the place
 abbrev pub covers : ℕ → Occurrence → Bool
@@ -30,13 +39,21 @@ abbrev pub masked_from : ℕ → List ℕ → ℕ → List Occurrence → List �
 masked_from at [] mask os = []
 masked_from at (b ∷ bs) mask os = (if list_any (covers at) os then mask else b) ∷ masked_from (at + 1) bs mask os
 
--- the masked haystack of a search
-abbrev pub masked : ℕ → Search → List ℕ
-masked mask s = masked_from 0 s.haystack mask (occurrences s)
+-- the masked haystack of a search, where `all` lists the occurrences that count
+abbrev pub masked_among : (Search → List Occurrence) → ℕ → Search → List ℕ
+masked_among all mask s = masked_from 0 s.haystack mask (all s)
 
 -- the same search, of its masked haystack
+abbrev pub in_masked_among : (Search → List Occurrence) → ℕ → Search → Search
+in_masked_among all mask s = record s { haystack = masked_among all mask s }
+
+-- the masked haystack, where every occurrence counts
+abbrev pub masked : ℕ → Search → List ℕ
+masked mask s = masked_among occurrences mask s
+
+-- the same search, of that haystack
 abbrev pub in_masked : ℕ → Search → Search
-in_masked mask s = record s { haystack = masked mask s }
+in_masked mask s = in_masked_among occurrences mask s
 
 -- The text is final before a place: however it goes on, what begins before the place ends within the text.
 abbrev pub IsFinalBefore : Dictionary → List ℕ → ℕ → Type 0

@@ -6,8 +6,7 @@ abbrev pub named_for : List ℕ → ℕ → ℕ
 named_for pairing byte = get_or pairing byte byte
 
 -- A pairing gives each byte at most one other, which stands for it. It is a table of 256 bytes: two bytes are partners
--- where it
--- names each of them for the other. A byte in no pair is its own partner.
+-- where it names each of them for the other. A byte in no pair is its own partner.
 abbrev pub other : List ℕ → ℕ → ℕ
 other pairing byte = if named_for pairing (named_for pairing byte) == byte then named_for pairing byte else byte
 

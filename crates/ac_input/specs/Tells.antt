@@ -25,10 +25,8 @@ before_last (b ∷ []) = []
 before_last (b ∷ c ∷ bs) = b ∷ before_last (c ∷ bs)
 
 -- What a list says from the unanchored start. Under standard it is all patterns that the text ends in, the longest
--- first, then by
--- number. Under a leftmost kind the first of the list is the best of the text, and ends where the text ends. If the
--- list is empty,
--- the last byte has not changed the best; an empty text then has none.
+-- first, then by number. Under a leftmost kind the first of the list is the best of the text, and ends where the text
+-- ends. If the list is empty, the last byte has not changed the best; an empty text then has none.
 abbrev pub TellsUnanchored : MatchKind → Dictionary → List ℕ → List ℕ → Type 0
 TellsUnanchored Standard m text ns =
     ListsAll (λ o. Occurs (whole m text false) o × (o.end ≡ length text)) (map (ending m text) ns)
@@ -39,8 +37,7 @@ TellsUnanchored kind m (b ∷ bs) [] =
 TellsUnanchored kind m text (n ∷ ns) = IsBest kind (whole m text false) (Some (ending m text n))
 
 -- What a list says from the start of either anchoring. From the anchored start, its patterns that are as long as the
--- text are the
--- entered patterns that match the whole text.
+-- text are the entered patterns that match the whole text.
 abbrev pub Tells : Dictionary → Anchored → List ℕ → List ℕ → Type 0
 Tells m No text ns = TellsUnanchored m.kind m text ns
 Tells m Yes text ns =

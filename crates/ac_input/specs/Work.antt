@@ -13,9 +13,8 @@ abbrev pub lookups_per_byte : Bool → ℕ
 lookups_per_byte deterministic = if deterministic then 1 else 2
 
 -- The looks of a search that read this many more bytes. There is at least one for each byte. There are at most two for
--- each, plus
--- the bytes that were live before, less those that are live after. A deterministic automaton takes exactly one for
--- each.
+-- each, plus the bytes that were live before, less those that are live after. A deterministic automaton takes exactly
+-- one for each.
 pub record IsLookups (deterministic : Bool) (bytes live_before live_after : ℕ) (before after : Steps) : Type 0 where
   pub some : before.looked.value + bytes ≤ after.looked.value
   pub bound : after.looked.value + live_after ≤ before.looked.value + 2 * bytes + live_before
@@ -39,10 +38,8 @@ over_at s None = s.end
 over_at s (Some o) = o.end
 
 -- What a find with this result may cost. Its looks are linear in the span. Under standard they end with the match;
--- under a leftmost
--- kind they go at most the longest pattern and one byte past the match's start. Its scans cover at most 256 places for
--- each byte up
--- to the match's end.
+-- under a leftmost kind they go at most the longest pattern and one byte past the match's start. Its scans cover at
+-- most 256 places for each byte up to the match's end.
 pub record IsFindWork (kind : MatchKind) (deterministic : Bool) (s : Search) (r : Option Occurrence)
     (before after : Steps) : Type 0 where
   pub looked : after.looked.value ≤ before.looked.value + lookups_per_byte deterministic * (s.end - s.start)
@@ -55,15 +52,13 @@ pub record IsFindWork (kind : MatchKind) (deterministic : Bool) (s : Search) (r 
   pub moved : after.moved.value ≡ before.moved.value
 
 -- how far a search with this result has come at least: to the match's end, or to the span's where there is none; but an
--- anchored
--- one without a match may be over at any place
+-- anchored one without a match may be over at any place
 abbrev pub come_at_least : Search → Option Occurrence → ℕ
 come_at_least s None = if s.anchored then s.start else s.end
 come_at_least s (Some o) = o.end
 
 -- The search counts each byte that it passes: without a prefilter as a look, with one that scans for bytes as a look or
--- a scanned
--- place. With a prefilter that searches for whole patterns, it doesn't.
+-- a scanned place. With a prefilter that searches for whole patterns, it doesn't.
 abbrev pub CountsBytes : Option Filter → Type 0
 CountsBytes filter = IfSome filter (λ f. f.needles ≢ [])
 

@@ -82,8 +82,7 @@ IsAdmissible m =
     ⊎ (PackedServes m ⊎ (((bytes : List ℕ) × AreStartBytes m bytes) ⊎ ((bytes : List ℕ) × AreRareBytes m bytes))))
 
 -- Searching with these needles serves the dictionary. Needles are start bytes or rare bytes of it. Without needles, the
--- search for
--- one pattern or packed search serves it.
+-- search for one pattern or packed search serves it.
 abbrev pub IsWayOf : Dictionary → List ℕ → Type 0
 IsWayOf m [] = MemmemServes m ⊎ PackedServes m
 IsWayOf m (byte ∷ bytes) = AreStartBytes m (byte ∷ bytes) ⊎ AreRareBytes m (byte ∷ bytes)

@@ -50,8 +50,7 @@ edge_of transition = (transition.byte, transition.next)
 -- ---- what states stand for
 
 -- The state of the definitions for which a number stands. State 0 is the dead one. State 1 is the fail state: it stands
--- for no
--- state, and no text leads there. Each other one stands for a text.
+-- for no state, and no text leads there. Each other one stands for a text.
 abbrev pub state_of : (ℕ → List ℕ) → ℕ → Option (List ℕ)
 state_of text zero = None
 state_of text (suc zero) = None
@@ -62,10 +61,8 @@ abbrev pub InOneRun : ℕ → ℕ → ℕ → Type 0
 InOneRun start i j = ((1 < i) × (j < start)) ⊎ (start + 1 < i)
 
 -- The texts for which the states stand, from state 2 on. Each begins an entered pattern, in canonical bytes. Each
--- occurs once,
--- except the empty text, which belongs to the unanchored start and to the anchored start after it. Within each run they
--- come in
--- order of length, and those of one length by the first pattern that begins with them.
+-- occurs once, except the empty text, which belongs to the unanchored start and to the anchored start after it. Within
+-- each run they come in order of length, and those of one length by the first pattern that begins with them.
 pub record AreTexts (m : Dictionary) (len start : ℕ) (text : ℕ → List ℕ) : Type 0 where
   pub starts : (1 < start) × (start + 1 < len) × (text start ≡ []) × (text (start + 1) ≡ [])
   pub others : (i : ℕ) → 1 < i → i < len → text i ≡ [] → (i ≡ start) ⊎ (i ≡ start + 1)
@@ -77,8 +74,7 @@ pub record AreTexts (m : Dictionary) (len start : ℕ) (text : ℕ → List ℕ)
       → BeginsBefore m (text i) (text j)
 
 -- A byte leads from state i to state j without a failure: to the state that is one byte longer, or else nowhere. From
--- the
--- unanchored start it leads to where the byte alone leads, and from the dead state to itself.
+-- the unanchored start it leads to where the byte alone leads, and from the dead state to itself.
 pub record IsEdge (m : Dictionary) (len start : ℕ) (text : ℕ → List ℕ) (i byte j : ℕ) : Type 0 where
   pub dead : i ≡ 0 → j ≡ 0
   pub child : 1 < i → BeginsEntered m (text i ++ byte ∷ [])
@@ -94,8 +90,7 @@ abbrev pub IsPlaceOf : List State → ℕ → ℕ → Type 0
 IsPlaceOf states i k = ((kept_of states i).transitions ≤ k) × (k < (kept_of states (i + 1)).transitions)
 
 -- The transitions of each state are a range, in rising order of byte. The dead state and both starts have one for each
--- byte, and
--- the fail state has none. Every other state has those that lead to a state one byte longer.
+-- byte, and the fail state has none. Every other state has those that lead to a state one byte longer.
 pub record AreTransitions (m : Dictionary) (len start : ℕ) (text : ℕ → List ℕ) (states : List State)
     (transitions : List Transition) : Type 0 where
   pub ranges : (i : ℕ) → i < len → (kept_of states i).transitions ≤ (kept_of states (i + 1)).transitions
@@ -114,8 +109,7 @@ pub record AreTransitions (m : Dictionary) (len start : ℕ) (text : ℕ → Lis
       → BeginsEntered m (text i ++ byte_at transitions k ∷ [])
 
 -- What a row has for a byte: the state to which the byte leads in a search that isn't anchored, all failures followed.
--- From the
--- dead state that is the dead one.
+-- From the dead state that is the dead one.
 pub record IsRowEntry (m : Dictionary) (len start : ℕ) (text : ℕ → List ℕ) (i byte j : ℕ) : Type 0 where
   pub within : j < len
   pub stands : j ≢ nowhere
@@ -131,8 +125,7 @@ AreRows m len start text states classes rows =
     × IsRowEntry m len start text i byte (slice_index rows (row_of states i + class classes byte))
 
 -- A state has a row exactly if it is less deep than `below`; the fail state has none. Once the rows are full, with as
--- many entries
--- as a row's place can say, the states that are left have none either.
+-- many entries as a row's place can say, the states that are left have none either.
 pub record AreRowsBelow (below : ℕ) (tables : Tables) : Type 0 where
   pub only : (i : ℕ) → i + 1 < length tables.states.items → row_of tables.states.items i ≢ no_row
       → (i ≢ nowhere) × ((kept_of tables.states.items i).depth < below)
@@ -153,8 +146,7 @@ abbrev pub list_of : List State → List ℕ → ℕ → List ℕ
 list_of states matches i = take (kept_of states i).matches_len (drop (kept_of states i).matches matches)
 
 -- Which patterns match at each state. The states at which some match come first, and the starts after them; the starts
--- are among
--- them if there is an empty pattern.
+-- are among them if there is an empty pattern.
 pub record AreLists (m : Dictionary) (len start max_match : ℕ) (text : ℕ → List ℕ) (states : List State)
     (matches : List ℕ) : Type 0 where
   pub ranges : (i : ℕ) → i < len → (kept_of states i).matches + (kept_of states i).matches_len ≤ length matches
@@ -165,8 +157,7 @@ pub record AreLists (m : Dictionary) (len start max_match : ℕ) (text : ℕ →
   pub known : (k : ℕ) → k < length matches → slice_index matches k < length m.patterns
 
 -- The tables are those of the automaton of a dictionary, whose states stand for these texts. One more entry stands
--- after the last
--- state, for the end of its transitions.
+-- after the last state, for the end of its transitions.
 pub record AreTables (m : Dictionary) (text : ℕ → List ℕ) (tables : Tables) : Type 0 where
   pub len : ℕ
   pub counted : length tables.states.items ≡ len + 1
@@ -185,8 +176,7 @@ abbrev pub IsHeldFor : Dictionary → Option Filter → Type 0
 IsHeldFor m held = (f : Filter) → held ≡ Some f → f.dictionary ≡ m
 
 -- The tables, the byte classes and the prefilter, if any, are those of the dictionary, which is within the limits and
--- has a valid
--- pairing.
+-- has a valid pairing.
 pub record AreParts (m : Dictionary) (tables : Tables) (prefilter : Option Filter) : Type 0 where
   pub within : ∥ IsWithinLimits m ∥₁
   pub stands : ∥ ((text : ℕ → List ℕ) × AreTables m text tables) ∥₁

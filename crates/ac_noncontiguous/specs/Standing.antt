@@ -10,8 +10,7 @@ use Rattle.ac_noncontiguous.specs.declared.error.BuildErrorKind.TheVariants.{Sta
 use Rattle.ac_noncontiguous.specs.Trie.Tree.{depth, text, is_match}
 
 -- Each state stands for a prefix of an entered pattern, in canonical bytes. Each entered pattern ends in the state of
--- its own
--- text; the others are shadowed. The match states are those in which a pattern ends.
+-- its own text; the others are shadowed. The match states are those in which a pattern ends.
 pub record HasEntered (m : Dictionary) (states : List State) (ends : List (Option ℕ)) : Type 0 where
   pub counted : length ends ≡ length m.patterns
   pub short : (n : ℕ) (p : List ℕ) → IsPattern m n p → length p ≤ greatest_number

@@ -8,8 +8,7 @@ use Rattle.ac_noncontiguous.specs.Nfa.ReadCalls.{classes_in}
 use Rattle.ac_noncontiguous.specs.Nfa.Reads.{dictionary}
 
 -- The classes are those of the noncontiguous automaton, which are its dictionary's; if bytes aren't put into classes,
--- each byte is
--- a class alone.
+-- each byte is a class alone.
 abbrev pub AreClassesFor : NFA → Bool → List ℕ → Type 0
 AreClassesFor nfa true classes = (classes ≡ classes_in nfa) × (∥ AreByteClasses (dictionary nfa) (classes_in nfa) ∥₁)
 AreClassesFor nfa false classes = (b : ℕ) → b < 256 → class classes b ≡ b

@@ -36,15 +36,13 @@ abbrev pub IsPackedFor : kinds.MatchKind → List (List ℕ) → Packed → Type
 IsPackedFor kind patterns searcher = (search_kind searcher.kind ≡ kind) × (searcher.patterns ≡ patterns)
 
 -- An automaton serves settings and rules: it is built of the rules' patterns by the settings, and has a start for
--- searches that may
--- match anywhere.
+-- searches that may match anywhere.
 pub record IsServing (settings : Settings) (rules : List Rule) (ac : AhoCorasick) : Type 0 where
   pub built : IsFrontBuilt (builder_by settings) (rule_patterns rules) ac
   pub start : supported_by ac No
 
 -- What finds the matches of settings and rules: an automaton that serves them; or a packed search for the patterns and
--- the kind,
--- where the engine's word names it and no bytes are paired.
+-- the kind, where the engine's word names it and no bytes are paired.
 abbrev pub IsFinderOf : Settings → List Rule → Finder → Type 0
 IsFinderOf settings rules (finders.Automaton automaton) = IsServing settings rules automaton
 IsFinderOf settings rules (finders.Packed searcher) =

@@ -14,8 +14,7 @@ use Rattle.acsub.specs.declared.matches.Matches.TheVariants as sources
 -- ---- what it may cost
 
 -- What a run that holds its input may cost, for n bytes of input. Under the standard kind its look-ups are within those
--- of one
--- walk.
+-- of one walk.
 pub record IsHeldCost (plan : Plan) (n : ℕ) (before after : Steps) : Type 0 where
   pub looked : plan.settings.kind ≡ Standard → AreLooksFor plan n before after
   pub scanned : after.scanned.value ≤ before.scanned.value + 256 * n
@@ -24,8 +23,7 @@ pub record IsHeldCost (plan : Plan) (n : ℕ) (before after : Steps) : Type 0 wh
 -- ---- what was counted
 
 -- All that was counted since `begun` is what a walk counted. The walk ends within n bytes, and its automaton is
--- deterministic where
--- a DFA serves.
+-- deterministic where a DFA serves.
 pub record IsWalkCounted (plan : Plan) (n : ℕ) (begun now : Steps) (walk : Walk) : Type 0 where
   pub counted : Done walk.looked walk.scanned walk.moved begun now
   pub kind : walk_kind walk ≡ plan.settings.kind
@@ -34,8 +32,7 @@ pub record IsWalkCounted (plan : Plan) (n : ℕ) (begun now : Steps) (walk : Wal
   pub paid : IsWithinBudget walk
 
 -- All that was counted since `begun` is what a run through all occurrences counted. The run spans at most n bytes, and
--- its
--- automaton is deterministic where a DFA serves.
+-- its automaton is deterministic where a DFA serves.
 pub record IsListingCounted (plan : Plan) (n : ℕ) (begun now : Steps) (run : Run) : Type 0 where
   pub counted : Done run.looked run.scanned run.moved begun now
   pub looks : IsServedByDfa plan.settings plan.rules → IsTrue run.built.deterministic

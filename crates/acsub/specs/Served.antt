@@ -51,8 +51,7 @@ dictionary_for settings rules =
 -- ---- the limits
 
 -- The settings ask for an automaton, and the rules' patterns exceed this limit: one of every build, or one of the
--- automaton that is
--- named. Out of memory is no limit.
+-- automaton that is named. Out of memory is no limit.
 abbrev pub IsNotBuilt : Settings → List Rule → BuildErrorKind → Type 0
 IsNotBuilt settings rules error =
     (settings.engine ≢ engines.Packed) × (error ≢ limits.Memory)

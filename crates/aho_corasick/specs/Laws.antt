@@ -6,8 +6,7 @@ use Rattle.ac_literal.specs.Packed.{Packed, matches_of, search_kind}
 use Rattle.ac_automaton.specs.Automaton.{Built, walk_in}
 
 -- If no byte is paired, a packed searcher and an automaton of the same patterns and the same leftmost kind have the
--- same matches in
--- every whole text.
+-- same matches in every whole text.
 abbrev pub PackedWalksAlike : Type 0
 PackedWalksAlike =
     (packed : Packed) (b : Built) (text : List ℕ)

@@ -55,8 +55,7 @@ abbrev pub TakesDfa : Settings → Dictionary → Type 0
 TakesDfa s m = (s.start_kind ≢ Both) × (length m.patterns ≤ most_for_dfa) × IsWithinFor s m DFA
 
 -- Which automaton serves a dictionary: the one that is named, within its limit. If none is named, it is the DFA if one
--- is taken,
--- else the contiguous NFA if it isn't too large, else the noncontiguous NFA.
+-- is taken, else the contiguous NFA if it isn't too large, else the noncontiguous NFA.
 abbrev pub IsServed : Option AhoCorasickKind → Settings → Dictionary → AhoCorasickKind → Type 0
 IsServed (Some named) s m kind = (kind ≡ named) × IsWithinFor s m kind
 IsServed None s m DFA = TakesDfa s m
@@ -66,8 +65,7 @@ IsServed None s m NoncontiguousNFA = (¬ TakesDfa s m) × IsTooLargeFor s m Cont
 -- ---- what is built
 
 -- The automaton is built of the patterns, which are within the limits of a build, by the settings, and serves their
--- searches. It
--- holds a prefilter as one is wanted, and is of the kind that serves.
+-- searches. It holds a prefilter as one is wanted, and is of the kind that serves.
 pub record IsFrontBuilt (b : AhoCorasickBuilder) (patterns : List (List ℕ)) (ac : AhoCorasick) : Type 0 where
   pub dictionary : (as_built ac).dictionary ≡ front_dictionary b.settings patterns
   pub within : IsWithinLimits (front_dictionary b.settings patterns)
@@ -86,8 +84,7 @@ pub record IsNamedTooLarge (b : AhoCorasickBuilder) (m : Dictionary) (error : Bu
   pub overflow : error ≡ StateIDOverflow greatest_number requested
 
 -- Why none is built of these patterns: they pass a limit of every build, or the automaton that was named would be too
--- large, or
--- memory ran out.
+-- large, or memory ran out.
 abbrev pub IsFrontBuildRefused : AhoCorasickBuilder → List (List ℕ) → BuildErrorKind → Type 0
 IsFrontBuildRefused b patterns error =
     IsBuildRefused (front_dictionary b.settings patterns) error

@@ -1,5 +1,6 @@
 //! What an automaton is, for those who search state by state.
 pub use ac_automaton::automaton::{Advance, Automaton};
+pub use ac_automaton::in_memory::words::FindWordIter;
 pub use ac_automaton::iter::FindIter;
 pub use ac_automaton::overlapping::{FindOverlappingIter, OverlappingState, Position, Shown};
 pub use ac_automaton::search::Search;

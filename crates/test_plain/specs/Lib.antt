@@ -7,3 +7,4 @@ pub use Rattle.ac_input.specs.Listing
 pub use Rattle.ac_input.specs.Mask
 pub mod Naive
 pub use Rattle.ac_input.specs.Computed
+pub use Rattle.ac_input.specs.Word

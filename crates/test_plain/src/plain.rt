@@ -3,23 +3,24 @@
 //! A [`Naive`] says what is searched for, and where. The best occurrence is found by going through the places of the span in
 //! the order in which the kind prefers them: by ends for the standard kind, by starts for the leftmost ones. At each place one
 //! pass over the patterns finds the preferred one there, and the first place that has one has the best of all. A comparison
-//! stops at the first byte that differs.
+//! stops at the first byte that differs. Where only whole words count ([`Naive::whole_words`]), the bytes beside an occurrence
+//! are tested first.
 //!
 //! So a search costs the bytes that it passes times the total length of the patterns at most, and so does a whole walk, each
 //! pick of which goes on where the one before it ended. The listing passes over the patterns again at each place where an
 //! occurrence ends, once for each start that one has, and so costs the length of the longest pattern times that at most. Only
 //! the calls that collect all picks or all occurrences, or mask the text, take memory. Masking searches, for each byte, from each
 //! place up to it.
-ghost use Rattle.std.specs.Prelude.{◌≡◌, ◌≢◌, ◌↔◌, ◌+◌, ◌≤◌, None, map, length, option_map, slice_get, IsTrue, IfOk};
+ghost use Rattle.std.specs.Prelude.{◌≡◌, ◌≢◌, ◌↔◌, ◌+◌, ◌≤◌, false, None, map, length, option_map, slice_get, IsTrue, IfOk};
 ghost use Rattle.ac_input.specs.Same.{same_text};
-ghost use Rattle.ac_input.specs.Occurrence.{Occurs, starting_at, StartsAt};
-ghost use Rattle.ac_input.specs.Best.{preference, IsLeast, IsBest, asked_kind, IsAfter};
+ghost use Rattle.ac_input.specs.Occurrence.{Occurs};
+ghost use Rattle.ac_input.specs.Best.{preference, IsLeast, asked_kind, IsAfter};
 ghost use Rattle.ac_input.specs.declared.search.MatchKind.TheVariants.{Standard};
-ghost use Rattle.ac_input.specs.Walk.{Repeats, IsPick, IsWalk};
-ghost use Rattle.ac_input.specs.Computed.{walk_of};
-ghost use Rattle.ac_input.specs.Listing.{IsListing};
-ghost use Rattle.ac_input.specs.Mask.{IsCovered, masked};
-ghost use Rattle.test_plain.specs.Naive.{search_for, IsOnly, EndsAfter, ReachesAfter, LiesAlike, preferred};
+ghost use Rattle.ac_input.specs.Walk.{Repeats};
+ghost use Rattle.ac_input.specs.Listing.{ListsAll};
+ghost use Rattle.ac_input.specs.Mask.{IsCoveredAmong};
+ghost use Rattle.ac_input.specs.Word.{is_word_byte, is_word_at, is_word_before, is_whole_word, OccursAsked};
+ghost use Rattle.test_plain.specs.Naive.{search_for, plain_starting_at, PlainOccurs, PlainStartsAt, IsPlainPick, IsPlainWalk, plain_walk, plain_masked, IsOnly, EndsAfter, ReachesAfter, LiesAlike, preferred};
 
 pub mod picks;
 
@@ -62,17 +63,19 @@ pub struct Naive<'a> {
     haystack: &'a [u8],
     span: Span,
     anchored: Anchored,
+    whole_words: bool,
 }
 
 impl<'a> Model for Naive<'a> {
     ghost use Rattle.std.specs.Prelude.{◌+◌, ◌≤◌, map, length};
-    ghost use Rattle.ac_input.specs.Occurrence.{Search};
-    ghost use Rattle.test_plain.specs.Naive.{search_for};
+    ghost use Rattle.test_plain.specs.Naive.{Plain, search_for};
 
-    ghost Value = { Search };
+    ghost Value = { Plain };
 
-    ghost view = { λ p.
-        search_for (map (λ q. q.now) p.patterns.now) p.pairing p.haystack.now p.span p.anchored };
+    ghost view = { λ p. record {
+      search = search_for (map (λ q. q.now) p.patterns.now) p.pairing p.haystack.now p.span p.anchored;
+      words = p.whole_words;
+    } };
 
     ghost invariant = { λ p.
         (p.span.start ≤ p.span.end + 1) × (p.span.end ≤ length p.haystack.now) };
@@ -91,6 +94,34 @@ fn is_same(pairing: &Pairing, pattern: &[u8], text: &[u8]) -> bool
         }
     }
     true
+}
+
+/// Whether the byte is a letter, a digit, `_` or no ASCII.
+fn is_word_byte(byte: u8) -> bool
+    ensures { result ≡ is_word_byte byte }
+{
+    byte.is_ascii_alphanumeric() || byte == b'_' || byte >= 0x80
+}
+
+/// Whether the text has a word byte at the place.
+fn is_word_at(text: &[u8], at: usize) -> bool
+    ensures { result ≡ is_word_at text.now at }
+{
+    at < text.len() && is_word_byte(text[at])
+}
+
+/// Whether the text has a word byte just before the place.
+fn is_word_before(text: &[u8], place: usize) -> bool
+    ensures { result ≡ is_word_before text.now place }
+{
+    place > 0 && is_word_at(text, place - 1)
+}
+
+/// Whether no word byte of the text lies beside the occurrence.
+fn is_whole_word(text: &[u8], found: Found) -> bool
+    ensures { result ≡ is_whole_word text.now found }
+{
+    !is_word_before(text, found.start) && !is_word_at(text, found.end)
 }
 
 /// Which of two occurrences the kind prefers: the lesser.
@@ -158,8 +189,9 @@ impl<'a> Naive<'a> {
     ) -> Naive<'a>
         requires ordered { span.start ≤ span.end + 1 }
         requires within { span.end ≤ length haystack.now }
-        ensures { result
+        ensures search { result.search
             ≡ search_for (map (λ q. q.now) patterns.now) pairing haystack.now span anchored }
+        ensures all { result.words ≡ false }
     {
         Naive {
             patterns,
@@ -167,13 +199,24 @@ impl<'a> Naive<'a> {
             haystack,
             span,
             anchored,
+            whole_words: false,
+        }
+    }
+
+    /// The same search, in which only whole words count if asked: occurrences with no word byte beside them.
+    pub fn whole_words(self, whole_words: bool) -> Naive<'a>
+        ensures { result ≡ record self.entry { words = whole_words } }
+    {
+        Naive {
+            whole_words,
+            ..self
         }
     }
 
     /// The same search from another place on.
     fn starting_at(&self, at: usize) -> Naive<'a>
-        requires { at ≤ self.now.end + 1 }
-        ensures { result ≡ starting_at self.now at }
+        requires { at ≤ self.now.search.end + 1 }
+        ensures { result ≡ plain_starting_at self.now at }
     {
         Naive {
             patterns: self.patterns,
@@ -184,12 +227,13 @@ impl<'a> Naive<'a> {
                 end: self.span.end,
             },
             anchored: self.anchored,
+            whole_words: self.whole_words,
         }
     }
 
     /// The pattern of this number, if there is one.
     fn pattern(&self, number: usize) -> Option<&'a [u8]>
-        ensures { option_map (λ p. p.now) result ≡ slice_get self.now.patterns number }
+        ensures { option_map (λ p. p.now) result ≡ slice_get self.now.search.patterns number }
     {
         if number < self.patterns.len() {
             Some(self.patterns[number])
@@ -199,8 +243,8 @@ impl<'a> Naive<'a> {
     }
 
     /// Whether the pattern lies there.
-    fn occurs(&self, found: Found) -> bool
-        ensures { IsTrue result ↔ Occurs self.now found }
+    fn lies(&self, found: Found) -> bool
+        ensures { IsTrue result ↔ Occurs self.now.search found }
     {
         let Some(pattern) = self.pattern(found.pattern) else {
             return false;
@@ -218,9 +262,17 @@ impl<'a> Naive<'a> {
         )
     }
 
+    /// Whether the pattern lies there, and that counts.
+    fn occurs(&self, found: Found) -> bool
+        ensures { IsTrue result ↔ PlainOccurs self.now found }
+    {
+        let counts = !self.whole_words || is_whole_word(self.haystack, found);
+        counts && self.lies(found)
+    }
+
     /// The pattern of this number, where it starts at the place.
     fn pattern_starting_at(&self, number: usize, at: usize) -> Option<Found>
-        ensures { IsOnly (λ o. StartsAt self.now at o × (o.pattern ≡ number)) result }
+        ensures { IsOnly (λ o. PlainStartsAt self.now at o × (o.pattern ≡ number)) result }
     {
         let pattern = self.pattern(number)?;
         let end = self.span.end;
@@ -241,7 +293,7 @@ impl<'a> Naive<'a> {
 
     /// The pattern of this number, where it ends at the place.
     fn pattern_ending_at(&self, number: usize, end: usize) -> Option<Found>
-        ensures { IsOnly (λ o. (Occurs self.now o × (o.end ≡ end)) × (o.pattern ≡ number)) result }
+        ensures { IsOnly (λ o. (PlainOccurs self.now o × (o.end ≡ end)) × (o.pattern ≡ number)) result }
     {
         let pattern = self.pattern(number)?;
         if self.span.end < end || end < pattern.len() {
@@ -261,14 +313,14 @@ impl<'a> Naive<'a> {
 
     /// How many patterns there are.
     fn patterns_len(&self) -> usize
-        ensures { result ≡ length self.now.patterns }
+        ensures { result ≡ length self.now.search.patterns }
     {
         self.patterns.len()
     }
 
     /// The preferred one of those that start at the place.
     fn best_starting_at(&self, kind: MatchKind, at: usize) -> Option<Found>
-        ensures { IsLeast kind (StartsAt self.now at) result }
+        ensures { IsLeast kind (PlainStartsAt self.now at) result }
     {
         let mut best = None;
         for number in 0..self.patterns_len() {
@@ -307,7 +359,7 @@ impl<'a> Naive<'a> {
     /// The preferred one of all, where the kind goes by starts.
     fn best_by_start(&self, kind: MatchKind) -> Option<Found>
         requires { kind ≢ MatchKind.Standard }
-        ensures { IsBest kind self.now result }
+        ensures { IsLeast kind (PlainOccurs self.now) result }
     {
         let Span { start, end } = self.span;
         for at in start..end + 1 {
@@ -353,7 +405,7 @@ impl<'a> Naive<'a> {
     ///
     /// An earliest search takes the standard one, whatever the kind: the occurrence at which an automaton could stop first.
     pub fn best(&self, kind: MatchKind, earliest: bool) -> Option<Found>
-        ensures { IsBest (asked_kind kind earliest) self.now result }
+        ensures { IsLeast (asked_kind kind earliest) (PlainOccurs self.now) result }
     {
         let kind = kind.asked(earliest);
         let start = self.span.start;
@@ -376,8 +428,8 @@ impl<'a> Naive<'a> {
         at: usize,
         last: Option<usize>,
     ) -> Option<Found>
-        requires { at ≤ self.now.end + 1 }
-        ensures { IsPick (asked_kind kind earliest) self.now at last result }
+        requires { at ≤ self.now.search.end + 1 }
+        ensures { IsPlainPick self.now (asked_kind kind earliest) at last result }
     {
         let found = self.starting_at(at).best(kind, earliest);
         if repeats(last, &found) {
@@ -392,7 +444,7 @@ impl<'a> Naive<'a> {
     /// The given one need not be an occurrence. The later patterns at its own place are tried first, so that many equal
     /// patterns take one pass together and not one each.
     pub fn next_occurrence(&self, before: Option<Found>) -> Option<Found>
-        ensures { IsLeast Standard (λ o. Occurs self.now o × IsAfter before o) result }
+        ensures { IsLeast Standard (λ o. PlainOccurs self.now o × IsAfter before o) result }
     {
         let Some(found) = before else {
             return self.first_by_end(self.span.start, &before);
@@ -406,7 +458,8 @@ impl<'a> Naive<'a> {
 
     /// The picks of a walk over the whole span, each computed on request.
     pub fn picks(self, kind: MatchKind, earliest: bool) -> Picks<'a>
-        ensures { result ≡ walk_of (asked_kind kind earliest) self.entry }
+        ensures { result
+            ≡ plain_walk self.entry (asked_kind kind earliest) self.entry.search.start None }
     {
         let at = self.span.start;
         Picks {
@@ -424,8 +477,7 @@ impl<'a> Naive<'a> {
         kind: MatchKind,
         earliest: bool,
     ) -> Result<Vec<Found>, AllocError>
-        ensures { IfOk result
-            (λ v. IsWalk (asked_kind kind earliest) self.now self.now.start None v.items) }
+        ensures { IfOk result (λ v. IsPlainWalk self.now (asked_kind kind earliest) v.items) }
     {
         let mut picks = Vec::new(alloc);
         let mut at = self.span.start;
@@ -440,7 +492,7 @@ impl<'a> Naive<'a> {
 
     /// Whether some occurrence covers the place: the longest that starts there or before ends after it.
     fn is_covered(&self, at: usize) -> bool
-        ensures { IsTrue result ↔ IsCovered self.now at }
+        ensures { IsTrue result ↔ IsCoveredAmong (OccursAsked self.now.words) self.now.search at }
     {
         if self.span.end <= at {
             return false;
@@ -457,7 +509,7 @@ impl<'a> Naive<'a> {
 
     /// The haystack with the mask in place of each byte that an occurrence covers, also where several overlap.
     pub fn masked(&self, alloc: Global, mask: u8) -> Result<Vec<u8>, AllocError>
-        ensures { IfOk result (λ v. v.items ≡ masked mask self.now) }
+        ensures { IfOk result (λ v. v.items ≡ plain_masked mask self.now) }
     {
         let mut text = Vec::new(alloc);
         for at in 0..self.haystack.len() {
@@ -473,7 +525,7 @@ impl<'a> Naive<'a> {
 
     /// All occurrences of the span by end, start and number, also those that overlap, in memory.
     pub fn listing(&self, alloc: Global) -> Result<Vec<Found>, AllocError>
-        ensures { IfOk result (λ v. IsListing self.now v.items) }
+        ensures { IfOk result (λ v. ListsAll (PlainOccurs self.now) v.items) }
     {
         let mut found = Vec::new(alloc);
         let mut before = None;

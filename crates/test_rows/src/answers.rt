@@ -127,3 +127,22 @@ pub fn masked_by_plain(
     );
     Ok(plain.masked(alloc, mask)?)
 }
+
+/// The whole words of the text by the plain program.
+pub fn words_by_plain(alloc: Global, asked: Asked<'_>, text: &[u8]) -> Result<Vec<Pick>, Fail> {
+    let whole = Input::new(text);
+    let plain = Naive::new(
+        asked.patterns,
+        pairing(asked.letters)?,
+        text,
+        whole.get_span(),
+        whole.get_anchored(),
+    );
+    let found = plain.whole_words(true).walk(alloc, asked.kind, false)?;
+    Ok(
+        found
+            .iter()
+            .map(|it| (it.pattern, it.start, it.end))
+            .collect(alloc)?,
+    )
+}

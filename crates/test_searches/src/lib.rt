@@ -35,3 +35,5 @@ mod rows;
 mod settings;
 #[cfg(test)]
 mod vocabulary;
+#[cfg(test)]
+mod whole_words;

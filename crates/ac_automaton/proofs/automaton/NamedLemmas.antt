@@ -29,8 +29,7 @@ use Rattle.ac_automaton.specs.Automaton.{Built, IsReached, IsState, AtEach, Lead
 use Rattle.ac_automaton.specs.Named.{NamedStates, Naming, IsNamed, OfNames, IsStep, text_len, IsPaidStep, IsFirst, IsReadBy}
 
 -- A state at which a search has more to do than to read on: the dead one, one at which patterns match, or a start if
--- there is a
--- prefilter to run.
+-- there is a prefilter to run.
 abbrev pub IsSpecialState : Built → List ℕ → Bool → Option (List ℕ) → Type 0
 IsSpecialState b matches start state = (state ≡ None) ⊎ (matches ≢ []) ⊎ (IsTrue start × (b.prefilter ≢ None))
 

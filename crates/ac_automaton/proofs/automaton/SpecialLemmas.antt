@@ -32,8 +32,7 @@ last-held (Some f) start_anchored greatest sid past le = (λ e. cc, le)
 -- ---- special states
 
 -- A number stands in the order: it is 0 for the dead state, at most the greatest that matches where patterns match, and
--- else a
--- start, if it isn't past the anchored start.
+-- else a start, if it isn't past the anchored start.
 pub record IsRanked (ns : List ℕ) (state : Option (List ℕ)) (start start_anchored greatest sid : ℕ) : Type 0 where
   pub dead : (state ≡ None) ↔ (sid ≡ 0)
   pub matching : sid ≢ 0 → sid ≤ greatest → ns ≢ []

@@ -80,8 +80,7 @@ occurs-bound m {o} h =
     omega arith
 
 -- Under a leftmost kind, where part of a text is live, a later occurrence begins at most the longest pattern's length
--- before the
--- text's end.
+-- before the text's end.
 pub live-bound : (m : Dictionary) (anchored : Bool) (text more : List ℕ) (from : ℕ) {o : Occurrence}
     → m.kind ≢ Standard
     → IsLive m anchored text (Some from) → Occurs (whole m (text ++ more) anchored) o

@@ -84,8 +84,7 @@ take-both n k xs =
     ∙ ap₂ (λ a b. a ++ b) (take-take n (n + k) xs (omega arith)) (drop-take n k xs)
 
 -- A run of bytes that leaves a search in its state, with one look each, extends what was read. The search doesn't stop
--- at that
--- state.
+-- at that state.
 pub advanced-run : {b : Built} {Reaches : Anchored → List ℕ → StateID → Type 0} {anchored : Anchored}
     {stops : StateID → Bool} {sid : StateID} {bytes : List ℕ} {n k : ℕ} {current : StateID} {s t u : Steps}
     → n + k ≤ length bytes → ¬ IsTrue (stops current)

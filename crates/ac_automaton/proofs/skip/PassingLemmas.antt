@@ -51,8 +51,7 @@ looked-more done read = record {
 }
 
 -- A search that stops at such states may pass places at which no pattern opens: no pattern is shorter than an opening,
--- the list
--- of each state is right, and it stops at no live state where nothing matches.
+-- the list of each state is right, and it stops at no live state where nothing matches.
 pub record CanPass (b : Built) (Reaches : Anchored → List ℕ → StateID → Type 0) (matches : StateID → List ℕ)
     (stops : StateID → Bool) (len : ℕ) (start : StateID) : Type 0 where
   pub some : 0 < len

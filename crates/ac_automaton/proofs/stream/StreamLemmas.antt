@@ -110,8 +110,7 @@ begins-behind m x more last at g h quiet occurs =
     omega arith
 
 -- Under a leftmost kind, where a byte since the last match is live, a later occurrence begins there or after, so at the
--- cut or
--- after.
+-- cut or after.
 pub begins-live : (m : Dictionary) (x more : List ℕ) (last at live : ℕ) (o : Occurrence) → m.kind ≢ Standard → last ≤ at
     → at ≤ length x → IsLive m false (slice_range x last at) (Some live)
     → Occurs (starting_at (whole m (x ++ more) false) last) o → max last (at - max (longest m.patterns) 1) ≤ o.start

@@ -67,8 +67,7 @@ listing-first m ns standard tells =
     )
 
 -- The listing of a longer text is the listing of the text, then what the longer text's state shows. No state on the way
--- shows
--- anything.
+-- shows anything.
 pub listing-more : (m : Dictionary) (text more ns : List ℕ) → m.kind ≡ Standard → 0 < length more
     → Tells m No (text ++ more) ns → ((k : ℕ) → 0 < k → k < length more → Tells m No (text ++ take k more) [])
     → listing m (text ++ more) ≡ listing m text ++ map (ending m (text ++ more)) (drop 0 ns)

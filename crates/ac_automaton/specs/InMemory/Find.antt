@@ -19,8 +19,7 @@ use Rattle.ac_automaton.specs.declared.in_memory.find.cursor.End.{End}
 use Rattle.ac_automaton.specs.declared.in_memory.find.cursor.End.TheVariants.{Found, Idle}
 
 -- How a walk from the start of the span ends: with the result of the search; or back at the start state, at a place
--- before which
--- no occurrence begins.
+-- before which no occurrence begins.
 abbrev pub EndSays : MatchKind → Search → End (Option Occurrence) → Type 0
 EndSays kind s (Found r) = IsBest kind s r
 EndSays kind s (Idle at) = (s.start < at) × (at ≤ s.end) × ((o : Occurrence) → Occurs s o → at ≤ o.start)

@@ -17,8 +17,7 @@ use Rattle.ac_automaton.specs.declared.error.MatchErrorKind.{MatchErrorKind}
 use Rattle.ac_automaton.specs.declared.in_memory.iter.WalkPlace.{WalkPlace}
 
 -- A walk: the automaton and the input; the place where it stands, and where its last pick ended; and how many states it
--- looked at,
--- how many places it scanned and how many bytes it moved so far.
+-- looked at, how many places it scanned and how many bytes it moved so far.
 pub record Walk : Type 0 where
   pub built : Built
   pub asked : Asked
@@ -93,10 +92,8 @@ WalkCounts w v before after =
     × (v.scanned ≡ w.scanned + places) × (v.moved ≡ w.moved + bytes)
 
 -- What the next pick of a walk that stands at a place may cost. The looks are linear in the rest of the span. Under
--- standard they
--- end with the pick. Under a leftmost kind without an empty pattern they end at most the longest pattern and one byte
--- after its
--- start. Scans for bytes never pass the pick.
+-- standard they end with the pick. Under a leftmost kind without an empty pattern they end at most the longest pattern
+-- and one byte after its start. Scans for bytes never pass the pick.
 pub record IsPickWork (kind : MatchKind) (deterministic : Bool) (s : Search) (at : ℕ) (r : Option Occurrence)
     (before after : Steps) : Type 0 where
   pub looked : after.looked.value ≤ before.looked.value + 2 * (lookups_per_byte deterministic * (s.end - at))
@@ -118,8 +115,8 @@ abbrev pub passed : Walk → ℕ
 passed w = min w.at w.asked.span.end - w.asked.span.start
 
 -- What a walk has cost so far. Under standard it made at most one look for each byte of the span that it has passed, or
--- two if the
--- automaton isn't deterministic. Under any kind it scanned at most 256 places for each of these, and moved no byte.
+-- two if the automaton isn't deterministic. Under any kind it scanned at most 256 places for each of these, and moved
+-- no byte.
 pub record IsWithinBudget (w : Walk) : Type 0 where
   pub looked : walk_kind w ≡ Standard → w.looked ≤ lookups_per_byte w.built.deterministic * passed w
   pub scanned : w.scanned ≤ 256 * passed w
@@ -149,10 +146,8 @@ CostsPick w v before after r =
     WalkCounts w v before after × IsNextWork w r before after × CountsPick w v before after r × IsWithinBudget v
 
 -- What a walk that reads ahead has cost so far. Under standard it made at most one look for each byte of the span, or
--- two if the
--- automaton isn't deterministic; and no more than those for the bytes that it has passed, and for `most_ahead` more.
--- Under any kind
--- it scanned at most 256 places for each byte that it has passed, and moved no byte.
+-- two if the automaton isn't deterministic; and no more than those for the bytes that it has passed, and for
+-- `most_ahead` more. Under any kind it scanned at most 256 places for each byte that it has passed, and moved no byte.
 pub record IsWithinBudgetAhead (w : Walk) : Type 0 where
   pub looked : walk_kind w ≡ Standard
       → w.looked ≤ lookups_per_byte w.built.deterministic * (w.asked.span.end - w.asked.span.start)

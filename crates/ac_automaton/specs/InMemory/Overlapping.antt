@@ -47,8 +47,7 @@ TellsFirst matches m s cursor index (Some shown) =
     ≡ o ∷ occurrences_from m (walked s cursor) cursor.at (matches cursor.sid) next)
 
 -- What is still to be shown of the listing where a search stands: the occurrences of its state from an index on, and
--- all that end
--- later.
+-- all that end later.
 abbrev pub IsLeft : (List ℕ → StateID → Type 0) → (StateID → List ℕ) → Dictionary → Search → Position → List Occurrence
     → Type 0
 IsLeft Reaches matches m s (At sid from at index) left =
@@ -110,8 +109,7 @@ abbrev pub CanRestart : (List ℕ → StateID → Type 0) → (StateID → List 
 CanRestart Reaches matches s = (s.anchored ≡ false) × ((start : StateID) → Reaches [] start → matches start ≡ [])
 
 -- How reading on from a place ends: the first occurrence left is shown; or the walk is back at the start at a later
--- place. Then all
--- that is left begins there or later, and the search may begin anew.
+-- place. Then all that is left begins there or later, and the search may begin anew.
 abbrev pub ReadsOn : (List ℕ → StateID → Type 0) → (StateID → List ℕ) → Dictionary → Search → ℕ → List Occurrence
     → End Shown → Type 0
 ReadsOn Reaches matches m s at left (Found shown) = ShowsFirst Reaches matches m s left shown × IsPast at shown.place
@@ -134,8 +132,7 @@ read_at_least s (Found shown) = stands_at_least s shown.place
 read_at_least s (Idle to) = to
 
 -- What it costs to read on from a place, from one candidate to the next: looks stay paid for, at most 256 places are
--- scanned for
--- each byte, and no byte is moved.
+-- scanned for each byte, and no byte is moved.
 pub record IsSkipCost (m : Dictionary) (deterministic : Bool) (s : Search) (at : ℕ) (reading : End Shown)
     (before after : Steps) : Type 0 where
   pub rose : before.looked.value ≤ after.looked.value
@@ -155,8 +152,7 @@ abbrev pub and_one : Option Occurrence → ℕ → ℕ
 and_one found n = if is_some found then n + 1 else n
 
 -- What all calls with one state may cost: they look at no more states than one search does, whatever they show, and
--- scan for no
--- more bytes.
+-- scan for no more bytes.
 pub record IsOverlappingWork (deterministic : Bool) (s : Search) (sums : Steps) : Type 0 where
   pub looked : sums.looked.value ≤ lookups_per_byte deterministic * (s.end - s.start)
   pub scanned : sums.scanned.value ≤ 256 * (s.end - s.start)
@@ -172,8 +168,7 @@ pub record IsFreshState (state : OverlappingState) : Type 0 where
   pub sums : AreNone state.sums
 
 -- What was read ahead of an unanchored search that stands at a position, of the haystack up to the end of the span.
--- Nothing is left of
--- it where the search is over.
+-- Nothing is left of it where the search is over.
 abbrev pub IsAheadOfPosition : Built → (List ℕ → StateID → Type 0) → (StateID → List ℕ) → Asked → Position → Ahead
     → Type 0
 IsAheadOfPosition b Reaches matches asked (At sid from at index) ahead =
@@ -181,8 +176,7 @@ IsAheadOfPosition b Reaches matches asked (At sid from at index) ahead =
 IsAheadOfPosition b Reaches matches asked Over ahead = bytes_ahead ahead ≡ 0
 
 -- This many occurrences of the listing were shown, the others are left where the search stands, and all looks and scans
--- are paid
--- for.
+-- are paid for.
 pub record StandsAt (Reaches : List ℕ → StateID → Type 0) (matches : StateID → List ℕ) (m : Dictionary)
     (deterministic : Bool) (s : Search) (place : Position) (shown : ℕ) (sums : Steps) : Type 0 where
   pub left : IsLeft Reaches matches m s place (drop shown (listing_of s))
@@ -207,8 +201,7 @@ CameFrom b Reaches matches asked state =
     × IsCountedTo b asked (stands_at_least (searched b asked) place) state.sums)
 
 -- All calls with a state together counted each byte of the span up to the end of the last occurrence shown. If nothing
--- was left and
--- the search isn't anchored, they counted every byte of the span.
+-- was left and the search isn't anchored, they counted every byte of the span.
 abbrev pub CountsShown : Built → Asked → OverlappingState → Type 0
 CountsShown b asked state = IsCountedTo b asked (come_at_least (searched b asked) state.found) state.sums
 

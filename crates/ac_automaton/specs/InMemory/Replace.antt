@@ -41,8 +41,7 @@ abbrev pub text_left_of : List ℕ → Walk → List Occurrence
 text_left_of text w = filter (cuts_none text) (left_of w)
 
 -- Occurrences of patterns with numbers below `patterns`, in a text of this length. The first begins at `at` or later,
--- and each
--- other one where the one before it ended or later.
+-- and each other one where the one before it ended or later.
 abbrev pub LieInOrder : ℕ → ℕ → ℕ → List Occurrence → Type 0
 LieInOrder patterns len at [] = Unit {0}
 LieInOrder patterns len at (o ∷ os) =
@@ -92,8 +91,7 @@ pub record IsForMatches {F D A : Type 0} (g : Replacer F D A) (patterns : ℕ) (
       → Called g state (found, (bytes, (dst, tt))) (r, (left, tt)) after → TakesMatches g patterns after
 
 -- One call: passed an occurrence, its bytes and a destination, the closure may return `r`. It leaves itself as `after`
--- and the
--- destination as `new`.
+-- and the destination as `new`.
 pub record RepliesAt {F D A : Type 0} (g : Replacer F D A) (f : F) (o : Occurrence) (bytes : List ℕ) (old : D) (r : A)
     (after : F) (new : D) : Type 0 where
   pub found : Bor Occurrence
@@ -129,8 +127,7 @@ IsBrokenOff {F} held g haystack os f old new =
     (last : F) × IsRefusedChain (calls_of held g) haystack 0 os f (held old) last (held new)
 
 -- The error says what failed. If the search failed, the destination is unchanged. If memory ran out, it holds what the
--- closure has
--- made so far.
+-- closure has made so far.
 abbrev pub IsRefusedWith : {F D : Type 0} → (D → List ℕ) → MemoryReplacer F D → List ℕ → List Occurrence → F → D → D
     → (Anchored → Type 0) → ReplaceError → Type 0
 IsRefusedWith held g haystack os f old new supports (Match error) =

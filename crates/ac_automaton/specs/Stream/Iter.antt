@@ -46,8 +46,7 @@ abbrev pub HadGiven : {q : Sequence} → StreamProgress q → StreamProgress q �
 HadGiven {q} s t = s.built.dictionary.kind ≡ Standard → s.given ≡ items_of q s.built.dictionary (read_before t)
 
 -- An item that is returned after reads is due to the last piece, since nothing is read while a decided one is left.
--- Under standard
--- it ends in that piece. The bytes before that piece, from the last item on, weren't dead.
+-- Under standard it ends in that piece. The bytes before that piece, from the last item on, weren't dead.
 pub record IsDueToLastPiece {q : Sequence} (s t : StreamProgress q) (o : Occurrence) : Type 0 where
   pub all : HadGiven s t
   pub ends : s.built.dictionary.kind ≡ Standard → length (read_before t) < o.end
@@ -137,8 +136,7 @@ pub record TurnReads {R : Type 0} {q : Sequence} (remaining : R → Option (List
   pub read : HasRead remaining mid t before after piece failed
 
 -- The outcome of one turn: an item of what was read; or else one read, which returned some bytes, or none at the end,
--- or failed; or
--- nothing, if no item is left.
+-- or failed; or nothing, if no item is left.
 abbrev pub TurnGives : {R : Type 0} {q : Sequence} → (R → Option (List ℕ)) → StreamProgress q → StreamProgress q
     → Watched R → Watched R → Turn → Type 0
 TurnGives remaining s t before after (Found o) = FindsHeld s (Some o) t × (after ≡ before)
@@ -156,10 +154,8 @@ TurnGives remaining s t before after (Failed other) = ⊥
 -- ---- how many items are left
 
 -- How many matches are left at most after so many bytes were read, if the search last began anew at `last`. Each match
--- left ends at
--- another place after that: in what was read, if the reader has ended; otherwise wherever places can be counted, and an
--- error may
--- follow. None is left once places can't be counted.
+-- left ends at another place after that: in what was read, if the reader has ended; otherwise wherever places can be
+-- counted, and an error may follow. None is left once places can't be counted.
 abbrev pub matches_left : ℕ → ℕ → Bool → ℕ
 matches_left read last ended =
     if nat_le read usize_max
@@ -167,10 +163,8 @@ matches_left read last ended =
     else 0
 
 -- How many occurrences are left at most after `read` bytes were read, which have `listed` of them, of which `given`
--- were returned.
--- If the reader has ended, the others are left. Otherwise up to `most` in all may be returned, and an error may follow.
--- None is
--- left once places can't be counted.
+-- were returned. If the reader has ended, the others are left. Otherwise up to `most` in all may be returned, and an
+-- error may follow. None is left once places can't be counted.
 abbrev pub occurrences_left : ℕ → ℕ → ℕ → ℕ → Bool → ℕ
 occurrences_left read listed given most ended =
     if nat_le read usize_max
@@ -240,8 +234,7 @@ AnswersStreamListing b supports lent (Ok i) = CanStream OnlyStandard b supports 
 AnswersStreamListing b supports lent (Err error) = IsListingRefusal b supports error
 
 -- If no iterator was made, the reader is unchanged. Otherwise the iterator holds the reference to it, and the reader's
--- final value
--- is the last one under that name.
+-- final value is the last one under that name.
 abbrev pub RestsIfRefused : (R : RattleType) {S E : Type 0} → MutBor (Watched R.Denot) → Result (StreamIter S R.Denot) E
     → Fml
 RestsIfRefused R reader result = RestsIfErr (the_row R) reader reader_name result (λ last. last ≡ reader.now)

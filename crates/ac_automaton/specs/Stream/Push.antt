@@ -22,8 +22,7 @@ pub record TakesBytes (s t : StreamProgress Picks) (bytes : List ℕ) : Type 0 w
   pub from : (s.from ≤ t.from) × (t.from ≤ cut_of s)
 
 -- How many bytes of a piece were taken. A search that isn't ready takes none. A ready one takes at least one, if there
--- is one, and
--- all of them unless the room is full. If none was taken, nothing changed.
+-- is one, and all of them unless the room is full. If none was taken, nothing changed.
 pub record TakesFront (Ready : Type 0) (s t : StreamProgress Picks) (piece : List ℕ) (n : ℕ) : Type 0 where
   pub within : n ≤ length piece
   pub waits : ¬ Ready → n ≡ 0

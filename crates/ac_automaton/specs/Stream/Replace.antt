@@ -28,8 +28,7 @@ IsBegun Memory = ⊥
 IsBegun other = Unit {0}
 
 -- What a replacement over a stream read, no piece longer than the buffer, what it wrote, and what it returned. An error
--- before the
--- first read leaves both devices unchanged.
+-- before the first read leaves both devices unchanged.
 abbrev pub ReplacesStream : {R W : Type 0} → (R → Option (List ℕ)) → (W → Option (List ℕ)) → Built → List (List ℕ)
     → Watched R → Watched R → Watched W → Watched W → Result (Unit {0}) StreamError → Type 0
 ReplacesStream remaining contents b replacements reader_before reader_after writer_before writer_after result =

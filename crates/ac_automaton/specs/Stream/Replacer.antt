@@ -14,8 +14,8 @@ use Rattle.ac_automaton.specs.declared.stream.replacer.Part.TheVariants.{Text, R
 use Rattle.ac_automaton.specs.declared.stream.StreamKinds.TheVariants.{AnyKind}
 
 -- How far a replacement has come: its search; up to which place of the stream its text was handed out; the match that
--- was found and
--- isn't replaced yet; whether it was told that no more comes; and whether the whole text was handed out after that.
+-- was found and isn't replaced yet; whether it was told that no more comes; and whether the whole text was handed out
+-- after that.
 pub record ReplacerProgress : Type 0 where
   pub search : StreamProgress Picks
   pub at : ℕ
@@ -119,8 +119,7 @@ pub record IsAllOut (t : ReplacerProgress) (replacements : List (List ℕ)) : Ty
   pub whole : t.finished ≡ true → handed_out t replacements ≡ replaced_in t.search.built replacements (read_by t.search)
 
 -- This is the next slice of the text, after which the replacement has come further; or there is none, and all that is
--- decided was
--- handed out if places can be counted.
+-- decided was handed out if places can be counted.
 abbrev pub GivesText : ReplacerProgress → ReplacerProgress → List (List ℕ) → Option (List ℕ) → Type 0
 GivesText r t replacements None =
     HandsOut r t replacements [] × (CanBeCounted (read_by r.search) → IsAllOut t replacements)
@@ -167,8 +166,7 @@ TakesPart r t (Some part) =
     → handed_out t replacements ≡ handed_out r replacements ++ part_bytes (read_by t.search) replacements part)
 
 -- This is the next slice, which was handed out and can be lent; or there is none, and all that is decided was handed
--- out if places
--- can be counted.
+-- out if places can be counted.
 abbrev pub FindsPart : ReplacerProgress → ReplacerProgress → Option Part → Type 0
 FindsPart r t None =
     (replacements : List (List ℕ))

@@ -46,8 +46,7 @@ IsSearchPaid s =
     × (IsTrue s.built.deterministic → s.looked ≤ passed_in_all s)
 
 -- A search stands in a state that was reached from the start by the bytes since the last match, which aren't dead. The
--- best match
--- in these is still to be decided; under standard there is none.
+-- best match in these is still to be decided; under standard there is none.
 pub record StandsInState (Reaches : List ℕ → StateID → Type 0) (s : StreamProgress Picks) (start sid : StateID)
     (best : Option Occurrence) : Type 0 where
   pub course : IsOnCourse s

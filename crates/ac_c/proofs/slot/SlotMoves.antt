@@ -1,6 +1,5 @@
 -- A function that moves the pointer and the allocator of one struct into another, with all that they own. The structs'
--- names don't
--- matter: each owns what a slot of the value's type owns.
+-- names don't matter: each owns what a slot of the value's type owns.
 use Rattle.std.proofs.Common.{◌≡◌, List, [], ◌∷◌, ◌++◌, refl, sym, subst}
 use seplogic.Ra.Ura.{Ura}
 use mir.Syntax.{Callee, Fn, Sym, Ty, aggregate, assign, copy, field, local, place, return, rv_opd, seq, tcons, tnil, ty_ptr, ty_struct, value_local}

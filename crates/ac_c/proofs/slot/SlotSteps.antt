@@ -1,6 +1,5 @@
 -- What a slot owns at its machine value: its two fields, and what lies at the pointer. These steps serve C's handles
--- too, as a
--- handle has a slot's fields and owns what a slot owns.
+-- too, as a handle has a slot's fields and owns what a slot owns.
 --     word, word_fits      the machine value of a pointer beside the allocator; it fits the struct's type
 --     slot_out, slot_in    a slot is [what lies at the pointer; the allocator]
 --     slot_either          nothing lies at null; elsewhere it is what a box owns, at a pointer that may be compared

@@ -1,7 +1,7 @@
 -- A walk that goes on from a cursor: which matches are left, and where it stands.
 use Rattle.std.proofs.Common.{◌≡◌, ℕ, zero, suc, ◌+◌, ◌-◌, ◌*◌, ◌^◌, ◌<◌, ◌≤◌, Bool, List, ◌∷◌, length, drop, Option, Some, None, IfSome, Ok, refl, sym, ap, subst, ◌∙◌, arith}
 use Rattle.ac_input.specs.declared.search.MatchKind.{MatchKind}
-use Rattle.ac_input.specs.Computed.{pick_of, walk_from, walk_after}
+use Rattle.ac_input.specs.Computed.{occurrences, pick_of, walk_from, walk_after}
 use Rattle.ac_input.specs.Input.{Asked}
 use Rattle.ac_input.specs.Occurrence.{Search, Occurrence, starting_at}
 use Rattle.ac_input.specs.declared.steps.Steps.{Steps}
@@ -21,17 +21,19 @@ use Rattle.ac_c.proofs.walking.WalkingLemmas.{after-same}
 -- the matches of a walk from a place on don't depend on where its search began
 one-more : (turns : ℕ) (kind : MatchKind) (s : Search) (begun at : ℕ) (last : Option ℕ) (r : Option Occurrence)
     → pick_of kind s at last ≡ r
-    → ((o : Occurrence) → walk_from turns kind (starting_at s begun) o.end (Some o.end)
-    ≡ walk_from turns kind s o.end (Some o.end))
-    → walk_from (suc turns) kind (starting_at s begun) at last ≡ walk_from (suc turns) kind s at last
+    → ((o : Occurrence) → walk_from occurrences turns kind (starting_at s begun) o.end (Some o.end)
+    ≡ walk_from occurrences turns kind s o.end (Some o.end))
+    → walk_from occurrences (suc turns) kind (starting_at s begun) at last
+    ≡ walk_from occurrences (suc turns) kind s at last
 one-more turns kind s begun at last None e more =
-    walk_from-none (suc turns) kind (starting_at s begun) at last e ∙ sym (walk_from-none (suc turns) kind s at last e)
+    walk_from-none occurrences (suc turns) kind (starting_at s begun) at last e
+    ∙ sym (walk_from-none occurrences (suc turns) kind s at last e)
 one-more turns kind s begun at last (Some o) e more =
-    walk_from-some turns kind (starting_at s begun) at last e
-    ∙ (ap (λ os. o ∷ os) (more o) ∙ sym (walk_from-some turns kind s at last e))
+    walk_from-some occurrences turns kind (starting_at s begun) at last e
+    ∙ (ap (λ os. o ∷ os) (more o) ∙ sym (walk_from-some occurrences turns kind s at last e))
 
 wherever : (turns : ℕ) (kind : MatchKind) (s : Search) (begun at : ℕ) (last : Option ℕ)
-    → walk_from turns kind (starting_at s begun) at last ≡ walk_from turns kind s at last
+    → walk_from occurrences turns kind (starting_at s begun) at last ≡ walk_from occurrences turns kind s at last
 wherever zero kind s begun at last = refl
 wherever (suc turns) kind s begun at last =
     one-more turns kind s begun at last (pick_of kind s at last) refl

@@ -9,7 +9,7 @@ use Rattle.ac_input.specs.declared.search.MatchKind.{MatchKind}
 use Rattle.ac_input.specs.declared.search.MatchKind.TheVariants.{Standard}
 use Rattle.ac_input.specs.Same.{same_text}
 use Rattle.ac_input.specs.Occurrence.{Search, Occurrence, Occurs, starting_at}
-use Rattle.ac_input.specs.Best.{preference, IsBest, asked_kind}
+use Rattle.ac_input.specs.Best.{IsBest, asked_kind}
 use Rattle.ac_input.specs.Walk.{Repeats, IsPick, Here, Further, IsWalk}
 use Rattle.ac_input.specs.Listing.{IsListing}
 use Rattle.ac_input.specs.Dictionary.{Dictionary, whole}

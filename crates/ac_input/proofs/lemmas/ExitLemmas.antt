@@ -2,7 +2,6 @@
 use Rattle.std.proofs.Common.{ℕ, List, [], ◌∷◌, sym, subst}
 use seplogic.Ra.Ura.{Ura}
 use base.Logic.{ent, emp, id⊢, mono_r}
-use base.Fml.{Fml}
 use types.Logic.{Logic, sem}
 use types.Kit.{‵, ◌$◌, ◌∵◌, !, qed, fjoin, use0, done}
 use contract.Lifetimes.{Lfts}

@@ -172,8 +172,7 @@ own-of_ending {m} {text} {o} h ends entered =
     )
 
 -- Under a leftmost kind, an occurrence in a text with one more byte starts in the failure of the text. This needs that
--- the longer
--- text has no own pattern.
+-- the longer text has no own pattern.
 failure-behind : {m : Dictionary} {text : List ℕ} (byte : ℕ) {from : ℕ} {o : Occurrence} → m.kind ≢ Standard
     → IsFailure m text (Some from) → ((n : ℕ) → ¬ IsOwn m (text ++ byte ∷ []) n)
     → Occurs (whole m (text ++ byte ∷ []) false) o → from ≤ o.start
@@ -218,8 +217,7 @@ failure-behind {m} {text} byte {from} {o} leftmost failure none h =
         (cases_lt (length text) b.end)
 
 -- The failure of a text with one more byte is what is live of the text's failure with that byte. Under a leftmost kind
--- this needs
--- that the longer text has no own pattern.
+-- this needs that the longer text has no own pattern.
 pub failure-next : {m : Dictionary} {text : List ℕ} (byte : ℕ) {from : ℕ} (r : Option ℕ) → IsFailure m text (Some from)
     → (m.kind ≢ Standard → (n : ℕ) → ¬ IsOwn m (text ++ byte ∷ []) n)
     → IsLive m false (drop from text ++ byte ∷ []) r ↔ IsFailure m (text ++ byte ∷ []) (shifted_place from r)

@@ -1,8 +1,6 @@
 -- A function that makes a struct which only contracts see. Beside its ghost fields the struct has one field, and that
--- is empty. The
--- function returns the empty struct, whatever it is given, and its proof chooses the values of the ghost fields. A
--- proof calls the
--- lemma for its function's parameters:
+-- is empty. The function returns the empty struct, whatever it is given, and its proof chooses the values of the ghost
+-- fields. A proof calls the lemma for its function's parameters:
 --     ghost_of_none      no parameter
 --     ghost_of_one       `&Q`
 --     ghost_of_two       `&Q` and `&P`

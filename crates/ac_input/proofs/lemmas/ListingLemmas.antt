@@ -7,7 +7,7 @@ use Rattle.ac_input.specs.declared.search.MatchKind.TheVariants.{Standard}
 use Rattle.ac_input.specs.Occurrence.{Search, Occurrence, Occurs}
 use Rattle.ac_input.specs.Best.{preference, IsAfter, IsLeast}
 use Rattle.ac_input.specs.Listing.{IsRising, ListsAll, IsListing}
-use Rattle.ac_input.specs.Computed.{at_place, from_place, occurrences, to_place, listing_of, is_less, is_after, listing_after}
+use Rattle.ac_input.specs.Computed.{at_place, from_place, occurrences, to_place, listing_among, listing_of, is_less, is_after, listing_after}
 use Rattle.ac_input.proofs.lemmas.ContainsLemmas.{Contains-nil, Contains-head, Contains-tail, Contains-cases, Contains-filter, Contains-from_filter, kept_cases}
 use Rattle.ac_input.proofs.lemmas.OrderLemmas.{preference-less, preference-less_transitive}
 use Rattle.ac_input.proofs.lemmas.RisingLemmas.{IsBefore, less_by_end, less_by_start, less_by_number, less_or_same, pairwise_cond, IsPairwise, IsPairwise-filter, IsPairwise-append, IsPairwise-weaker, IsRising-cons, IsRising-from_pairwise, IsRising-filter, IsRising-append, IsRising-unique}
@@ -79,29 +79,29 @@ before_at_end {a} {b} a_end b_end earlier =
     (λ numbers. less_by_number b (a_end ∙ sym b_end) numbers.0 numbers.1)
     earlier
 
--- occurrences that end at one place rise in the order of the listing
-ending_rising : (s : Search) (at : ℕ) → IsRising (filter (λ o. eqb o.end at) (occurrences s))
-ending_rising s at =
+-- those of some occurrences that end at one place rise in the order of the listing
+ending_rising : (os : List Occurrence) (at : ℕ) → IsPairwise IsEarlier os → IsRising (filter (λ o. eqb o.end at) os)
+ending_rising os at ordered =
     let ends_at = λ (o : Occurrence). eqb o.end at in
-    IsRising-from_pairwise _ (IsPairwise-weaker (filter ends_at (occurrences s))
+    IsRising-from_pairwise _ (IsPairwise-weaker (filter ends_at os)
     (λ a b a_in b_in earlier. before_at_end
-    (eqb-true a.end at (Contains-from_filter ends_at (occurrences s) a_in).1)
-    (eqb-true b.end at (Contains-from_filter ends_at (occurrences s) b_in).1)
+    (eqb-true a.end at (Contains-from_filter ends_at os a_in).1)
+    (eqb-true b.end at (Contains-from_filter ends_at os b_in).1)
     earlier)
-    (IsPairwise-filter IsEarlier ends_at (occurrences s) (occurrences-pairwise s)))
+    (IsPairwise-filter IsEarlier ends_at os ordered))
 
--- the list by ends has exactly the computed occurrences that end at one of its places
-to_place-contains : (s : Search) {at : ℕ} (places : ℕ) {o : Occurrence}
-    → Contains (to_place s at places) o ↔ (Contains (occurrences s) o × (at ≤ o.end) × (o.end < at + places))
-to_place-contains s zero = (λ c. absurd (Contains-nil c), λ h. absurd (omega (arith, h.1, h.2)))
-to_place-contains s {at} (suc places) {o} =
+-- the list by ends has exactly the occurrences that count and end at one of its places
+to_place-contains : (all : Search → List Occurrence) (s : Search) {at : ℕ} (places : ℕ) {o : Occurrence}
+    → Contains (to_place all s at places) o ↔ (Contains (all s) o × (at ≤ o.end) × (o.end < at + places))
+to_place-contains all s zero = (λ c. absurd (Contains-nil c), λ h. absurd (omega (arith, h.1, h.2)))
+to_place-contains all s {at} (suc places) {o} =
     let ends_at = λ (q : Occurrence). eqb q.end at in
-    let here = filter ends_at (occurrences s) in
-    let further = to_place s (at + 1) places in
-    let later = to_place-contains s {at = at + 1} places in (
+    let here = filter ends_at (all s) in
+    let further = to_place all s (at + 1) places in
+    let later = to_place-contains all s {at = at + 1} places in (
       λ c. ⊎_elim
           (λ (first : Contains here o).
-          let kept = Contains-from_filter ends_at (occurrences s) first in
+          let kept = Contains-from_filter ends_at (all s) first in
           let e = eqb-true o.end at kept.1 in
           (kept.0, omega arith, omega arith))
           (λ (second : Contains further o). let known = later.0 second in
@@ -109,36 +109,44 @@ to_place-contains s {at} (suc places) {o} =
           (Contains-append_cases here further o c),
       λ h. ⊎_elim
           (λ (e : o.end ≡ at). Contains-append_left here further o
-          (Contains-filter ends_at (occurrences s) h.0 (eq-eqb o.end at e)))
+          (Contains-filter ends_at (all s) h.0 (eq-eqb o.end at e)))
           (λ (ne : o.end ≡ at → ⊥). Contains-append_right here further o
           (later.1 (h.0, omega (arith, h.1), omega (arith, h.2))))
           (cases_eq o.end at),
     )
 
 -- occurrences in the list by ends rise
-to_place_rising : (s : Search) (at places : ℕ) → IsRising (to_place s at places)
-to_place_rising s at zero = tt
-to_place_rising s at (suc places) =
+to_place_rising : (all : Search → List Occurrence) (s : Search) (at places : ℕ) → IsPairwise IsEarlier (all s)
+    → IsRising (to_place all s at places)
+to_place_rising all s at zero ordered = tt
+to_place_rising all s at (suc places) ordered =
     let ends_at = λ (q : Occurrence). eqb q.end at in
-    IsRising-append (filter ends_at (occurrences s)) (to_place s (at + 1) places)
-    (ending_rising s at)
-    (to_place_rising s (at + 1) places)
+    IsRising-append (filter ends_at (all s)) (to_place all s (at + 1) places)
+    (ending_rising (all s) at ordered)
+    (to_place_rising all s (at + 1) places ordered)
     (λ a b here further.
-    let a_end = eqb-true a.end at (Contains-from_filter ends_at (occurrences s) here).1 in
-    let b_end = (to_place-contains s places).0 further in
+    let a_end = eqb-true a.end at (Contains-from_filter ends_at (all s) here).1 in
+    let b_end = (to_place-contains all s places).0 further in
     less_by_end a b (omega (arith, b_end.1)))
+
+-- the listing of what counts lists a fact, if just the occurrences of which it holds count, and all end in the span
+pub listing_among-lists : {P : Occurrence → Type 0} (all : Search → List Occurrence) (s : Search)
+    → IsPairwise IsEarlier (all s) → ((o : Occurrence) → Contains (all s) o ↔ P o)
+    → ((o : Occurrence) → P o → (s.start ≤ o.end) × (o.end ≤ s.end)) → ListsAll P (listing_among all s)
+listing_among-lists all s ordered has within = (
+  to_place_rising all s s.start (s.end + 1 - s.start) ordered,
+  λ o.
+      let placed = to_place-contains all s (s.end + 1 - s.start) in (
+        λ c. (has o).0 (placed.0 c).0,
+        λ p. placed.1 ((has o).1 p, omega (arith, within o p), omega (arith, within o p)),
+      ),
+)
 
 -- the computed listing is the overlapping listing
 pub listing_of-lists : {s : Search} → s.end ≤ length s.haystack → IsListing s (listing_of s)
-listing_of-lists {s} fits = (
-  to_place_rising s s.start (s.end + 1 - s.start),
-  λ o.
-      let within = to_place-contains s (s.end + 1 - s.start) in
-      let all = occurrences-all s o fits in (
-        λ c. all.0 (within.0 c).0,
-        λ occurs. within.1 (all.1 occurs, omega (arith, occurs.within), omega (arith, occurs.within)),
-      ),
-)
+listing_of-lists {s} fits =
+    listing_among-lists occurrences s (occurrences-pairwise s) (λ o. occurrences-all s o fits)
+    (λ o occurs. (omega (arith, occurs.within), omega (arith, occurs.within)))
 
 -- each overlapping listing is the computed one
 pub listing-computed : {s : Search} {os : List Occurrence} → s.end ≤ length s.haystack → IsListing s os

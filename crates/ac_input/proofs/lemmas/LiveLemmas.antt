@@ -269,8 +269,7 @@ best-entered {m} earliest {o} best is = (
 )
 
 -- Where an occurrence of an entered pattern reaches or crosses the end of a text, the text from its start begins an
--- entered
--- pattern.
+-- entered pattern.
 pub entered-begins : {m : Dictionary} {anchored : Bool} (text more : List ℕ) {o : Occurrence} {p : List ℕ}
     → Occurs (whole m (text ++ more) anchored) o → IsEntered m o.pattern p → o.start ≤ length text → length text ≤ o.end
     → BeginsEntered m (drop o.start text)

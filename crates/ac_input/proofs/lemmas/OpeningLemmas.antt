@@ -2,8 +2,7 @@
 -- match.
 --
 -- So a search that stands in the start may pass this text, except as many bytes at its end as can still be live. If it
--- reads those
--- from the start, it comes to the state to which the whole text leads.
+-- reads those from the start, it comes to the state to which the whole text leads.
 use Rattle.std.proofs.Common.{◌≡◌, ◌↔◌, ⊎_elim, ℕ, ◌+◌, ◌-◌, ◌<◌, ◌≤◌, false, List, [], ◌∷◌, ◌++◌, length, take, drop, map, Option, Some, None, IsTrue, slice_range, sym, ap, subst, refl, ◌∙◌, arith, length-append, length-drop}
 use Rattle.std.proofs.lemmas.Bool.{cases_lt}
 use Rattle.std.proofs.lemmas.List.{take-take, drop-take, length-take-le, drop_at, drop_all, take_all}

@@ -1,6 +1,6 @@
 -- The preference is a total order on the occurrences of a search.
-use Rattle.std.proofs.Common.{◌≡◌, ◌≢◌, ℕ, ◌+◌, ◌-◌, ◌≤◌, false, List, [], ◌∷◌, length, drop, Some, IsTrue, slice_get, slice_range, Ordering, Less, Equal, Greater, nat_cmp, is_gt, sym, ap, refl, ◌∙◌, arith, length-take-le, length-drop}
-use Rattle.std.specs.Cmp.{IsTotalOrder}
+use Rattle.std.proofs.Common.{◌≡◌, ◌≢◌, ℕ, ◌+◌, ◌-◌, ◌<◌, ◌≤◌, false, List, [], ◌∷◌, length, drop, Some, IsTrue, slice_get, slice_range, Ordering, Less, Equal, Greater, nat_cmp, is_gt, sym, ap, refl, ◌∙◌, arith, length-take-le, length-drop}
+use Rattle.std.specs.Cmp.{IsTotalOrder, nat_cmp_is}
 use Rattle.std.specs.Ordering.{ordering_then, ordering_reverse}
 use Rattle.std.proofs.lemmas.Cmp.{nat_cmp_total, on_total, then_total, back_total, tied_itself, alike_right, ranked, upto}
 use Rattle.std.proofs.lemmas.Bool.{and_parts, false≢true}
@@ -103,6 +103,13 @@ preference-less_transitive kind a b c g h = IsTotalOrder.trans (preference-total
 -- less is not greater
 pub less-not_greater : {r : Ordering} → r ≡ Less → r ≢ Greater
 less-not_greater e h = cc
+
+-- a leftmost kind prefers the earlier start
+pub earlier-less : (kind : MatchKind) → kind ≢ Standard → (a b : Occurrence) → a.start < b.start
+    → preference kind a b ≡ Less
+earlier-less Standard leftmost a b h = absurd (leftmost refl)
+earlier-less LeftmostFirst leftmost a b h = let e = nat_cmp_is a.start b.start Less h in rw (← e)
+earlier-less LeftmostLongest leftmost a b h = let e = nat_cmp_is a.start b.start Less h in rw (← e)
 
 -- if one occurrence isn't less than another, the other is no later than it
 pub preference-not_less : (kind : MatchKind) (a b : Occurrence) → preference kind a b ≢ Less

@@ -1,5 +1,5 @@
 -- The best of a text is the best of its live prefix, shifted.
-use Rattle.std.proofs.Common.{◌≡◌, ◌≢◌, ◌↔◌, ⊎_elim, ℕ, ◌+◌, ◌-◌, ◌≤◌, false, List, length, take, drop, Option, Some, None, IsTrue, slice_range, Ordering, Greater, nat_cmp, sym, ap, ap₂, subst, refl, ◌∙◌, arith, length-drop}
+use Rattle.std.proofs.Common.{◌≡◌, ◌≢◌, ◌↔◌, ⊎_elim, ℕ, ◌+◌, ◌-◌, ◌≤◌, false, List, length, take, drop, Option, Some, None, IsTrue, slice_range, Greater, nat_cmp, sym, ap, ap₂, subst, refl, ◌∙◌, arith, length-drop}
 use Rattle.std.specs.Ordering.{ordering_then}
 use Rattle.std.proofs.lemmas.Bool.{false≢true}
 use Rattle.std.proofs.lemmas.Bool.Decides.{nat_tests}

@@ -1,5 +1,5 @@
 -- A search of a span is a search of the whole of that part of the haystack, shifted.
-use Rattle.std.proofs.Common.{◌≡◌, ◌≢◌, ◌↔◌, ℕ, ◌+◌, ◌-◌, ◌≤◌, Bool, false, List, length, take, drop, Option, Some, None, IsTrue, slice_range, Greater, sym, ap, ap₂, subst, refl, ◌∙◌, arith}
+use Rattle.std.proofs.Common.{◌≡◌, ◌≢◌, ◌↔◌, ℕ, ◌+◌, ◌-◌, ◌≤◌, false, List, length, take, drop, Option, Some, None, IsTrue, slice_range, Greater, sym, ap, ap₂, subst, refl, ◌∙◌, arith}
 use Rattle.std.proofs.lemmas.Bool.{false≢true}
 use Rattle.std.proofs.lemmas.List.{drop-take, drop-drop, take-take}
 use Rattle.ac_input.specs.declared.search.MatchKind.{MatchKind}

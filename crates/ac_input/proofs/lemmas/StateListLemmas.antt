@@ -121,8 +121,7 @@ own-lists {m} {anchored} {text} {from} ns anchor inside are = (
 -- ---- what ends where the text ends, by places that are alive
 
 -- An entered pattern that ends where the text ends starts at a place that is alive: under standard each, under a
--- leftmost kind the
--- best.
+-- leftmost kind the best.
 pub ending-alive : {m : Dictionary} {text : List ℕ} {o : Occurrence} (h : Occurs (whole m text false) o)
     → o.end ≡ length text → IsEntered m o.pattern h.same.0
     → ((m.kind ≡ Standard) ⊎ IsBest m.kind (whole m text false) (Some o)) → IsAlive m false text o.start

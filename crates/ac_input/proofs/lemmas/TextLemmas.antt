@@ -11,10 +11,10 @@ use Rattle.ac_input.specs.Occurrence.{Search, Occurrence, Occurs, starting_at}
 use Rattle.ac_input.specs.Walk.{IsPick, Here, Further, IsWalk}
 use Rattle.ac_input.specs.Listing.{IsRising, IsListing}
 use Rattle.ac_input.specs.Text.{replaced_from, line, listed}
-use Rattle.ac_input.specs.Computed.{at_place, from_place, occurrences, to_place, listing_of, best_of, pick_of, walk_from, walk_of}
+use Rattle.ac_input.specs.Computed.{at_place, from_place, occurrences, to_place, listing_of, pick_among, pick_of, walk_of}
 use Rattle.ac_input.specs.Laws.{StandsOnce}
 use Rattle.ac_input.proofs.lemmas.ContainsLemmas.{Contains-nil, Contains-head, Contains-cases}
-use Rattle.ac_input.proofs.lemmas.WalkLemmas.{walk-occurs_whole}
+use Rattle.ac_input.proofs.lemmas.WalkLemmas.{walk-occurs_whole, walk_from-none}
 use Rattle.ac_input.proofs.lemmas.RisingLemmas.{less_itself, IsRising-tail, IsRising-head, IsRising-once}
 
 -- a pick is an occurrence from some place on, at or after the place of the walk
@@ -164,20 +164,16 @@ no_rules-occurrences s none =
 -- with no patterns a computed walk picks nothing
 no_rules-pick_of : (kind : MatchKind) (s : Search) (at : ℕ) (last : Option ℕ) → s.patterns ≡ []
     → pick_of kind s at last ≡ None
-no_rules-pick_of kind s at last none = rw (no_rules-occurrences (starting_at s at) none, pick_of, best_of)
-
--- with no patterns the computed walk is empty, whatever its number of turns
-no_rules-walk_from : (turns : ℕ) (kind : MatchKind) (s : Search) (at : ℕ) (last : Option ℕ) → s.patterns ≡ []
-    → walk_from turns kind s at last ≡ []
-no_rules-walk_from zero kind s at last none = refl
-no_rules-walk_from (suc turns) kind s at last none = rw (no_rules-pick_of kind s at last none, walk_from)
+no_rules-pick_of kind s at last none = rw (no_rules-occurrences (starting_at s at) none, pick_of, pick_among)
 
 -- with no patterns the computed walk is empty
 pub no_rules-walk_of : (kind : MatchKind) (s : Search) → s.patterns ≡ [] → walk_of kind s ≡ []
-no_rules-walk_of kind s none = no_rules-walk_from (2 * (s.end + 1 - s.start) + 1) kind s s.start None none
+no_rules-walk_of kind s none =
+    walk_from-none occurrences (2 * (s.end + 1 - s.start) + 1) kind s s.start None
+    (no_rules-pick_of kind s s.start None none)
 
 -- with no patterns nothing ends at any place
-no_rules-to_place : (s : Search) (at places : ℕ) → s.patterns ≡ [] → to_place s at places ≡ []
+no_rules-to_place : (s : Search) (at places : ℕ) → s.patterns ≡ [] → to_place occurrences s at places ≡ []
 no_rules-to_place s at zero none = refl
 no_rules-to_place s at (suc places) none =
     ap₂ (λ here further. here ++ further) (ap (filter (λ (o : Occurrence). eqb o.end at)) (no_rules-occurrences s none))

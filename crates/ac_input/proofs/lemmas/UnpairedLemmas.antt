@@ -1,5 +1,5 @@
 -- Searches give one result under all pairings that pair nothing.
-use Rattle.std.proofs.Common.{◌≡◌, ◌↔◌, ℕ, zero, suc, ◌+◌, ◌-◌, ◌*◌, Bool, true, ◌&&◌, ◌||◌, ◌==◌, cond, List, [], ◌∷◌, ◌++◌, length, Option, Some, None, slice_range, leb, sym, ap, ap₂, subst, refl, ◌∙◌}
+use Rattle.std.proofs.Common.{◌≡◌, ◌↔◌, ℕ, zero, suc, ◌+◌, ◌-◌, ◌*◌, true, ◌&&◌, ◌||◌, ◌==◌, cond, List, [], ◌∷◌, ◌++◌, length, Option, Some, None, slice_range, leb, sym, ap, ap₂, subst, refl, ◌∙◌}
 use Rattle.ac_input.specs.declared.search.MatchKind.{MatchKind}
 use Rattle.ac_input.specs.Same.{IsUnpaired, same, same_text}
 use Rattle.ac_input.specs.Occurrence.{Search, Occurrence, Occurs, starting_at}
@@ -102,10 +102,10 @@ turn-alike alike (Some o) = ap (λ os. o ∷ os) (alike o)
 -- the computed walk of a number of turns is the same under both pairings
 walk_from-unpaired : (turns : ℕ) (kind : MatchKind) (s : Search) (one another : List ℕ) → IsUnpaired one
     → IsUnpaired another → (at : ℕ) (last : Option ℕ)
-    → walk_from turns kind (under s one) at last ≡ walk_from turns kind (under s another) at last
+    → walk_from occurrences turns kind (under s one) at last ≡ walk_from occurrences turns kind (under s another) at last
 walk_from-unpaired zero kind s one another f g at last = refl
 walk_from-unpaired (suc turns) kind s one another f g at last =
-    ap (turn (λ (o : Occurrence). walk_from turns kind (under s one) o.end (Some o.end)))
+    ap (turn (λ (o : Occurrence). walk_from occurrences turns kind (under s one) o.end (Some o.end)))
     (pick_of-unpaired kind s one another f g at last)
     ∙ turn-alike
     (λ o. walk_from-unpaired turns kind s one another f g o.end (Some o.end))

@@ -1,7 +1,6 @@
 -- No occurrence covers a byte that no pattern has, so a search splits after it, and the standard kind begins anew
 -- there.
-use Rattle.std.proofs.Common.{◌≡◌, ◌≢◌, ◌⊎◌, inl, inr, ⊎_elim, ℕ, zero, suc, ◌+◌, ◌-◌, ◌<◌, ◌≤◌, false, List, [], ◌∷◌, ◌++◌, length, drop, map, Option, Some, None, IsTrue, Contains, slice_get, slice_index, slice_range, Less, Greater, sym, ap, subst, ◌∙◌, arith, length-append}
-use Rattle.std.specs.Cmp.{nat_cmp_is}
+use Rattle.std.proofs.Common.{◌≡◌, ◌≢◌, ◌⊎◌, inl, inr, ⊎_elim, ℕ, zero, suc, ◌+◌, ◌-◌, ◌<◌, ◌≤◌, false, List, [], ◌∷◌, ◌++◌, length, drop, map, Option, Some, None, IsTrue, Contains, slice_get, slice_index, slice_range, Greater, sym, ap, subst, ◌∙◌, arith, length-append}
 use Rattle.std.proofs.lemmas.Bool.{and_parts, false≢true, cases_lt}
 use Rattle.std.proofs.lemmas.Option.{same_Some, none-some}
 use Rattle.std.proofs.lemmas.List.{get_or-take, get_or-drop, drop-append-le, drop_all}
@@ -23,7 +22,7 @@ use Rattle.ac_input.specs.Unused.{IsUnused, IsAfterUnused}
 use Rattle.ac_input.proofs.lemmas.ClassLemmas.{unknown-ends}
 use Rattle.ac_input.proofs.lemmas.LeadsLemmas.{leads-one}
 use Rattle.ac_input.proofs.lemmas.LiveLemmas.{alive-end}
-use Rattle.ac_input.proofs.lemmas.OrderLemmas.{occurs-end, less-not_greater, same_text-length, slice_range-length}
+use Rattle.ac_input.proofs.lemmas.OrderLemmas.{occurs-end, less-not_greater, earlier-less, same_text-length, slice_range-length}
 use Rattle.ac_input.proofs.lemmas.RisingLemmas.{less_by_end, IsRising-append}
 use Rattle.ac_input.proofs.lemmas.WalkLemmas.{occurs-earlier, walk_after-walk, walk-computed}
 use Rattle.ac_input.proofs.lemmas.ListingLemmas.{listing-computed, listing_of-lists}
@@ -130,9 +129,9 @@ front-preferred : (kind : MatchKind) {place : ℕ} (a b : Occurrence) → a.star
     → b.start < b.end → preference kind a b ≢ Greater
 front-preferred Standard a b starts ends begins some = less-not_greater (less_by_end a b (omega arith))
 front-preferred LeftmostFirst a b starts ends begins some =
-    less-not_greater (let e = nat_cmp_is a.start b.start Less (omega arith) in rw (← e))
+    less-not_greater (earlier-less LeftmostFirst (λ e. cc) a b (omega arith))
 front-preferred LeftmostLongest a b starts ends begins some =
-    less-not_greater (let e = nat_cmp_is a.start b.start Less (omega arith) in rw (← e))
+    less-not_greater (earlier-less LeftmostLongest (λ e. cc) a b (omega arith))
 
 -- the best of the part before an unused byte is the best of the whole search
 best-of_front : (kind : MatchKind) (s : Search) (at place : ℕ) (o : Occurrence) → s.end ≤ length s.haystack

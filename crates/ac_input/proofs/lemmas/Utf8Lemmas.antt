@@ -1,6 +1,5 @@
 -- Occurrences of texts in a text begin and end between characters. Where a pattern has a character, the text has one of
--- equal
--- length.
+-- equal length.
 use Rattle.std.proofs.Common.{⊎_elim, ◌≡◌, ◌≢◌, ℕ, ◌+◌, ◌-◌, ◌<◌, ◌≤◌, true, List, [], ◌∷◌, ◌++◌, length, drop, get_or, slice_range, IsTrue, IsCharBoundary, Contains, refl, sym, ap, subst, ◌∙◌, arith, length-append, take-append-drop, drop-drop, drop_at, get_or-drop}
 use Rattle.std.proofs.lemmas.Bool.{and_parts, false≢true}
 use Rattle.std.proofs.lemmas.Bool.Decides.{nat_tests}

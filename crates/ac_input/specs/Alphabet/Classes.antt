@@ -10,8 +10,7 @@ abbrev pub IsByteOf : Dictionary → ℕ → Type 0
 IsByteOf m byte = (n : ℕ) × (p : List ℕ) × (c : ℕ) × IsEntered m n p × Contains p c × IsTrue (same m.pairing c byte)
 
 -- A byte ends a class if it or the next byte, or a partner of either, stands in an entered pattern. So each of those
--- bytes is a
--- class alone.
+-- bytes is a class alone.
 abbrev pub AreByteClasses : Dictionary → List ℕ → Type 0
 AreByteClasses m classes =
     (boundaries : List Bool) × AreClassesOf boundaries classes

@@ -60,8 +60,7 @@ OverlappingListOfBeginningBegins =
     × IsBeginning (listed (listing_of (whole m text anchored))) (listed (listing_of (whole m (text ++ more) anchored)))
 
 -- Under standard the text before a cut is final: with its matches replaced, it is a beginning of the whole text with
--- its matches
--- replaced. Its list of matches is a beginning of the whole text's list.
+-- its matches replaced. Its list of matches is a beginning of the whole text's list.
 abbrev pub FrontOfCutIsFinal : Type 0
 FrontOfCutIsFinal =
     (m : Dictionary) (text : List ℕ) (cut : ℕ) (replacements : List (List ℕ)) → m.kind ≡ Standard → IsCut m text cut

@@ -57,8 +57,7 @@ pub record IsLink (entries : List Entry) (bucket limit link : ℕ) : Type 0 wher
   pub after : (i : ℕ) → link ≤ i → i < limit → bucket_of (entry_at entries i).hash ≢ bucket
 
 -- The entries made so far, in the order. Each has its pattern's number and hash, and a link to the entry before it in
--- its bucket. A
--- bucket's head is its last entry.
+-- its bucket. A bucket's head is its last entry.
 pub record AreEntries (patterns : List (List ℕ)) (hash_len : ℕ) (order : List ℕ) (heads : List ℕ)
     (entries : List Entry) : Type 0 where
   pub pattern : (i : ℕ) → i < length entries → (entry_at entries i).pattern ≡ get_or order i 0

@@ -82,8 +82,7 @@ pub record IsTeddy (patterns : List (List ℕ)) (len : ℕ) (t : Teddy) : Type 0
   pub all : (number : ℕ) → number < (length patterns) → (bucket : ℕ) × HasPattern t (get_or patterns number []) bucket
 
 -- The next block of 32 places before the place `to` that has a mark, and its marks. Where no block has one, the marks
--- are 0, and no
--- place before `block` is marked.
+-- are 0, and no place before `block` is marked.
 pub record IsNextMarks (t : Teddy) (haystack : List ℕ) (from to block marks : ℕ) : Type 0 where
   pub after : from ≤ block
   pub within : block ≤ to

@@ -60,8 +60,7 @@ BuildsWhere asked pairing c made =
     (m : Dictionary) → m.pairing ≡ pairing → IsCollected m c → MatchOption made (¬ asked m) (IsStrategyOf m)
 
 -- packed search is built from what is collected, where the search for one pattern doesn't serve; nothing only where
--- packed search
--- doesn't either
+-- packed search doesn't either
 abbrev pub BuildsPacked : Builders → Option Strategy → Type 0
 BuildsPacked c made =
     (m : Dictionary) → ¬ MemmemServes m → IsCollected m c

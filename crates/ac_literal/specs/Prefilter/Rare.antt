@@ -23,8 +23,7 @@ abbrev pub IsClosed : List ℕ → FewBytes → Type 0
 IsClosed pairing these = (byte : ℕ) → IsTrue (few_has these byte) → IsTrue (few_has these (other pairing byte))
 
 -- The bytes chosen before are kept, and a byte of the pattern is among them, with its partner. Only bytes of the
--- pattern and their
--- partners were added.
+-- pattern and their partners were added.
 pub record IsChosen (pairing : List ℕ) (before : FewBytes) (p : List ℕ) (after : FewBytes) : Type 0 where
   pub kept : (byte : ℕ) → IsTrue (few_has before byte) → IsTrue (few_has after byte)
   pub held : HoldsFew pairing after p

@@ -49,8 +49,7 @@ pub record AreKept (trie : Trie) (numbering : Numbering) (links : Links) (transi
       ≡ slice_index transitions (length numbering.at.items)
 
 -- Where a byte that begins no pattern leads from the unanchored start. Under a leftmost kind with an empty pattern,
--- which has
--- matched, it leads to the dead state; otherwise back to the start.
+-- which has matched, it leads to the dead state; otherwise back to the start.
 abbrev pub IsBack : MatchKind → List Range → ℕ → ℕ → Type 0
 IsBack kind ranges start back =
     ((kind ≢ Standard) × (0 < range_len ranges 0) × (back ≡ 0))

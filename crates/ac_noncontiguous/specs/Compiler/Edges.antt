@@ -26,8 +26,7 @@ abbrev pub missing : ℕ → ℕ → ℕ → ℕ
 missing start back i = if i == start then back else nowhere
 
 -- A byte leads from state i to `next`: the child of its trie state for the byte, where there is one. The dead state
--- leads to
--- itself.
+-- leads to itself.
 pub record IsEdgeTo (trie : Trie) (numbering : Numbering) (back i b next : ℕ) : Type 0 where
   pub within : next < length numbering.at.items
   pub dead : i ≡ 0 → next ≡ 0

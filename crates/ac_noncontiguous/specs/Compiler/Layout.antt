@@ -109,8 +109,7 @@ AreWithFailures classes edges rows failure leads =
     ≡ or_failure (slice_index edges b) (slice_index rows (failure + class classes b))
 
 -- Where a byte leads from a state, all failures followed: by an edge of the state itself or, if that leads nowhere,
--- from its
--- failure.
+-- from its failure.
 pub data LeadsOver (trie : Trie) (numbering : Numbering) (links : Links) (back byte : ℕ) : ℕ → ℕ → Type 0 where
   ByItself : (i next : ℕ) → IsEdgeTo trie numbering back i byte next → next ≢ nowhere
       → LeadsOver trie numbering links back byte i next
@@ -119,8 +118,7 @@ pub data LeadsOver (trie : Trie) (numbering : Numbering) (links : Links) (back b
       → LeadsOver trie numbering links back byte failure next → LeadsOver trie numbering links back byte i next
 
 -- Of this many states the dead one alone has a row, if states less deep than `below` have one: it leads from each byte
--- back to the
--- dead state.
+-- back to the dead state.
 pub record AreOfDead (states below : ℕ) (classes : List ℕ) (it : Rows) : Type 0 where
   pub counted : length it.offsets.items ≡ states
   pub wanted : (slice_index it.offsets.items 0 ≢ no_row) ↔ (0 < below)
@@ -158,8 +156,7 @@ abbrev pub IsRowedOrFull : Rows → ℕ → Type 0
 IsRowedOrFull it i = (slice_index it.offsets.items i ≢ no_row) ⊎ (no_row ≤ length it.rows.items)
 
 -- Where states less deep than `below` are to have a row, the dead state has one, and so has each state that is less
--- deep than trie
--- state `id` too.
+-- deep than trie state `id` too.
 pub record AreRowedAbove (trie : Trie) (numbering : Numbering) (below id : ℕ) (it : Rows) : Type 0 where
   pub dead : 0 < below → slice_index it.offsets.items 0 ≢ no_row
   pub shallow : (f : ℕ) → f < length trie.states.items → depth trie.states.items f < depth trie.states.items id

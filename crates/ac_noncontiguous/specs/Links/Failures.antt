@@ -18,8 +18,7 @@ IsChildOf states of low None = HasNoChild states of low
 IsChildOf states of low (Some c) = (0 < c) × (c < length states) × (parent states c ≡ of) × (byte states c ≡ low)
 
 -- Where a byte leads without a failure: to the state's child for it. Without a child it leads from the start back to
--- it, and from
--- other states nowhere.
+-- it, and from other states nowhere.
 abbrev pub IsToldBy : List State → ℕ → ℕ → Option ℕ → Type 0
 IsToldBy states of low None = (of ≢ 0) × HasNoChild states of low
 IsToldBy states of low (Some id) = IsChildOf states of low (Some id) ⊎ ((of ≡ 0) × (id ≡ 0) × HasNoChild states of low)
@@ -50,16 +49,14 @@ abbrev pub NextOf : Dictionary → List State → ℕ → ℕ → Option ℕ →
 NextOf m states of low r = LeadsTo m false (text states of ++ low ∷ []) (option_map (text states) r)
 
 -- Where one more byte leads from a state, for every dictionary whose trie this is. It is required that the start isn't
--- final, that
--- the byte is canonical, and that the failures of all states no deeper are right.
+-- final, that the byte is canonical, and that the failures of all states no deeper are right.
 abbrev pub IsNextByFails : Trie → List (Option ℕ) → ℕ → ℕ → Option ℕ → Type 0
 IsNextByFails trie fails of low r =
     (m : Dictionary) → IsTrieOf m trie → (m.kind ≢ Standard → (n : ℕ) → ¬ IsOwn m [] n) → canonical m.pairing low ≡ low
     → AreFailsAbove m trie.states.items fails (depth trie.states.items of + 1) → NextOf m trie.states.items of low r
 
 -- The state to which state i fails, for every dictionary whose trie this is, provided that the failures of all
--- shallower states
--- are right.
+-- shallower states are right.
 abbrev pub IsFailureByFails : Trie → List (Option ℕ) → ℕ → Option ℕ → Type 0
 IsFailureByFails trie fails i r =
     (m : Dictionary) → IsTrieOf m trie → AreFailsAbove m trie.states.items fails (depth trie.states.items i)

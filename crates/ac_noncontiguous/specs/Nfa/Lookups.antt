@@ -45,8 +45,7 @@ other_start start true = start
 other_start start false = start + 1
 
 -- The states stand for these texts, and their numbers for the states. No search reaches the fail state, or the start of
--- the other
--- anchoring.
+-- the other anchoring.
 abbrev pub naming_of : (ℕ → List ℕ) → ℕ → ℕ → Naming
 naming_of text len start = record {
   text = state_of text;
@@ -63,8 +62,7 @@ abbrev pub IsVisited : Tables → Bool → ℕ → Type 0
 IsVisited tables anchored i = IsKept tables i × (i ≢ nowhere) × (i ≢ other_start tables.start anchored)
 
 -- The state after i in an anchored search, where j is the state to which the byte leads with all failures followed. If
--- j is deeper
--- than i, it is i's own child; otherwise the next state is the dead one.
+-- j is deeper than i, it is i's own child; otherwise the next state is the dead one.
 abbrev pub own_next : Tables → ℕ → ℕ → ℕ
 own_next tables i j =
     if nat_lt (kept_of tables.states.items i).depth (kept_of tables.states.items j).depth then j else 0

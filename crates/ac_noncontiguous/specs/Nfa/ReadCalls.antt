@@ -73,8 +73,7 @@ TextsBegin nfa =
     → BeginsEntered (dictionary nfa) (text sid) × (canonical_text (dictionary nfa) (text sid) ≡ text sid))
 
 -- The text of a state fails to this state, which is shallower. The dead state and the fail state fail to the dead one,
--- and no state
--- fails to the fail state or to the anchored start.
+-- and no state fails to the fail state or to the anchored start.
 pub record FailsIn (nfa : NFA) (sid fail : ℕ) : Type 0 where
   pub within : fail < state_len nfa
   pub stands : fail ≢ nowhere
@@ -104,8 +103,7 @@ IsEdgeIn nfa text sid byte next =
     IsEdge (dictionary nfa) (state_len nfa) (special_in nfa).start_unanchored_id text sid byte next
 
 -- Each transition of a state leads to where its byte leads, and a byte without a transition leads nowhere. The
--- transitions of a
--- state that isn't full lead to a state that is one byte longer.
+-- transitions of a state that isn't full lead to a state that is one byte longer.
 pub record AreLeading (nfa : NFA) (text : ℕ → List ℕ) (sid : ℕ) (edges : List (ℕ × ℕ)) : Type 0 where
   pub lead : (k byte next : ℕ) → slice_get edges k ≡ Some (byte, next) → IsEdgeIn nfa text sid byte next
   pub missing : (byte : ℕ) → byte < 256 → ((k next : ℕ) → slice_get edges k ≢ Some (byte, next))
@@ -114,8 +112,8 @@ pub record AreLeading (nfa : NFA) (text : ℕ → List ℕ) (sid : ℕ) (edges :
       → BeginsEntered (dictionary nfa) (text sid ++ byte ∷ [])
 
 -- The transitions of a state come in rising order of byte, and each leads to a state. The dead state and both starts
--- have one for
--- each byte, and the fail state has none. Every other state has only those that lead to a state one byte longer.
+-- have one for each byte, and the fail state has none. Every other state has only those that lead to a state one byte
+-- longer.
 pub record AreEdges (nfa : NFA) (sid : ℕ) (edges : List (ℕ × ℕ)) : Type 0 where
   pub within : (k byte next : ℕ) → slice_get edges k ≡ Some (byte, next) → (byte < 256) × (next < state_len nfa)
   pub rising : (j k b c n o : ℕ) → j < k → slice_get edges j ≡ Some (b, n) → slice_get edges k ≡ Some (c, o) → b < c
@@ -140,12 +138,9 @@ pub record LeadsIn (nfa : NFA) (anchored : Anchored) (sid byte next : ℕ) : Typ
 -- ---- which states are read
 
 -- A state is reached by reading a text exactly if the text leads to what the state stands for. So each state past 1 is
--- reached
--- from either start by its own text, except the other start. The dead state is reached wherever a text is dead. From
--- the anchored
--- start some text always is; from the unanchored one, if a state other than the starts fails to the dead state. Under
--- the standard
--- kind no text is dead from the unanchored start. The fail state is never reached.
+-- reached from either start by its own text, except the other start. The dead state is reached wherever a text is dead.
+-- From the anchored start some text always is; from the unanchored one, if a state other than the starts fails to the
+-- dead state. Under the standard kind no text is dead from the unanchored start. The fail state is never reached.
 pub record AreRead (nfa : NFA) : Type 0 where
   pub stands : OfTexts nfa
       (λ names. (anchored : Anchored) (text : List ℕ) (sid : ℕ) → MayBeMet nfa anchored sid
@@ -160,9 +155,8 @@ pub record AreRead (nfa : NFA) : Type 0 where
 -- ---- the order of the states
 
 -- No two states but the starts stand for one text, and each prefix of an entered pattern has a state. Before the starts
--- and after
--- them the states come in order of depth. States of one depth come in order of the first pattern that begins with their
--- texts.
+-- and after them the states come in order of depth. States of one depth come in order of the first pattern that begins
+-- with their texts.
 pub record AreOrdered (nfa : NFA) (text : ℕ → List ℕ) : Type 0 where
   pub apart : (i j : ℕ) → 1 < i → i < j → j < state_len nfa → text i ≡ text j
       → (i ≡ (special_in nfa).start_unanchored_id) × (j ≡ (special_in nfa).start_anchored_id)
@@ -175,11 +169,9 @@ pub record AreOrdered (nfa : NFA) (text : ℕ → List ℕ) : Type 0 where
 -- ---- the numbers that divide the states into groups
 
 -- The numbers that divide the states into groups. States at which some pattern matches come first, then the unanchored
--- start, the
--- anchored start, and all others. If the starts match, they count among the first. Both starts stand for the empty
--- text, and no
--- other state does. The last special state is the anchored start if there is a prefilter, otherwise the last state that
--- matches.
+-- start, the anchored start, and all others. If the starts match, they count among the first. Both starts stand for the
+-- empty text, and no other state does. The last special state is the anchored start if there is a prefilter, otherwise
+-- the last state that matches.
 pub record AreBounds (nfa : NFA) (text : ℕ → List ℕ) (special : Special) : Type 0 where
   pub past : 1 < special.start_unanchored_id
   pub next : special.start_anchored_id ≡ special.start_unanchored_id + 1

@@ -27,8 +27,7 @@ IsChildRefused states of low Memory = Unit {0}
 IsChildRefused states of low other = ⊥
 
 -- The first `read` bytes of a pattern were entered, up to state `at`. Each added state stands for a prefix of them, and
--- no pattern
--- ends in it. Under leftmost-first no pattern ends in a state before `at` on the way.
+-- no pattern ends in it. Under leftmost-first no pattern ends in a state before `at` on the way.
 pub record IsWalked (kind : MatchKind) (old states : List State) (bytes : List ℕ) (read at : ℕ) : Type 0 where
   pub extends : Extends old states
   pub reached : (at < length states) × (depth states at ≡ read) × (text states at ≡ take read bytes)

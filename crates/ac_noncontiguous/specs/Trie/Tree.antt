@@ -35,8 +35,8 @@ pub record IsFirstChild (len : ℕ) (parent byte : ℕ → ℕ) (of low first : 
   pub before_all : (c : ℕ) → 0 < c → c < len → parent c ≡ of → low ≤ byte c → (0 < first) × (byte first ≤ byte c)
 
 -- The states of a trie, column by column. State 0 is the start; every other state is the child of an earlier one. A
--- state links to
--- its first child, and each child to its next sibling, in rising order of byte. No two siblings have the same byte.
+-- state links to its first child, and each child to its next sibling, in rising order of byte. No two siblings have the
+-- same byte.
 pub record HasLinks (len : ℕ) (parent byte child sibling depth : ℕ → ℕ) : Type 0 where
   pub start : (0 < len) × (depth 0 ≡ 0)
   pub parents : (c : ℕ) → 0 < c → c < len → (parent c < c) × (depth c ≡ depth (parent c) + 1)

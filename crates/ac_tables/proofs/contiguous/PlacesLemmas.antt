@@ -6,8 +6,7 @@ use Rattle.std.proofs.lemmas.Bool.Decides.{nat_tests}
 use Rattle.ac_automaton.specs.Named.{Naming}
 
 -- Whether a search of this anchoring may come to a state: not to the fail state, and not to the other start. The
--- unanchored start
--- is `start`, and the anchored one is the next.
+-- unanchored start is `start`, and the anchored one is the next.
 abbrev pub is_met : ℕ → Bool → ℕ → Bool
 is_met start true i = not (i == 1) && not (i == start)
 is_met start false i = not (i == 1) && not (i == start + 1)
@@ -40,8 +39,7 @@ placed_at len start places at =
     (met_state_at (is_met start true) (places true) len at)
 
 -- The naming by places. The states stand for these texts, each has a place for either anchoring, and its number in the
--- table is
--- that place.
+-- table is that place.
 abbrev pub named_by : (ℕ → Option (List ℕ)) → ℕ → ℕ → (Bool → ℕ → ℕ) → Naming
 named_by state len start places = record {
   text = λ at. text_at state (placed_at len start places at);

@@ -87,8 +87,7 @@ pub record AreRowsFrom (nfa : NFA) (classes places : List ℕ) (rows : Rows) : T
       (state_len nfa) (state_len nfa) rows.trans.items
 
 -- The rows for the states of an automaton, in these classes: there are some exactly if they are small, and they take at
--- most this
--- memory.
+-- most this memory.
 pub record AreRowsWithin (nfa : NFA) (dense_depth : ℕ) (classes : List ℕ) (memory : ℕ)
     (rows : Option Rows) : Type 0 where
   pub places : List ℕ

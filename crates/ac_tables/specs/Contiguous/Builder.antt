@@ -26,9 +26,8 @@ contiguous_dense_depth s = unwrap_or s.dense_depth 2
 -- ---- from a noncontiguous automaton
 
 -- An automaton was made from a noncontiguous one. Its dictionary and its prefilter are those of that one, its words are
--- those of
--- that one's states, and no state's place is past the greatest number. There are rows if they take no more memory than
--- is set.
+-- those of that one's states, and no state's place is past the greatest number. There are rows if they take no more
+-- memory than is set.
 pub record IsMadeFrom (s : Settings) (from : Noncontiguous) (made : NFA) : Type 0 where
   pub built : contiguous_built_as made ≡ built_as from
   pub classes : List ℕ

@@ -62,8 +62,7 @@ abbrev pub IsMet : NFA → Bool → ℕ → Type 0
 IsMet nfa anchored sid = ∥ ((names : Naming) × IsLaidOut nfa names × IsTrue (names.met anchored sid)) ∥₁
 
 -- By whichever naming the automaton is laid out, a byte leads from one state to the next in a search. This is the cost
--- of the
--- look-up, after `done` looks for the byte.
+-- of the look-up, after `done` looks for the byte.
 abbrev pub LooksUp : NFA → Bool → ℕ → ℕ → ℕ → ℕ → Steps → Steps → Type 0
 LooksUp nfa anchored done sid byte next before after =
     OfNames (IsLaidOut nfa) anchored sid

@@ -21,8 +21,7 @@ abbrev pub place_at : List ℕ → ℕ → ℕ → ℕ
 place_at places stride row = slice_index places (row / stride)
 
 -- The rows are those of a dictionary, by this naming of the places. A byte leads from the row of a place to the row of
--- the place
--- to which the byte leads from there.
+-- the place to which the byte leads from there.
 pub record AreUnanchoredRows (m : Dictionary) (classes : List ℕ) (names : Naming) (stride : ℕ)
     (trans places : List ℕ) : Type 0 where
   pub letters : (byte : ℕ) → byte < 256 → class classes byte < stride

@@ -117,8 +117,7 @@ AreSomeStates m table rows =
 -- ---- what the automaton stores beside its words
 
 -- The words, and the rows and the prefilter if any, are those of the dictionary, which is within the limits and has a
--- valid
--- pairing.
+-- valid pairing.
 pub record AreContiguousParts (m : Dictionary) (table : Table) (rows : Option Rows)
     (prefilter : Option Filter) : Type 0 where
   pub within : ∥ IsWithinLimits m ∥₁

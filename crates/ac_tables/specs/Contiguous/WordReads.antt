@@ -16,8 +16,7 @@ IsFirstPlace bytes wanted (Some at) =
 -- ---- one state
 
 -- A state stands at a place: its words are there. The class of each transition is one of the alphabet, and each byte
--- leads to a
--- number that isn't too great.
+-- leads to a number that isn't too great.
 pub record IsStateAt (table : Table) (sid : ℕ) (s : StateParts) : Type 0 where
   pub stands : AreWordsAt table.words.items sid (words_of table.alphabet_len s)
   pub alphabet : table.alphabet_len ≡ alphabet_len table.classes

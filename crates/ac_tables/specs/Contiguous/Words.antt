@@ -1,16 +1,14 @@
 -- The words in which the contiguous automaton stores a state.
 --
 -- A state is a few 32-bit words: its kind, its failure, the classes of sparse transitions, the transitions, and its
--- patterns if
--- any.
+-- patterns if any.
 use Rattle.std.specs.Prelude.{◌≡◌, ℕ, zero, suc, ◌+◌, ◌*◌, ◌/◌, ◌<◌, ◌≤◌, nat_lt, ◌==◌, ◌&&◌, ◌||◌, Bool, if◌then◌else◌, map, List, [], ◌∷◌, ◌++◌, length, take, drop}
 use Rattle.std.specs.List.{All, range_with_len}
 use Rattle.ac_automaton.specs.Named.{nowhere}
 use Rattle.ac_input.specs.Number.{greatest_number}
 
 -- The parts of a state: whether it is shallow enough to have an entry for each class, the place of its failure, the
--- class of each
--- transition with the place of the next state, and the patterns that match.
+-- class of each transition with the place of the next state, and the patterns that match.
 pub record StateParts : Type 0 where
   pub shallow : Bool
   pub fail : ℕ
@@ -119,8 +117,7 @@ abbrev pub head_len : ℕ
 head_len = 2
 
 -- How many words a state takes: its head, its transitions by their form, and its patterns, which are counted where
--- there are
--- several.
+-- there are several.
 abbrev pub word_count : ℕ → Bool → ℕ → ℕ → ℕ
 word_count alphabet shallow transitions matches =
     head_len

@@ -39,8 +39,7 @@ number_in p anchored sid =
     dfa_number_of p.kind (special_in p.nfa).start_unanchored_id p.stride (is_anchored anchored) sid
 
 -- What all rows need of an automaton: its states stand for texts, and both starts are states past the first two. Each
--- byte is the
--- partner of its partner, and the classes are those of the dictionary.
+-- byte is the partner of its partner, and the classes are those of the dictionary.
 pub record IsSource (nfa : NFA) : Type 0 where
   pub stand : ∥ ((text : ℕ → List ℕ) × AreTables (dictionary nfa) text nfa.tables) ∥₁
   pub starts : (1 < (special_in nfa).start_unanchored_id) × ((special_in nfa).start_unanchored_id + 1 < state_len nfa)
@@ -48,8 +47,7 @@ pub record IsSource (nfa : NFA) : Type 0 where
   pub classes : (∥ AreByteClasses (dictionary nfa) (classes_in nfa) ∥₁)
 
 -- Each class has a place in a row. Bytes of one class share one of the automaton's own classes too. The last row's
--- number isn't
--- too great.
+-- number isn't too great.
 pub record IsFit (p : RowPlan) : Type 0 where
   pub source : IsSource p.nfa
   pub wide : p.stride ≤ 256
@@ -98,8 +96,7 @@ pub record AreWritten (p : RowPlan) (anchored : Anchored) (at : ℕ) (edges : Li
 -- ---- all rows
 
 -- State `plain` has the right row for unanchored searches, and state `anchored` has the right row for anchored ones, if
--- these
--- searches are served. All other rows are unchanged.
+-- these searches are served. All other rows are unchanged.
 pub record AreRowsFilled (p : RowPlan) (plain anchored : ℕ) (old new : List ℕ) : Type 0 where
   pub len : length new ≡ length old
   pub row : Serves p.kind No → IsRowRight p No plain new

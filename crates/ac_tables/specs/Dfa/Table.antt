@@ -21,8 +21,8 @@ use Rattle.ac_tables.specs.Source.{AreBytesAlone}
 -- ---- the rows
 
 -- The row of a state. With one start kind it is the state's number. With both, each state has a row for either
--- anchoring, but for
--- the dead state, the fail state and the two starts. The unanchored start's row comes right before the anchored one's.
+-- anchoring, but for the dead state, the fail state and the two starts. The unanchored start's row comes right before
+-- the anchored one's.
 abbrev pub dfa_row_of : StartKind → ℕ → Bool → ℕ → ℕ
 dfa_row_of starts.Unanchored start anchored i = i
 dfa_row_of starts.Anchored start anchored i = i
@@ -42,8 +42,7 @@ IsCell nfa kind stride cell anchored sid byte next =
     × (cell ≡ dfa_number_of kind (special_in nfa).start_unanchored_id stride (is_anchored anchored) next)
 
 -- The transitions are those of an automaton. Each state has a row, as long as the least power of two that is enough for
--- the
--- classes. A row has the next state for each class, all failures followed.
+-- the classes. A row has the next state for each class, all failures followed.
 pub record AreTransitionsOf (nfa : NFA) (kind : StartKind) (classes : List ℕ) (stride : ℕ)
     (transitions : List ℕ) : Type 0 where
   pub least : IsLeastPowerOfTwo (alphabet_len classes) stride
@@ -93,10 +92,8 @@ start_by table false = table.start
 start_by table true = table.start_anchored
 
 -- The table is that of a dictionary, by this naming of its numbers. Row 1 is that of the fail state, which no search
--- meets. The
--- anchored start's row comes right after the unanchored one's. Of the numbers that unanchored searches reach, only the
--- unanchored
--- start stands for the empty text.
+-- meets. The anchored start's row comes right after the unanchored one's. Of the numbers that unanchored searches
+-- reach, only the unanchored start stands for the empty text.
 pub record AreDfaRows (m : Dictionary) (table : Table) (names : Naming) : Type 0 where
   pub classes : (byte : ℕ) → byte < 256 → class table.classes byte < stride_of table
   pub alone : AreBytesAlone m table.classes

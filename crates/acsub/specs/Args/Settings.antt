@@ -41,8 +41,7 @@ IsFirstExclusion s rules e =
     IsExcluded s rules e × ((earlier : SettingError) → order_of earlier < order_of e → ¬ IsExcluded s rules earlier)
 
 -- Matches are found while the input is read. Under the standard kind that is always so, as no later byte can change a
--- match. Under
--- a leftmost kind a stream must be asked for, and an automaton must search.
+-- match. Under a leftmost kind a stream must be asked for, and an automaton must search.
 abbrev pub FindsEarly : Bool → Settings → Type 0
 FindsEarly stream settings = (settings.kind ≡ Standard) ⊎ ((stream ≡ true) × (settings.engine ≢ Packed))
 

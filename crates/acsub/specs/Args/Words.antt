@@ -198,8 +198,7 @@ abbrev pub IsRefused : Kinds → Type 0
 IsRefused kinds = (k : ErrorKind) × IsAmong k kinds × ¬ IsShown k
 
 -- What the program returns for the words. Clap takes them exactly if it finds no fault with them; then their matches
--- give the
--- result. Memory may run out for any words.
+-- give the result. Memory may run out for any words.
 abbrev pub Reads : List Text → Result Words WordsFault → Type 0
 Reads words (Ok w) = (fault_of command words ≡ []) × AsksFor (matches_of command words) w
 Reads words (Err (Help e)) = IsShown (kind_of e) × IsAmong (kind_of e) (fault_of command words)

@@ -5,8 +5,7 @@ use Rattle.acsub.specs.declared.rules.RuleError.{RuleError}
 use Rattle.acsub.specs.declared.rules.RuleError.TheVariants.{Line, Memory}
 
 -- The form of a rule file: the rules that a file holds; the number of its first bad line; the rule of a text's first
--- line, and what
--- follows that line; and the bytes that a side stands for, as it is written.
+-- line, and what follows that line; and the bytes that a side stands for, as it is written.
 pub record Grammar : Type 1 where
   pub holds : List ℕ → List Rule → Type 0
   pub bad : List ℕ → ℕ → Type 0

@@ -24,23 +24,20 @@ text_in modes.List kind replacements s = listed (walk_of kind s)
 text_in modes.Overlap kind replacements s = listed (listing_of s)
 
 -- The text that settings and rules make of an input. It doesn't depend on the engine, the prefilter, the dense depth or
--- byte
--- classes.
+-- byte classes.
 abbrev pub output_of : Settings → List Rule → List ℕ → List ℕ
 output_of settings rules input =
     text_in settings.mode settings.kind (replacements_of rules) (whole (dictionary_for settings rules) input false)
 
 -- The text is written while the input is read. Matches are found by then, and no pattern is empty. Overlapping matches
--- are listed
--- so only if a stream was asked for. Every other text is written after the whole input was read.
+-- are listed so only if a stream was asked for. Every other text is written after the whole input was read.
 abbrev pub IsStreamed : Plan → Type 0
 IsStreamed plan =
     FindsEarly plan.stream plan.settings × ((plan.stream ≡ true) ⊎ (plan.settings.mode ≢ modes.Overlap))
     × ¬ HasEmptyPattern plan.rules
 
 -- How many bytes the input buffer has room for in a run that writes while it reads, by the mode. An overlapping search
--- keeps no
--- byte that was searched.
+-- keeps no byte that was searched.
 abbrev pub room_in : Mode → List Rule → ℕ
 room_in modes.Replace rules = room_for (max (longest (rule_patterns rules)) 1)
 room_in modes.List rules = room_for (max (longest (rule_patterns rules)) 1)
@@ -51,8 +48,7 @@ abbrev pub IsDecidedList : Sequence → Dictionary → List ℕ → List ℕ →
 IsDecidedList q m x text = (os : List Occurrence) × Decides q m x os × (text ≡ listed os)
 
 -- What can be written once this much of the input was read: the text up to a cut, with matches replaced; or a line for
--- each decided
--- match; or a line for each occurrence, which no later byte can change.
+-- each decided match; or a line for each occurrence, which no later byte can change.
 pub record IsOutputFront (settings : Settings) (rules : List Rule) (x text : List ℕ) : Type 0 where
   pub replaced : settings.mode ≡ modes.Replace
       → IsFront (dictionary_for settings rules) (output_of settings rules) x text

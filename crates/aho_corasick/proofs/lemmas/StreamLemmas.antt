@@ -62,8 +62,7 @@ append-none [] ys none = none
 append-none (x ∷ xs) ys none = absurd (let e : x ∷ (xs ++ ys) ≡ [] = none in cc)
 
 -- Where a search of a text stands: what it has read, and what it has returned. If the reader has ended, the search was
--- told that no
--- more comes, and nothing is left.
+-- told that no more comes, and nothing is left.
 pub record HasFound {R : Type 0} {q : Sequence} (rest : R → List ℕ) (b : Built) (text : List ℕ) (s : StreamProgress q)
     (reader : Watched R) (found : List Occurrence) : Type 0 where
   pub built : s.built ≡ b

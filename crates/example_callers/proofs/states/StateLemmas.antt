@@ -64,8 +64,7 @@ front-ends m text k within (o, occurs, is) =
     )
 
 -- A state's match list after k bytes of the text. If it isn't empty, an occurrence ends at k; if it is empty, no
--- occurrence ends
--- there.
+-- occurrence ends there.
 pub record IsReadTo (m : Dictionary) (text : List ℕ) (k : ℕ) (ns : List ℕ) : Type 0 where
   pub within : k ≤ length text
   pub some : ns ≢ [] → (o : Occurrence) × Occurs (whole m text false) o × (o.end ≡ k)
@@ -110,8 +109,7 @@ start-reached supports Reaches anchored r sid answers is =
 -- ---- a walk from a start that matches nothing
 
 -- What is known of a walk over a text: what its states list, where it began, that no state before the last matches, and
--- where it
--- stands.
+-- where it stands.
 pub record HasWalked (m : Dictionary) (text : List ℕ) (Reaches : List ℕ → StateID → Type 0) (matches : StateID → List ℕ)
     (start end : StateID) (taken : ℕ) : Type 0 where
   pub standard : m.kind ≡ Standard

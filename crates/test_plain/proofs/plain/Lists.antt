@@ -3,15 +3,16 @@ use Rattle.std.proofs.Common.{List, [], ◌∷◌, ◌++◌, Option, Some, None,
 use Rattle.std.specs.Prelude.{Contains}
 use Rattle.std.proofs.lemmas.List.Elements.{Contains-push, Contains-push_cases, Contains-append_left}
 use Rattle.ac_input.specs.declared.search.MatchKind.TheVariants.{Standard}
-use Rattle.ac_input.specs.Occurrence.{Search, Occurrence, Occurs}
+use Rattle.ac_input.specs.Occurrence.{Occurrence}
 use Rattle.ac_input.specs.Best.{IsAfter, IsLeast}
 use Rattle.ac_input.specs.Listing.{ListsAll}
 use Rattle.ac_input.proofs.lemmas.OrderLemmas.{preference-then_less, preference-not_less, preference-less}
 use Rattle.ac_input.proofs.lemmas.RisingLemmas.{IsBefore, less_itself, less_flip, less_or_same, IsRising-append}
+use Rattle.test_plain.specs.Naive.{Plain, PlainOccurs}
 
 -- what is listed up to one occurrence: all occurrences that don't come after it
-abbrev pub ListsUpTo : Search → Option Occurrence → List Occurrence → Type 0
-ListsUpTo s before os = ListsAll (λ o. Occurs s o × ¬ IsAfter before o) os
+abbrev pub ListsUpTo : Plain → Option Occurrence → List Occurrence → Type 0
+ListsUpTo s before os = ListsAll (λ o. PlainOccurs s o × ¬ IsAfter before o) os
 
 -- an occurrence that doesn't come after `before` comes before each that does
 between : (before : Option Occurrence) (o q : Occurrence) → ¬ IsAfter before o → IsAfter before q → IsBefore o q
@@ -19,14 +20,14 @@ between None o q not_after after = absurd (not_after tt)
 between (Some b) o q not_after after =
     preference-then_less Standard o b q (preference-not_less Standard b o not_after) after
 
-module _ (s : Search) (before : Option Occurrence) (os : List Occurrence) (q : Occurrence)
-    (next : IsLeast Standard (λ o. Occurs s o × IsAfter before o) (Some q)) (lists : ListsUpTo s before os) where
+module _ (s : Plain) (before : Option Occurrence) (os : List Occurrence) (q : Occurrence)
+    (next : IsLeast Standard (λ o. PlainOccurs s o × IsAfter before o) (Some q)) (lists : ListsUpTo s before os) where
   -- what has been listed comes before the next occurrence
   listed_before : (o : Occurrence) → Contains os o → IsBefore o q
   listed_before o h = between before o q ((lists.1 o).0 h).1 next.0.1
 
   -- each occurrence that doesn't come after the next one has been listed, or is the next one
-  all_listed : (o : Occurrence) → Occurs s o × ¬ IsBefore q o → Contains (os ++ q ∷ []) o
+  all_listed : (o : Occurrence) → PlainOccurs s o × ¬ IsBefore q o → Contains (os ++ q ∷ []) o
   all_listed o h =
       elim (less_or_same q o) [
         | inl after ↦ absurd (h.1 after)
@@ -51,7 +52,7 @@ module _ (s : Search) (before : Option Occurrence) (os : List Occurrence) (q : O
     λ o. (
       λ h. elim (Contains-push_cases os q o h) [
         | inl old ↦ (((lists.1 o).0 old).0, less_flip o q (listed_before o old))
-        | inr same ↦ subst (λ x. Occurs s x × ¬ IsBefore q x) same (next.0.0, less_itself q)
+        | inr same ↦ subst (λ x. PlainOccurs s x × ¬ IsBefore q x) same (next.0.0, less_itself q)
       ],
       all_listed o,
     ),

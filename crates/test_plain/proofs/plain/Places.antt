@@ -1,37 +1,29 @@
 -- The first place that has an occurrence has the best one.
-use Rattle.std.proofs.Common.{◌≡◌, ◌≢◌, ℕ, ◌+◌, ◌<◌, ◌≤◌, true, Option, Some, None, Less, refl, sym, ◌∙◌, subst, inl, inr, arith}
+use Rattle.std.proofs.Common.{◌≡◌, ◌≢◌, ℕ, ◌+◌, ◌<◌, ◌≤◌, true, Option, Some, None, sym, ◌∙◌, subst, inl, inr, arith}
 use Rattle.std.specs.Prelude.{is_some}
-use Rattle.std.specs.Cmp.{nat_cmp_is}
 use Rattle.std.proofs.lemmas.Bool.{cases_lt}
 use Rattle.ac_input.specs.declared.search.MatchKind.{MatchKind}
-use Rattle.ac_input.specs.declared.search.MatchKind.TheVariants.{Standard, LeftmostFirst, LeftmostLongest}
-use Rattle.ac_input.specs.Occurrence.{Search, Occurrence, Occurs, StartsAt}
-use Rattle.ac_input.specs.Best.{preference, IsLeast, IsBest}
-use Rattle.ac_input.proofs.lemmas.OrderLemmas.{preference-itself, less-not_greater, occurrence_from_parts}
+use Rattle.ac_input.specs.declared.search.MatchKind.TheVariants.{Standard}
+use Rattle.ac_input.specs.Occurrence.{Occurrence}
+use Rattle.ac_input.specs.Best.{IsLeast}
+use Rattle.ac_input.proofs.lemmas.OrderLemmas.{preference-itself, less-not_greater, earlier-less, occurrence_from_parts}
 use Rattle.ac_input.proofs.lemmas.RisingLemmas.{less_by_number}
-use Rattle.test_plain.specs.Naive.{LiesAlike}
-
--- a leftmost kind prefers the earlier start
-earlier_start : (kind : MatchKind) → kind ≢ Standard → (a o : Occurrence) → a.start < o.start
-    → preference kind a o ≡ Less
-earlier_start Standard leftmost a o h = absurd (leftmost refl)
-earlier_start LeftmostFirst leftmost a o h = let e = nat_cmp_is a.start o.start Less h in rw (← e)
-earlier_start LeftmostLongest leftmost a o h = let e = nat_cmp_is a.start o.start Less h in rw (← e)
+use Rattle.test_plain.specs.Naive.{Plain, PlainOccurs, PlainStartsAt, LiesAlike}
 
 -- under a leftmost kind the best of the first start that has one is the best of all
-pub best_at_start : (kind : MatchKind) (s : Search) (at : ℕ) (r : Option Occurrence) → kind ≢ Standard
-    → is_some r ≡ true → ((o : Occurrence) → Occurs s o → at ≤ o.start) → IsLeast kind (StartsAt s at) r
-    → IsBest kind s r
+pub best_at_start : (kind : MatchKind) (s : Plain) (at : ℕ) (r : Option Occurrence) → kind ≢ Standard
+    → is_some r ≡ true → ((o : Occurrence) → PlainOccurs s o → at ≤ o.start)
+    → IsLeast kind (PlainStartsAt s at) r → IsLeast kind (PlainOccurs s) r
 best_at_start kind s at None leftmost some from least = cc
 best_at_start kind s at (Some b) leftmost some from least = (
   least.0.0,
   λ o h. elim (cases_lt at o.start) [
-    | inl later ↦ less-not_greater (earlier_start kind leftmost b o (rw least.0.1 later))
+    | inl later ↦ less-not_greater (earlier-less kind leftmost b o (rw least.0.1 later))
     | inr here ↦ least.1 o (h, let lower = from o h in omega arith)
   ],
 )
 
-module _ (s : Search) (before : Occurrence) (n start end : ℕ) (same_start : start ≡ before.start)
+module _ (s : Plain) (before : Occurrence) (n start end : ℕ) (same_start : start ≡ before.start)
     (same_end : end ≡ before.end) where
   -- the occurrence of pattern n where the given one lies
   abbrev there : Occurrence
@@ -42,15 +34,15 @@ module _ (s : Search) (before : Occurrence) (n start end : ℕ) (same_start : st
   is_there o h number = occurrence_from_parts number (h.1 ∙ sym same_start) (h.2 ∙ sym same_end)
 
   -- where that pattern does not lie there, all that do are of later patterns
-  pub alike_more : ¬ Occurs s there → (o : Occurrence) → LiesAlike s before o → n ≤ o.pattern → n + 1 ≤ o.pattern
+  pub alike_more : ¬ PlainOccurs s there → (o : Occurrence) → LiesAlike s before o → n ≤ o.pattern → n + 1 ≤ o.pattern
   alike_more absent o h from =
       elim (cases_lt n o.pattern) [
         | inl later ↦ omega arith
-        | inr here ↦ absurd (absent (subst (Occurs s) (is_there o h (omega arith)) h.0))
+        | inr here ↦ absurd (absent (subst (PlainOccurs s) (is_there o h (omega arith)) h.0))
       ]
 
   -- the first later pattern that lies where the given one does has the least occurrence there
-  pub alike_least : Occurs s there → before.pattern < n → ((o : Occurrence) → LiesAlike s before o → n ≤ o.pattern)
+  pub alike_least : PlainOccurs s there → before.pattern < n → ((o : Occurrence) → LiesAlike s before o → n ≤ o.pattern)
       → IsLeast Standard (LiesAlike s before) (Some there)
   alike_least occurs later from = (
     (occurs, same_start, same_end, later),

@@ -19,14 +19,15 @@ pub struct Picks<'a> {
 impl<'a> Model for Picks<'a> {
     ghost use Rattle.std.specs.Prelude.{List, ◌+◌, ◌≤◌, length};
     ghost use Rattle.ac_input.specs.Occurrence.{Occurrence};
-    ghost use Rattle.ac_input.specs.Computed.{walk_after};
+    ghost use Rattle.test_plain.specs.Naive.{plain_walk};
 
     ghost Value = { List Occurrence };
 
-    ghost view = { λ p. walk_after p.kind p.search p.at p.last };
+    ghost view = { λ p. plain_walk p.search p.kind p.at p.last };
 
     ghost invariant = { λ p.
-        (p.at ≤ p.search.end + 1) × (p.search.end ≤ length p.search.haystack) };
+        (p.at ≤ p.search.search.end + 1)
+        × (p.search.search.end ≤ length p.search.search.haystack) };
 }
 
 impl<'a> Iterator for Picks<'a> {

@@ -177,8 +177,7 @@ told_work-walk kind deterministic {s} {at} (Idle from) z here free told says h =
     }
 
 -- A search has come to a place: nothing begins before it, and the work so far is bounded by the way. An anchored one is
--- where it
--- began.
+-- where it began.
 pub record HasCome (deterministic : Bool) (s : Search) (at : ℕ) (before after : Steps) : Type 0 where
   pub free : (at ≡ s.start) ⊎ (s.anchored ≡ false)
   pub goes_on : MayGoOnFrom s at

@@ -140,8 +140,7 @@ told-standard {m} {text} ns earlier tells =
     (best-first (map (ending m text) ns) (earlier-ends earlier) tells)
 
 -- The first entry of a leftmost dictionary's list, or else the best earlier occurrence, is the best match in a search
--- of its own
--- kind.
+-- of its own kind.
 told-leftmost : (kind : MatchKind) {m : Dictionary} (text ns : List ℕ) {r : Option Occurrence} → kind ≢ Standard
     → IsEarlier kind m false text r → TellsUnanchored kind m text ns
     → IsBest kind (whole m text false) (option_or (option_map (ending m text) (slice_get ns 0)) r)

@@ -199,11 +199,11 @@ split-few at (o ∷ os) = omega (
 
 -- The occurrences gathered for each place from a first one on are no more than those that end from there on.
 to_place-few : (s : Search) (at places : ℕ)
-    → length (to_place s at places) ≤ length (filter (λ (o : Occurrence). leb at o.end) (occurrences s))
+    → length (to_place occurrences s at places) ≤ length (filter (λ (o : Occurrence). leb at o.end) (occurrences s))
 to_place-few s at zero = omega arith
 to_place-few s at (suc places) = omega (
   arith,
-  length-append (filter (λ (o : Occurrence). eqb o.end at) (occurrences s)) (to_place s (at + 1) places),
+  length-append (filter (λ (o : Occurrence). eqb o.end at) (occurrences s)) (to_place occurrences s (at + 1) places),
   to_place-few s (at + 1) places,
   split-few at (occurrences s),
 )

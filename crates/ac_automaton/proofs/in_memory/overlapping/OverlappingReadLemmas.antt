@@ -121,8 +121,7 @@ shows-some Reaches matches m s left cursor index r reads e (o, next, found, plac
     )
 
 -- A walk has read on to a further place. Occurrences that end after its first place end from `next` on, and its looks
--- are paid
--- for.
+-- are paid for.
 pub record HasWalkedOn (Reaches : List ℕ → StateID → Type 0) (m : Dictionary) (deterministic : Bool) (s : Search)
     (from at i next : ℕ) (sid : StateID) (before after : Steps) : Type 0 where
   pub reads : Reaches (read_to (starting_at s from) i) sid

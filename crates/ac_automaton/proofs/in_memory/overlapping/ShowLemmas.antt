@@ -89,8 +89,7 @@ shown-behind at anchored cursor place lt where_ =
     where_
 
 -- A walk has read on from one place to another. Occurrences that end after the first place end from `next` on, and its
--- looks are
--- paid for.
+-- looks are paid for.
 pub record HasWalkedFrom {S : Type 0} (A : Ghosts S) (a : S) (asked : Asked) (first cursor : Cursor) (next : ℕ)
     (x y : Steps) : Type 0 where
   pub stands : StandsIn (A.built a) (A.Reaches a) asked cursor

@@ -33,8 +33,7 @@ ended_at asked None = asked.span.end
 ended_at asked (Some o) = o.end
 
 -- A walk over an input that stands at a place and reads ahead, if it does, with searches that begin in this state;
--- otherwise nothing
--- was read ahead.
+-- otherwise nothing was read ahead.
 abbrev pub ReadsAheadFrom : {S : Type 0} → Ghosts S → S → Option StateID → Asked → ℕ → Ahead → Type 0
 ReadsAheadFrom A automaton None asked at ahead = bytes_ahead ahead ≡ 0
 ReadsAheadFrom A automaton (Some start) asked at ahead =

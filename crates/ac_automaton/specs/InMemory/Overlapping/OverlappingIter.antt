@@ -13,8 +13,7 @@ use Rattle.ac_automaton.specs.InMemory.Overlapping.{CanOverlap, IsOverlappingRef
 use Rattle.ac_automaton.specs.Automaton.{Built, listing_in, prefilter_for, searched}
 
 -- A run through a listing: the automaton and the input; how many of the listing were shown; and how many states were
--- looked at,
--- how many places were scanned and how many bytes were moved so far.
+-- looked at, how many places were scanned and how many bytes were moved so far.
 pub record Run : Type 0 where
   pub built : Built
   pub asked : Asked
@@ -57,8 +56,7 @@ LooksNear run r =
     * (come_at_least (searched run.built run.asked) r - run.asked.span.start) + most_ahead
 
 -- A run has counted each byte of the span up to the end of `r`, which it showed last. If nothing was left and the
--- search isn't
--- anchored, it has counted every byte of the span.
+-- search isn't anchored, it has counted every byte of the span.
 abbrev pub CountsRun : Run → Option Occurrence → Type 0
 CountsRun run r =
     CountsBytes (prefilter_for run.built run.asked.anchored)

@@ -1,6 +1,5 @@
 -- The contracts of the parts of an overlapping search, for an automaton and an input: what is shown where the search
--- stands, and
--- its cost.
+-- stands, and its cost.
 use Rattle.std.specs.Prelude.{◌≡◌, ◌≢◌, ◌⊎◌, ℕ, ◌+◌, ◌-◌, ◌<◌, ◌≤◌, Bool, false, true, List, [], ◌∷◌, ◌++◌, drop, take, length, IfSome, Option, None, Some, Result, Ok, Err, unwrap_or}
 use denote.Ref.{Bor}
 use Rattle.ac_input.specs.Number.{StateID}
@@ -77,8 +76,7 @@ CountsOn b asked place shown before after =
     CountsFrom b asked (stands_at_least (searched b asked) place) shown before after
 
 -- A prefilter that scans for bytes counts the places up to its candidate, or to the end if there is none; without a
--- prefilter the
--- candidate is the place itself.
+-- prefilter the candidate is the place itself.
 abbrev pub ScanCounts : Option (Bor Filter) → ℕ → ℕ → Option ℕ → Steps → Steps → Type 0
 ScanCounts None at end found before after = (found ≡ Some at) × (after ≡ before)
 ScanCounts (Some p) at end found before after =
@@ -107,8 +105,7 @@ BeginsWith prefilter asked at found =
 
 module _ {S : Type 0} (A : Ghosts S) (automaton : S) where
   -- The first entry that counts in a state's list from an index on, and the index after it. The search reached the
-  -- state by this
-  -- many bytes from the start of this anchoring.
+  -- state by this many bytes from the start of this anchoring.
   abbrev pub IsNextEntry : Anchored → StateID → ℕ → ℕ → Option Entry → Type 0
   IsNextEntry anchored sid read index None =
       counted (A.built automaton).dictionary (is_anchored anchored) read (drop index (A.matches automaton sid)) ≡ []
@@ -181,8 +178,7 @@ module _ {S : Type 0} (A : Ghosts S) (automaton : S) where
         ⊎ ((index : ℕ) × (shown.place ≡ At cursor.sid cursor.from cursor.at index)))
 
     -- How reading on ends where a walk stands: with what is shown there; or all that is left begins there or later, and
-    -- the search
-    -- may begin anew. None: the state has no occurrence, and reading on continues.
+    -- the search may begin anew. None: the state has no occurrence, and reading on continues.
     abbrev pub EndsHere : Cursor → Option (End Shown) → Type 0
     EndsHere cursor None = told_at cursor 0 ≡ []
     EndsHere cursor (Some (Found shown)) = ShowsHere cursor (Some shown)
@@ -239,8 +235,7 @@ module _ {S : Type 0} (A : Ghosts S) (automaton : S) where
 -- ---- what was read ahead
 
 -- Looks and scans are paid for after a call that shows this, and it counts each byte that it passes: by what these
--- bytes cost,
--- whenever they were looked at.
+-- bytes cost, whenever they were looked at.
 abbrev pub PaysAhead : Built → Asked → Position → Shown → Ahead → Ahead → Steps → Steps → Type 0
 PaysAhead b asked place shown first last before after =
     IsPaid first last after

@@ -30,15 +30,13 @@ is_empty [] = true
 is_empty (byte ∷ bytes) = false
 
 -- Reads returned these pieces, and `has_ended` went from one value to another. Each read was of an input that had not
--- ended, and
--- ended it exactly if its piece is empty. So nothing was read after an empty or a failed read.
+-- ended, and ended it exactly if its piece is empty. So nothing was read after an empty or a failed read.
 abbrev pub AreInTurn : Bool → List (List ℕ) → Bool → Type 0
 AreInTurn before [] after = after ≡ before
 AreInTurn before (piece ∷ pieces) after = (before ≡ false) × AreInTurn (is_empty piece) pieces after
 
 -- what was moved: the pieces that reads returned, how many reads failed, the bytes that writes took, how many writes
--- failed, and
--- how many of those were passed bytes and took none
+-- failed, and how many of those were passed bytes and took none
 pub record Moved : Type 0 where
   pub pieces : List (List ℕ)
   pub failed_reads : ℕ
@@ -47,9 +45,8 @@ pub record Moved : Type 0 where
   pub stalled_writes : ℕ
 
 -- A reader, before and after: it returned these pieces, this many reads failed, and nothing was written to it. If the
--- device is in
--- memory, what was read is gone from its remaining bytes. None remain if the input was read to its end without a
--- failure.
+-- device is in memory, what was read is gone from its remaining bytes. None remain if the input was read to its end
+-- without a failure.
 pub record HasGiven {R : Type 0} (remaining : R → Option (List ℕ)) (before after : Watched R) (gained : List (List ℕ))
     (failed : ℕ) : Type 0 where
   pub pieces : after.pieces.items ≡ before.pieces.items ++ gained
@@ -60,8 +57,7 @@ pub record HasGiven {R : Type 0} (remaining : R → Option (List ℕ)) (before a
   pub at_end : failed ≡ 0 → AreWhole gained → IsAtEnd (remaining after.inner)
 
 -- A writer, before and after: it took these bytes, this many calls failed, and this many writes stalled. Nothing was
--- flushed, and
--- nothing was read from it. The contents of a device in memory grew by these bytes.
+-- flushed, and nothing was read from it. The contents of a device in memory grew by these bytes.
 pub record HasTaken {W : Type 0} (contents : W → Option (List ℕ)) (before after : Watched W) (bytes : List ℕ)
     (failed stalled : ℕ) : Type 0 where
   pub taken : after.taken.bytes ≡ before.taken.bytes ++ bytes

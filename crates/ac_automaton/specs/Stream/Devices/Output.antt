@@ -6,8 +6,7 @@ use Rattle.ac_automaton.specs.declared.error.StreamError.{StreamError}
 use Rattle.ac_automaton.specs.declared.stream.devices.watched.Watched.{Watched}
 
 -- The bytes were sent: in order, those held back before and these were taken or are held back. No call failed, and
--- nothing was
--- flushed or read. If the device has contents in its model, they grew by what was taken.
+-- nothing was flushed or read. If the device has contents in its model, they grew by what was taken.
 pub record Sent {W : Type 0} (contents : W → Option (List ℕ)) (old new : Watched W)
     (held_before held_after bytes : List ℕ) : Type 0 where
   pub gained : List ℕ

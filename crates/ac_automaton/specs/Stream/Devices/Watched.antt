@@ -75,8 +75,7 @@ pub record TookAll {T : Type 0} (old new : Watched T) (bytes : List ℕ) : Type 
   pub fine : NoneFailed old new
 
 -- The bytes were taken up to the one call that failed, with some bytes left, and nothing was flushed. `contents` is the
--- device's
--- contents, if its model has them.
+-- device's contents, if its model has them.
 pub record TookFront {T : Type 0} (contents : T → Option (List ℕ)) (old new : Watched T) (bytes : List ℕ) : Type 0 where
   pub front : List ℕ
   pub rest : List ℕ

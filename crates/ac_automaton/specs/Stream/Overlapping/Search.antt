@@ -24,8 +24,7 @@ abbrev pub searched_by : StreamProgress Occurrences → List ℕ
 searched_by s = take s.at (read_by s)
 
 -- A search stands in a state that was reached by the bytes searched. The occurrences in these that were not returned
--- yet are the
--- rest of the state's list. It has counted the looks for these bytes.
+-- yet are the rest of the state's list. It has counted the looks for these bytes.
 pub record StandsInList (Reaches : List ℕ → StateID → Type 0) (matches : StateID → List ℕ)
     (s : StreamProgress Occurrences) (place : ListPlace) : Type 0 where
   pub course : IsOnCourse s

@@ -1,5 +1,5 @@
 -- Each byte is marked once it has been read, so a byte that is marked stood before.
-use Rattle.std.proofs.Common.{arith, rules, false, get_or, length-set, ◌∙◌, sym}
+use Rattle.std.proofs.Common.{arith, rules, false, length-set, ◌∙◌, sym}
 use Rattle.std.proofs.lemmas.Bool.{false≢true}
 use Rattle.std.proofs.lemmas.List.{get_or-replicate}
 use Rattle.ac_input.proofs.pairing.PairingLemmas.{IsFirstTwice-first, IsFirstTwice-second, IsDistinct-more, Marks-more, Marks-push}

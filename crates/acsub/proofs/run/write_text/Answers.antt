@@ -1,6 +1,5 @@
 -- The matches of the whole input lie in order. Overlapping matches are accepted only under the standard kind. Each
--- search counts
--- all that it does.
+-- search counts all that it does.
 use Rattle.std.proofs.Common.{sym, ◌∙◌}
 use Rattle.acsub.proofs.run.CountLemmas.{counted-cost}
 use Rattle.acsub.proofs.prepared.FinderLemmas.{whole-lies, overlap-standard}

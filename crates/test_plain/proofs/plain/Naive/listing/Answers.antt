@@ -1,5 +1,5 @@
 use Rattle.std.proofs.Common.{◌≡◌, subst}
-use Rattle.ac_input.specs.Occurrence.{Occurs}
+use Rattle.test_plain.specs.Naive.{PlainOccurs}
 use Rattle.test_plain.proofs.plain.Ranks.{ranks_fall}
 use Rattle.test_plain.proofs.plain.Lists.{lists_more}
 use Rattle.test_plain.proofs.plain.Naive.listing.Goals as goal
@@ -13,7 +13,7 @@ loop-next-preserved c =
     rw c.in_ok-push.ensures.items (record {
       lists = lists_more c.args.self.now c.loop-next.before c.loop-next.found.items c.in-Some.next c.in-Some.ensures
           c.loop-next.invariant.lists;
-      placed = λ b e. let same : c.in-Some.next ≡ b = cc in subst (Occurs c.args.self.now) same c.in-Some.ensures.0.0;
+      placed = λ b e. let same : c.in-Some.next ≡ b = cc in subst (PlainOccurs c.args.self.now) same c.in-Some.ensures.0.0;
     })
 
 pub returns : goal.returns

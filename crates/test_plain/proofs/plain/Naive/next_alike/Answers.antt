@@ -1,5 +1,4 @@
 use Rattle.std.proofs.Common.{refl, ap, arith}
-use Rattle.ac_input.specs.Occurrence.{Occurrence}
 use Rattle.test_plain.proofs.plain.Occurrences.{pattern_within}
 use Rattle.test_plain.proofs.plain.Places.{alike_more, alike_least}
 use Rattle.test_plain.proofs.plain.Naive.next_alike.Goals as goal

@@ -1,0 +1,2 @@
+-- Lemmas of the walk over whole words.
+pub mod WordWalkLemmas

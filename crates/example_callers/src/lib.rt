@@ -4,8 +4,8 @@
 //! definitions, which follows from that part's contract alone: so a reader sees how a call is used, and what is known after it. Those
 //! without an `ensures` show the calls as a user of the Rust crate would write them: the check proves that each is safe and returns.
 //!
-//! [`build`], [`find`], [`iterate`], [`overlap`], [`replace`], [`streams`], [`pushed`] and [`pushed_text`] call an `AhoCorasick`.
-//! The modules `generic_find` and so on call any automaton, by the traits.
+//! [`build`], [`find`], [`iterate`], [`overlap`], [`replace`], [`masks`], [`streams`], [`pushed`] and [`pushed_text`] call an
+//! `AhoCorasick`. The modules `generic_find` and so on call any automaton, by the traits.
 #![tactic(auto)]
 
 pub mod automata;
@@ -18,6 +18,7 @@ pub mod generic_replace;
 pub mod generic_stream;
 pub mod generic_stream_overlap;
 pub mod iterate;
+pub mod masks;
 pub mod nfa;
 pub mod overlap;
 pub mod owner;

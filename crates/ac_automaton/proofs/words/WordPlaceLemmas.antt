@@ -75,23 +75,49 @@ module _ (m : Dictionary) (x : List ℕ) (last at : ℕ) (ns : List ℕ) where
       least-like kind (WordsBefore m x last at) (SeenFirst m x last at ns 0) r
       (λ o. (λ h. inl h, λ h. ⊎_elim (λ a. a) (λ b. let k = b.before in absurd (omega arith)) h)) best
 
+  -- what is among the first is among one more
+  among-later : {index : ℕ} {q : Occurrence} → IsAmongFirst m x at ns index q → IsAmongFirst m x at ns (index + 1) q
+  among-later b =
+      record {
+        i = b.i;
+        pattern = b.pattern;
+        before = let k = b.before in omega arith;
+        entry = b.entry;
+        lies = b.lies;
+        is_whole = b.is_whole;
+      }
+
+  -- what is among one more is among the first, or is that one
+  among-cases : (index n : ℕ) {q : Occurrence} → slice_get ns index ≡ Some n → IsAmongFirst m x at ns (index + 1) q
+      → IsAmongFirst m x at ns index q ⊎ ((q ≡ ending_at m at n) × IsTrue (is_whole_word x q))
+  among-cases index n {q} entry b =
+      ⊎_elim
+      (λ (less : b.i < index). inl (record {
+        i = b.i;
+        pattern = b.pattern;
+        before = less;
+        entry = b.entry;
+        lies = b.lies;
+        is_whole = b.is_whole;
+      }))
+      (λ (le : index ≤ b.i).
+      let k = b.before in
+      let here : b.i ≡ index = omega arith in
+      let same : Some b.pattern ≡ Some n = sym b.entry ∙ ap (slice_get ns) here ∙ entry in
+      let number : b.pattern ≡ n = cc in
+      inr (b.lies ∙ ap (ending_at m at) number, b.is_whole))
+      (cases_lt b.i index)
+
   -- one more, which is a whole word
   pub seen-more : (kind : MatchKind) (r : Option Occurrence) (index n : ℕ) (o : Occurrence) → slice_get ns index ≡ Some n
       → IsTrue (is_whole_word x (ending_at m at n)) → BetterOf kind r (ending_at m at n) o
       → IsLeast kind (SeenFirst m x last at ns index) r → IsLeast kind (SeenFirst m x last at ns (index + 1)) (Some o)
   seen-more kind r index n o entry is_whole better best =
-      least-like kind (λ q. SeenFirst m x last at ns index q ⊎ (q ≡ ending_at m at n)) (SeenFirst m x last at ns (index + 1)) (Some o)
+      least-like kind (λ q. SeenFirst m x last at ns index q ⊎ (q ≡ ending_at m at n)) (SeenFirst m x last at ns (index + 1))
+      (Some o)
       (λ q. (
         λ h. ⊎_elim
-            (λ seen. ⊎_elim (λ a. inl a)
-            (λ b. inr (record {
-              i = b.i;
-              pattern = b.pattern;
-              before = let k = b.before in omega arith;
-              entry = b.entry;
-              lies = b.lies;
-              is_whole = b.is_whole;
-            })) seen)
+            (λ seen. ⊎_elim (λ a. inl a) (λ b. inr (among-later b)) seen)
             (λ e. inr (record {
               i = index;
               pattern = n;
@@ -101,22 +127,7 @@ module _ (m : Dictionary) (x : List ℕ) (last at : ℕ) (ns : List ℕ) where
               is_whole = subst (λ z. IsTrue (is_whole_word x z)) (sym e) is_whole;
             })) h,
         λ h. ⊎_elim (λ a. inl (inl a))
-            (λ b. ⊎_elim
-            (λ (less : b.i < index). inl (inr (record {
-              i = b.i;
-              pattern = b.pattern;
-              before = less;
-              entry = b.entry;
-              lies = b.lies;
-              is_whole = b.is_whole;
-            })))
-            (λ (le : index ≤ b.i).
-            let k = b.before in
-            let here : b.i ≡ index = omega arith in
-            let same : Some b.pattern ≡ Some n = sym b.entry ∙ ap (slice_get ns) here ∙ entry in
-            let number : b.pattern ≡ n = cc in
-            inr (b.lies ∙ ap (ending_at m at) number))
-            (cases_lt b.i index)) h,
+            (λ b. ⊎_elim (λ first. inl (inr first)) (λ here. inr here.0) (among-cases index n entry b)) h,
       ))
       (least-more kind (SeenFirst m x last at ns index) r (ending_at m at n) o best better)
 
@@ -127,33 +138,11 @@ module _ (m : Dictionary) (x : List ℕ) (last at : ℕ) (ns : List ℕ) where
   seen-other kind r index n entry none best =
       least-like kind (SeenFirst m x last at ns index) (SeenFirst m x last at ns (index + 1)) r
       (λ q. (
+        λ h. ⊎_elim (λ a. inl a) (λ b. inr (among-later b)) h,
         λ h. ⊎_elim (λ a. inl a)
-            (λ b. inr (record {
-              i = b.i;
-              pattern = b.pattern;
-              before = let k = b.before in omega arith;
-              entry = b.entry;
-              lies = b.lies;
-              is_whole = b.is_whole;
-            })) h,
-        λ h. ⊎_elim (λ a. inl a)
-            (λ b. ⊎_elim
-            (λ (less : b.i < index). inr (record {
-              i = b.i;
-              pattern = b.pattern;
-              before = less;
-              entry = b.entry;
-              lies = b.lies;
-              is_whole = b.is_whole;
-            }))
-            (λ (le : index ≤ b.i).
-            let k = b.before in
-            let here : b.i ≡ index = omega arith in
-            let same : Some b.pattern ≡ Some n = sym b.entry ∙ ap (slice_get ns) here ∙ entry in
-            let number : b.pattern ≡ n = cc in
-            absurd (false≢true (sym none
-            ∙ subst (λ z. is_whole_word x z ≡ true) (b.lies ∙ ap (ending_at m at) number) b.is_whole)))
-            (cases_lt b.i index)) h,
+            (λ b. ⊎_elim (λ first. inr first)
+            (λ here. absurd (false≢true (sym none ∙ subst (λ z. is_whole_word x z ≡ true) here.0 here.1)))
+            (among-cases index n entry b)) h,
       ))
       best
 

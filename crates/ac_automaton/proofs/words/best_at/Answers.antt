@@ -10,7 +10,7 @@ use Rattle.ac_automaton.proofs.lemmas.CursorLemmas.{list-none}
 use Rattle.ac_automaton.proofs.words.WordPlaceLemmas.{SeenFirst, entry-occurs, seen-all, seen-more, seen-none, seen-other}
 use Rattle.ac_automaton.proofs.words.best_at.Given.{Over}
 use Rattle.ac_automaton.proofs.words.best_at.Goals as goal
-use Rattle.ac_automaton.proofs.words.best_at.Goals.{After-new-found, then-is_whole_word, else-is_whole_word}
+use Rattle.ac_automaton.proofs.words.best_at.Goals.{After-new-found, After-pattern_len, then-is_whole_word, else-is_whole_word}
 
 pub returns-then-not-is_match : goal.returns-then-not-is_match
 returns-then-not-is_match g c x is stands =
@@ -28,29 +28,31 @@ loop-index-init g c x is stands =
     let p = c.args.place.now in
     seen-none (g.A.Automaton.built a).dictionary x p.last p.at (g.A.Automaton.matches a p.sid) p.kind p.best stands.best
 
-pub overflow_sub-start : goal.overflow_sub-start
-overflow_sub-start g c =
+-- the pattern of an entry is no longer than what was read since the search last began anew
+fits : (g : Over) (c : After-pattern_len g) → c.pattern_len.result ≤ c.args.place.now.at - c.args.place.now.last
+fits g c =
     let a = c.args.automaton.now in
     let p = c.args.place.now in
     let stands = c.requires.stands.2 in
-    let lies = entry-occurs (g.A.Automaton.built a).dictionary c.requires.stands.0 p.last p.at
-    stands.place.order stands.place.within c.requires.standard (g.A.Automaton.matches a p.sid) (g.met.A.Automaton.tells a No _ p.sid stands.place.reads)
-    c.loop-index.index c.match_pattern-pattern.result c.match_pattern-pattern.ensures.value in
+    let lies = entry-occurs (g.A.Automaton.built a).dictionary c.requires.stands.0 p.last p.at stands.place.order
+    stands.place.within c.requires.standard (g.A.Automaton.matches a p.sid)
+    (g.met.A.Automaton.tells a No _ p.sid stands.place.reads) c.loop-index.index c.match_pattern-pattern.result
+    c.match_pattern-pattern.ensures.value in
     let len = c.pattern_len.ensures in
     let few = lies.0 in
     omega arith
 
+pub overflow_sub-start : goal.overflow_sub-start
+overflow_sub-start g c =
+    let few = fits g (goal.at.overflow_sub-start g c).After-pattern_len in
+    omega arith
+
 pub is_whole_word-requires-clause-before : goal.is_whole_word-requires-clause-before
 is_whole_word-requires-clause-before g c some =
-    let a = c.args.automaton.now in
     let p = c.args.place.now in
     let stands = c.requires.stands.2 in
-    let lies = entry-occurs (g.A.Automaton.built a).dictionary c.requires.stands.0 p.last p.at
-    stands.place.order stands.place.within c.requires.standard (g.A.Automaton.matches a p.sid) (g.met.A.Automaton.tells a No _ p.sid stands.place.reads)
-    c.loop-index.index c.match_pattern-pattern.result c.match_pattern-pattern.ensures.value in
-    let len = c.pattern_len.ensures in
-    let few = lies.0 in
-    let start = ap (λ o. o.start) c.new-found.ensures in
+    let few = fits g (goal.at.is_whole_word-requires-clause-before g c).After-pattern_len in
+    let start : c.new-found.result.start ≡ p.at - c.pattern_len.result = ap (λ o. o.start) c.new-found.ensures in
     let order = stands.place.order in
     let from = stands.place.held in
     ⊎_elim

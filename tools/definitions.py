@@ -64,6 +64,17 @@ def occurrences(patterns, other, haystack, start, end):
     return found
 
 
+def is_word_byte(byte):
+    """An ASCII letter or digit, `_`, or any byte that isn't ASCII."""
+    return bytes([byte]).isalnum() or byte == 0x5F or byte >= 0x80
+
+
+def whole_words(haystack, found):
+    """Those with no word byte just before them, and none just after."""
+    at = lambda place: 0 <= place < len(haystack) and is_word_byte(haystack[place])
+    return [o for o in found if not at(o.start - 1) and not at(o.end)]
+
+
 def best(kind, found, at, anchored):
     """The most preferred of those that start at `at` or later, or there where the search is anchored."""
     mine = (o for o in found if (o.start == at if anchored else o.start >= at))
@@ -122,9 +133,10 @@ def listed(found):
     return b"".join(b"%d %d %d\n" % o for o in found)
 
 
-def written(mode, kind, other, rules, haystack, mask=None):
-    """What a run writes."""
+def written(mode, kind, other, rules, haystack, mask=None, word=False):
+    """What a run writes. With `word` whole words alone count."""
     found = occurrences([pattern for pattern, _ in rules], other, haystack, 0, len(haystack))
+    found = whole_words(haystack, found) if word else found
     if mode == "mask":
         return masked(haystack, found, mask)
     if mode == "overlap":
@@ -162,7 +174,7 @@ def text_rules(text):
     return rules
 
 
-def check(mode, kind, engine, other, rules, mask=None):
+def check(mode, kind, engine, other, rules, mask=None, word=False):
     """Raises the fault of settings that exclude one another or don't suit the rules."""
     if mode in ("overlap", "mask") and kind != "standard":
         raise Fault("setting: overlap needs the standard kind", 2)
@@ -175,6 +187,11 @@ def check(mode, kind, engine, other, rules, mask=None):
             raise Fault("setting: packed takes no empty pattern", 2)
         if not 1 <= len(rules) <= 128:
             raise Fault("setting: packed takes 1 to 128 patterns", 2)
+    if word and mode != "mask":
+        if engine == "packed":
+            raise Fault("word: packed finds no whole words", 2)
+        if any(not pattern for pattern, _ in rules):
+            raise Fault("word: a pattern is empty", 4)
     if mode == "mask":
         if any(not pattern for pattern, _ in rules):
             raise Fault("mask: a pattern is empty", 4)

@@ -17,6 +17,8 @@ extern inline dado_status dado_some(const dado_automaton *ac, const uint8_t *hay
 extern inline dado_place dado_place_over(size_t start, size_t end);
 extern inline dado_status dado_overlapping_some(const dado_automaton *ac, const uint8_t *haystack, size_t len, dado_place *place,
                                                 dado_match *out, size_t room, size_t *count);
+extern inline dado_status dado_words_some(const dado_automaton *ac, uint32_t kind, const uint8_t *haystack, size_t len, size_t *from,
+                                          dado_match *out, size_t room, size_t *count);
 extern inline dado_status dado_replace_into(const dado_automaton *ac, const uint8_t *haystack, size_t len,
                                             const dado_bytes *replacements, size_t count, uint8_t *out, size_t room, size_t *needed);
 extern inline void dado_text_free(dado_text *text);
@@ -70,7 +72,7 @@ const char *dado_error_text(dado_status status) {
     case DADO_WRONG_COUNT: return "not as many replacements as patterns";
     case DADO_TOO_SHORT: return "the buffer is too short";
     case DADO_BAD_PATTERN: return "no pattern of this number";
-    case DADO_EMPTY_PATTERN: return "a stream can't be searched for an empty pattern";
+    case DADO_EMPTY_PATTERN: return "neither a stream nor whole words can be searched for an empty pattern";
     case DADO_NO_STREAM: return "no stream";
     case DADO_FINISHED: return "the stream, the replacer or the masker was finished";
     case DADO_TOO_MANY_BYTES: return "more bytes than places";

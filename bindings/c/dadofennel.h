@@ -65,19 +65,19 @@ enum {
     DADO_TOO_MANY_STATES = 5,     /* a build: more states than can be numbered */
     DADO_TOO_MANY_PATTERNS = 6,   /* a build: more patterns than can be numbered, 2147483647 */
     DADO_PATTERN_TOO_LONG = 7,    /* a build: a pattern of more than 2147483646 bytes */
-    DADO_BAD_KIND = 8,            /* a build: `kind` is none of the three */
+    DADO_BAD_KIND = 8,            /* a build, or a search for words: `kind` is none of the three */
     DADO_BAD_START_KIND = 9,      /* a build: `start_kind` is none of the three */
     DADO_BAD_ENGINE = 10,         /* a build: `engine` is none of the four */
     DADO_BAD_PAIRS = 11,          /* a build: a byte is named twice in `pairs`, or pairs beside `fold` */
     DADO_NOT_ANCHORED = 12,       /* an anchored search, by an automaton or a call that has none */
     DADO_NOT_UNANCHORED = 13,     /* an unanchored search, by an automaton that was built for anchored ones alone */
-    DADO_NOT_STANDARD = 14,       /* overlapping matches or a mask, by an automaton of a leftmost kind */
+    DADO_NOT_STANDARD = 14,       /* overlapping matches, whole words or a mask, by an automaton of a leftmost kind */
     DADO_BAD_SPAN = 15,           /* the span ends after the haystack, or starts more than one past its end */
-    DADO_BAD_CURSOR = 16,         /* the cursor's content is not one that a walk over this haystack has */
+    DADO_BAD_CURSOR = 16,         /* the cursor, or the place, is not one that a walk over this haystack has */
     DADO_WRONG_COUNT = 17,        /* not as many replacements as patterns */
     DADO_TOO_SHORT = 18,          /* the buffer is too short for the text */
     DADO_BAD_PATTERN = 19,        /* the automaton has no pattern of this number */
-    DADO_EMPTY_PATTERN = 20,      /* a stream, a replacer or a masker, by an automaton that has an empty pattern */
+    DADO_EMPTY_PATTERN = 20,      /* whole words, a stream, a replacer or a masker, by an automaton that has an empty pattern */
     DADO_NO_STREAM = 21,          /* the stream is NULL: never made, or freed */
     DADO_FINISHED = 22,           /* a push to a stream, a replacer or a masker that was finished */
     DADO_TOO_MANY_BYTES = 23,     /* more bytes than there are places: pushed to one of these, or in a replaced text */
@@ -249,6 +249,12 @@ typedef struct dado_raw_listed {
     dado_status status;
 } dado_raw_listed;
 
+typedef struct dado_raw_given {
+    size_t from;                  /* from where the walk goes on */
+    size_t count;                 /* how many words were written */
+    dado_status status;
+} dado_raw_given;
+
 typedef struct dado_raw_length {
     size_t len;
     dado_status status;
@@ -282,6 +288,8 @@ dado_raw_some dado_raw_walk(const dado_automaton *at, const uint8_t *haystack, s
                             uint32_t anchored, uint32_t earliest, dado_match *out, size_t room);
 dado_raw_listed dado_raw_list(const dado_automaton *at, const uint8_t *haystack, size_t len, size_t start, size_t end,
                               size_t last_start, size_t last_end, uint32_t last_pattern, uint32_t begun, dado_match *out, size_t room);
+dado_raw_given dado_raw_words(const dado_automaton *at, uint32_t kind, const uint8_t *haystack, size_t len, size_t from, dado_match *out,
+                              size_t room);
 dado_raw_length dado_raw_replace_into(const dado_automaton *at, const uint8_t *haystack, size_t len, const dado_bytes *replacements,
                                       size_t count, uint8_t *out, size_t room);
 dado_status dado_raw_replace(const dado_automaton *at, const uint8_t *haystack, size_t len, const dado_bytes *replacements,
@@ -504,6 +512,41 @@ DADO_INLINE dado_status dado_overlapping_some(const dado_automaton *ac, const ui
     if (listed.status == DADO_OK || listed.status == DADO_NONE) *place = listed.place;
     *count = listed.count;
     return listed.status;
+}
+
+/* ---- Whole words ---- */
+
+/*
+ * The next whole words of a text, as many as `out` has room for: the first `*count` of `room` are written. `*from` is 0 at first, and is
+ * set to the end of the last word, from where the next call goes on; it stays where none is written.
+ *
+ * A word byte is an ASCII letter, a digit, `_`, or a byte from 0x80 on, as those of a character beyond ASCII are. An occurrence is a whole
+ * word where neither the byte before it nor the byte after it is a word byte; beyond both ends of the text there is none. Of the whole
+ * words a walk takes the best under `kind`, goes on where that ends, and so on, so no two of them overlap. With `new` and `new york` the
+ * text "new yorker" has the word `new`, under each of the three kinds. The automaton itself must be of the standard kind, since no other
+ * meets every occurrence.
+ *
+ * DADO_OK: some were written, or `room` is 0. Fewer than `room` means that no word is left. DADO_NONE: none is left.
+ * DADO_NO_AUTOMATON; DADO_BAD_ARGUMENT: `from`, `count`, `out` with room, or a haystack that isn't empty, is NULL; DADO_BAD_KIND: `kind` is
+ * none of the three; DADO_BAD_CURSOR: `*from` is past the haystack; DADO_NOT_UNANCHORED; DADO_NOT_STANDARD: the automaton is of a leftmost
+ * kind; DADO_EMPTY_PATTERN: one of its patterns is empty. The last five are tested in this order. At these `*count` is 0, and `*from` is
+ * unchanged. Any number in `*from` gets one of these statuses. Of `out` the entries from `*count` on may have changed.
+ *
+ * A call looks at no more than two states for each byte from `*from` to the end of the last word, or of the haystack if fewer than `room`
+ * are written, or at one with a DFA. Under a leftmost kind it looks as often at up to as many bytes after each word as the longest pattern
+ * has, and one. It takes no memory. Any number of threads at the same time.
+ */
+DADO_INLINE dado_status dado_words_some(const dado_automaton *ac, uint32_t kind, const uint8_t *haystack, size_t len, size_t *from,
+                                   dado_match *out, size_t room, size_t *count) {
+    dado_raw_given given;
+    if (count == NULL) return DADO_BAD_ARGUMENT;
+    *count = 0;
+    if (ac == NULL) return DADO_NO_AUTOMATON;
+    if (from == NULL || (out == NULL && room != 0) || (haystack == NULL && len != 0)) return DADO_BAD_ARGUMENT;
+    given = dado_raw_words(ac, kind, haystack, len, *from, out, room);
+    *from = given.from;
+    *count = given.count;
+    return given.status;
 }
 
 /* ---- Replacement ---- */

@@ -1,7 +1,7 @@
 # Completion of acsub for bash.
 _acsub() {
     local word=${COMP_WORDS[COMP_CWORD]} before=${COMP_WORDS[COMP_CWORD - 1]} placed=0 i
-    local options="--text --stream --with --kind --fold --pairs --engine --no-prefilter --dense-depth --no-byte-classes --help --version"
+    local options="--text --stream --word --with --kind --fold --pairs --engine --no-prefilter --dense-depth --no-byte-classes --help --version"
     case $before in
     --kind) COMPREPLY=($(compgen -W "standard leftmost-first leftmost-longest" -- "$word")) ; return ;;
     --engine) COMPREPLY=($(compgen -W "auto noncontiguous contiguous dfa packed" -- "$word")) ; return ;;

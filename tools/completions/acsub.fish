@@ -23,6 +23,7 @@ complete -c acsub -n '__acsub_placed 0' -a mask -d 'The input, with each occurre
 complete -c acsub -n '__acsub_placed 1' -F
 complete -c acsub -l text -d 'Read the rule file as plain text'
 complete -c acsub -l stream -d 'Write while reading under every kind'
+complete -c acsub -l word -d 'Count only whole words'
 complete -c acsub -l with -x -d 'Mask with this byte'
 complete -c acsub -l kind -x -a 'standard leftmost-first leftmost-longest' -d 'Which of several matches is taken'
 complete -c acsub -l fold -d 'Match ASCII letters in either case'

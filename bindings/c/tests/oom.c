@@ -160,11 +160,12 @@ int main(void) {
         dado_match found, many[4];
         dado_cursor cursor = dado_cursor_over(0, 20);
         dado_place place = dado_place_over(0, 20);
-        size_t count;
+        size_t count, from = 0;
         CHECK(dado_find(ac, BYTES(TEXT), &found) == DADO_OK && dado_is_match(ac, BYTES(TEXT)) == DADO_OK);
         CHECK(dado_next(ac, BYTES(TEXT), &cursor, &found) == DADO_OK);
         CHECK(dado_some(ac, BYTES(TEXT), &cursor, many, 4, &count) == DADO_OK && count == 2);
         CHECK(dado_overlapping_some(ac, BYTES(TEXT), &place, many, 4, &count) == DADO_OK && count == 3);
+        CHECK(dado_words_some(ac, DADO_LEFTMOST_LONGEST, BYTES(TEXT), &from, many, 4, &count) == DADO_OK && from > 0);
         CHECK(dado_replace_into(ac, BYTES(TEXT), SLOTH, 3, out, sizeof out, &needed) == DADO_OK && needed == strlen(REPLACED));
         CHECK(memcmp(out, REPLACED, needed) == 0);
         CHECK(dado_pattern_len(ac, 1, &count) == DADO_OK && count == 5);

@@ -4,7 +4,7 @@ from typing import Any, AnyStr, Callable, Dict, Generic, Iterable, Iterator, Lis
 
 from . import _native as native
 from . import _mask, _stream
-from ._built import SHORT, Built
+from ._built import SHORT, Built, number_of
 from ._match import Match, each, refuse
 from ._replacements import Replacements, one_each
 from ._source import ENCODING, encoded
@@ -156,6 +156,22 @@ class Automaton(Generic[AnyStr]):
         built = self._built
         source = built.listable(text, start, end)
         return each(built.listed(source), source.len <= SHORT)
+
+    def find_words(self, text: Any, kind: str = "standard") -> Iterator[Match]:
+        """The whole words of the text one after another: the matches under `kind` of the occurrences that no word character stands
+        beside. No two of them overlap.
+
+        A word character is an ASCII letter, a digit, `_`, or any character beyond ASCII; of bytes, one from 0x80 on. With `new` and
+        `new york` the text `new yorker` has the word `new`, under each kind. They are found in batches as those of `finditer`.
+
+        The automaton has to be of the standard kind itself, whichever `kind` is asked for. Raises `Error`, when it is called, for one of
+        a leftmost kind, for one that was built for anchored searches alone, and where a pattern is empty; and `ValueError` where there is
+        no such kind.
+        """
+        built = self._built
+        number = number_of("kind", kind, native.KINDS)
+        source = built.wordable(text)
+        return each(built.worded(source, number), source.len <= SHORT)
 
     def replace(self, text: Any, replacements: Replacements[AnyStr]) -> AnyStr:
         """The text with each match of `finditer` replaced.

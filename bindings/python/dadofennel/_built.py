@@ -59,9 +59,9 @@ class Built:
 
     def _automaton(self, patterns: Sequence[bytes]) -> Owner:
         settings, chosen = self.settings, native.settings_default()
-        chosen.kind = _number("kind", settings["kind"], native.KINDS)
-        chosen.start_kind = _number("start_kind", settings["start_kind"], native.START_KINDS)
-        chosen.engine = _number("engine", settings["engine"], native.ENGINES)
+        chosen.kind = number_of("kind", settings["kind"], native.KINDS)
+        chosen.start_kind = number_of("start_kind", settings["start_kind"], native.START_KINDS)
+        chosen.engine = number_of("engine", settings["engine"], native.ENGINES)
         for name in ("fold", "prefilter", "byte_classes"):
             setattr(chosen, name, bool(settings[name]))
         for name in ("dense_depth", "row_memory"):
@@ -143,6 +143,22 @@ class Built:
 
         return self._batches(native.overlapping_some, source, place, lambda _, count: count, goes_on)
 
+    def wordable(self, text: Any) -> Source:
+        """What is searched for whole words, if it was built for that. It is all of the text, since what stands before a word counts."""
+        self.serves(False)
+        if self.kind != "standard":
+            raise Error(native.NOT_STANDARD)
+        if self.any_empty:
+            raise Error(native.EMPTY_PATTERN)
+        return self.source(text)
+
+    def worded(self, source: Source, number: int) -> Iterator[Batch]:
+        """The whole words under the kind of a number, in batches."""
+        def some(owner: Owner, at: Any, length: int, *rest: Any) -> int:
+            return int(native.words_some(owner, number, at, length, *rest))
+
+        return self._batches(some, source, c_size_t(), lambda _, count: count, lambda _: None)
+
     def _batches(self, some: Any, source: Source, cursor: Any, decided: Callable[[native.Room, int], int],
                  goes_on: Callable[[int], None]) -> Iterator[Batch]:
         """What a walk or a listing gives: in a long text one match, then four times as many, and so on.
@@ -199,7 +215,7 @@ def _fault_text(status: int, fault: Any) -> str:
     return text
 
 
-def _number(name: str, word: str, words: Sequence[str]) -> int:
+def number_of(name: str, word: str, words: Sequence[str]) -> int:
     if word not in words:
         raise ValueError(f"{name} is {word!r}, and not one of {', '.join(words)}")
     return words.index(word)

@@ -12,7 +12,7 @@ from typing import Any, List, Sequence
 NOWHERE = ctypes.c_size_t(-1).value
 """SIZE_MAX: no place, and no depth of one's own."""
 
-OK, NONE, NO_MEMORY, PATTERN_TOO_LONG, NOT_ANCHORED, NOT_UNANCHORED, NOT_STANDARD = 0, 1, 4, 7, 12, 13, 14
+OK, NONE, NO_MEMORY, PATTERN_TOO_LONG, NOT_ANCHORED, NOT_UNANCHORED, NOT_STANDARD, EMPTY_PATTERN = 0, 1, 4, 7, 12, 13, 14, 20
 
 KINDS = ("standard", "leftmost-first", "leftmost-longest")
 START_KINDS = ("unanchored", "anchored", "both")
@@ -96,6 +96,8 @@ free = _declare("dado_free", None, POINTER(c_void_p))
 find_in = _declare("dado_find_in", c_uint32, *_haystack, Span, c_void_p)
 some = _declare("dado_some", c_uint32, *_haystack, POINTER(Cursor), c_void_p, c_size_t, POINTER(c_size_t))
 overlapping_some = _declare("dado_overlapping_some", c_uint32, *_haystack, POINTER(Place), c_void_p, c_size_t, POINTER(c_size_t))
+words_some = _declare(
+    "dado_words_some", c_uint32, c_void_p, c_uint32, c_void_p, c_size_t, POINTER(c_size_t), c_void_p, c_size_t, POINTER(c_size_t))
 replace = _declare("dado_replace", c_uint32, *_haystack, c_void_p, c_size_t, POINTER(Text))
 text_free = _declare("dado_text_free", None, POINTER(Text))
 mask = _declare("dado_mask", c_uint32, *_haystack, c_uint8)

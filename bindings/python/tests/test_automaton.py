@@ -72,6 +72,22 @@ def replaced(text, matches, replacements):
     return text[:0].join(pieces + [text[at:]])
 
 
+def is_word(it):
+    """Whether a character, or a byte, is one of words; nothing is none."""
+    return bool(it) and (it.isalnum() or it in ("_", b"_") or max(it if isinstance(it, bytes) else map(ord, it)) >= 0x80)
+
+
+def words(patterns, kind, text, fold=False):
+    """The whole words under a kind one after another."""
+    at, found = 0, []
+    whole = [it for it in occurrences(patterns, text, 0, len(text), fold)
+             if not is_word(text[:it.start][-1:]) and not is_word(text[it.end:][:1])]
+    while any(it.start >= at for it in whole):
+        found.append(min((it for it in whole if it.start >= at), key=PREFERENCE[kind]))
+        at = found[-1].end
+    return found
+
+
 def masked(patterns, text, star, fold=False):
     """The text with each character or byte of each occurrence replaced by the star."""
     covered = {at for found in occurrences(patterns, text, 0, len(text), fold) for at in range(found.start, found.end)}
@@ -93,7 +109,7 @@ class Random(unittest.TestCase):
     def test_like_the_definitions(self):
         for seed in range(CASES):
             rng = random.Random(seed)
-            alphabet = rng.choice(["ab", "aAb", "aé€", "a😀A", "a?é", "a?€", "aé", "é\x80\xff", "é€😀", "\udc00\ud800a"])
+            alphabet = rng.choice(["ab", "aAb", "a b", "ab_ é", "a,€", "aé€", "a😀A", "a?é", "a?€", "aé", "é\x80\xff", "é€😀", "\udc00\ud800a"])
             as_bytes = rng.random() < 0.4
 
             def word(most):
@@ -127,6 +143,9 @@ class Random(unittest.TestCase):
         if kind == "standard":
             self.assertEqual(list(automaton.overlapping(lent, start, end)), occurrences(patterns, text, start, end, fold), what)
             self.masks(rng, automaton, patterns, fold, lent, text, what)
+            if all(patterns):
+                for asked in KINDS:
+                    self.assertEqual(list(automaton.find_words(lent, asked)), words(patterns, asked, text, fold), (asked, what))
         replacements = [f"<{number}é>" for number in range(len(patterns))]
         if isinstance(text, bytes):
             replacements = [it.encode() for it in replacements]
@@ -406,6 +425,7 @@ class Callers(unittest.TestCase):
             lambda: leftmost.overlapping("a"), lambda: leftmost.find("a", anchored=True),
             lambda: leftmost.finditer("a", anchored=True), lambda: anchored.find("a"), lambda: anchored.finditer("a"),
             lambda: anchored.overlapping("a"), lambda: leftmost.mask("a"), lambda: anchored.mask("a"),
+            lambda: leftmost.find_words("a"), lambda: anchored.find_words("a"), lambda: Automaton(["a", ""]).find_words("a"),
             lambda: anchored.replace("a", ["b"]), lambda: anchored.replace_stream(io.StringIO("a"), io.StringIO(), "b"),
         ):
             self.assertRaises(Error, call)
@@ -427,6 +447,26 @@ class Callers(unittest.TestCase):
         with unittest.mock.patch.object(native, "stream_new", lambda *arguments: native.NO_MEMORY):
             self.assertRaises(MemoryError, Automaton([b"a"]).stream)
         self.assertEqual(list(Automaton([b"a"]).finditer_stream(io.BytesIO(b"aba"))), [Match(0, 0, 1), Match(0, 2, 3)])
+
+    def test_words(self):
+        cat = Automaton(["cat"])
+        for text, places in (
+            ("concatenate", []), ("cat", [0]), ("cat, a cat", [0, 7]), ("cat_ _cat cat.", [10]), ("ücat catü -cat-", [11]),
+            ("cat9 9cat Cat", []), ("", []), ("x" * 9000 + " cat", [9001]), ("ü" * 9000 + " cat", [9001]), ("cat " * 3000, range(0, 12000, 4)),
+        ):
+            for kind in KINDS:
+                self.assertEqual(list(cat.find_words(text, kind)), [Match(0, at, at + 3) for at in places], (text, kind))
+        raw = Automaton([b"new", b"new york"])
+        text = b"new yorker, new york"
+        for kind, last in zip(KINDS, (Match(0, 12, 15), Match(0, 12, 15), Match(1, 12, 20))):
+            for lent in (text, bytearray(text), memoryview(text)):
+                self.assertEqual(list(raw.find_words(lent, kind)), [Match(0, 0, 3), last])
+            self.assertEqual(list(Automaton(["new", "new york"]).find_words(text.decode(), kind)), [Match(0, 0, 3), last])
+        self.assertEqual(list(raw.find_words(text)), [Match(0, 0, 3), Match(0, 12, 15)])
+        self.assertEqual(list(Automaton([]).find_words("cat")), [])
+        self.assertRaises(ValueError, cat.find_words, "cat", "longest")
+        self.assertRaises(TypeError, cat.find_words, b"cat")
+        self.assertRaises(TypeError, raw.find_words, "new")
 
     def test_masks(self):
         automaton = Automaton(["abc", "cde", "été"])

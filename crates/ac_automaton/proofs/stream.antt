@@ -27,4 +27,5 @@ pub mod StreamPushLemmas
 pub mod StreamReplacerLemmas
 pub mod StreamSearchLemmas
 pub mod StreamTextLemmas
+pub mod StreamWordLemmas
 pub mod TextSinkLemmas

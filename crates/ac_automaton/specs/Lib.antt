@@ -18,6 +18,7 @@ pub use Rattle.ac_input.specs.Work
 pub mod Look
 pub mod Masking
 pub mod Words
+pub mod ListedWords
 pub mod Ahead
 pub mod Errors
 pub mod Automaton

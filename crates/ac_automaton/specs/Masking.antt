@@ -1,4 +1,5 @@
 -- Masking by one walk over a text: which bytes get the mask as the automaton reads on, and what a call in memory returns.
+pub mod Words
 use Rattle.std.specs.Prelude.{false, ◌≡◌, ℕ, ◌+◌, ◌-◌, ◌*◌, ◌<◌, ◌≤◌, List, ◌++◌, length, take, drop, replicate, slice_get, slice_index, get_or, [], Some, Result, Ok, Err}
 use Rattle.ac_input.specs.Number.{StateID}
 use Rattle.ac_input.specs.declared.search.Anchored.{Anchored}

@@ -14,8 +14,9 @@ pub mod ReplacerNext
 pub mod Search
 pub mod SinkLaws
 pub mod Texts
+pub mod WholeWords
 use Rattle.std.specs.Prelude.{◌≡◌, ◌≢◌, ◌⊎◌, ℕ, ◌+◌, ◌-◌, ◌*◌, ◌<◌, ◌≤◌, max, Bool, List, [], ◌∷◌, ◌++◌, length, drop, take, false, true, Option, None, Some, Result, Ok, Err}
-use Rattle.std.specs.List.{All, concat}
+use Rattle.std.specs.List.{All, Contains, concat}
 use Rattle.ac_input.specs.Number.{usize_max}
 use Rattle.ac_input.specs.declared.search.Anchored.{Anchored}
 use Rattle.ac_input.specs.declared.search.Anchored.TheVariants.{No}
@@ -23,16 +24,19 @@ use Rattle.ac_input.specs.declared.search.MatchKind.{MatchKind}
 use Rattle.ac_input.specs.declared.search.MatchKind.TheVariants.{Standard, LeftmostFirst, LeftmostLongest}
 use Rattle.ac_input.specs.declared.steps.Steps.{Steps}
 use Rattle.ac_input.specs.Laws.BeginningLaws.{IsBeginning}
-use Rattle.ac_input.specs.Computed.{listing_of, walk_of}
+use Rattle.ac_input.specs.Best.{IsLeast}
+use Rattle.ac_input.specs.Computed.{listing_among, listing_of, walk_among, walk_of}
 use Rattle.ac_input.specs.Cut.{IsCut}
 use Rattle.ac_input.specs.Dictionary.{Dictionary, IsLive, whole}
 use Rattle.ac_input.specs.Occurrence.{Occurrence}
 use Rattle.ac_input.specs.Steps.{Done}
+use Rattle.ac_input.specs.Word.{OccursWhole, whole_occurrences}
 use Rattle.ac_input.specs.Work.{longest, shortest, lookups_per_byte}
 use Rattle.ac_automaton.specs.Ahead.{most_ahead}
 use Rattle.ac_automaton.specs.Automaton.{Built, refusal_of}
 use Rattle.ac_automaton.specs.Stream.Devices.Buffer.{least_room, room_for}
 use Rattle.ac_automaton.specs.Stream.Devices.Moved.{AllFit, HasGiven}
+use Rattle.ac_automaton.specs.Words.Before.{WordsBefore}
 use Rattle.ac_automaton.specs.declared.error.MatchErrorKind.{MatchErrorKind}
 use Rattle.ac_automaton.specs.declared.error.MatchErrorKind.TheVariants.{UnsupportedStream, UnsupportedEmpty}
 use Rattle.ac_automaton.specs.declared.error.StreamError.{StreamError}
@@ -43,25 +47,68 @@ use Rattle.ac_automaton.specs.declared.stream.devices.watched.Watched.{Watched}
 
 -- ---- what a search of a stream returns
 
--- the matches under the automaton's kind, one after another; or all occurrences
+-- the matches under a kind, one after another; or all occurrences; or the whole words under a kind, one after another; or all whole
+-- words
 pub data Sequence : Type 0 where
   Picks : Sequence
   Occurrences : Sequence
+  Words : Sequence
+  AllWords : Sequence
 
 -- the items of a text
 abbrev pub items_of : Sequence → Dictionary → List ℕ → List Occurrence
 items_of Picks m x = walk_of m.kind (whole m x false)
 items_of Occurrences m x = listing_of (whole m x false)
+items_of Words m x = walk_among whole_occurrences m.kind (whole m x false) 0 None
+items_of AllWords m x = listing_among whole_occurrences (whole m x false)
 
--- the place of an item by which its sequence goes on: matches by where they start, occurrences by where they end
+-- the place of an item by which its sequence goes on: where it starts, or in a listing, where it ends
 abbrev pub place_of : Sequence → Occurrence → ℕ
 place_of Picks o = o.start
 place_of Occurrences o = o.end
+place_of Words o = o.start
+place_of AllWords o = o.end
 
--- how many bytes the buffer has room for
+-- how many bytes the buffer has room for; the byte before a word counts, too
 abbrev pub room_of : Sequence → Built → ℕ
 room_of Picks b = room_for (max (longest b.dictionary.patterns) 1)
 room_of Occurrences b = least_room
+room_of Words b = room_for (max (longest b.dictionary.patterns) 1 + 1)
+room_of AllWords b = room_for (max (longest b.dictionary.patterns) 1 + 1)
+
+-- whether a match may wait to be decided: under a leftmost kind
+abbrev pub may_wait : MatchKind → Bool
+may_wait Standard = false
+may_wait LeftmostFirst = true
+may_wait LeftmostLongest = true
+
+-- the items lie one after another, and their bytes are held
+abbrev pub LieApart : Sequence → Type 0
+LieApart Picks = Unit {0}
+LieApart Occurrences = ⊥
+LieApart Words = Unit {0}
+LieApart AllWords = ⊥
+
+-- An item is decided with its last byte: under standard. A word waits for the byte after it.
+abbrev pub IsPrompt : Sequence → Dictionary → Type 0
+IsPrompt Picks m = m.kind ≡ Standard
+IsPrompt Occurrences m = m.kind ≡ Standard
+IsPrompt Words m = ⊥
+IsPrompt AllWords m = ⊥
+
+-- whether an item may wait for what follows it
+abbrev pub waits_for : Sequence → Dictionary → Bool
+waits_for Picks m = may_wait m.kind
+waits_for Occurrences m = may_wait m.kind
+waits_for Words m = true
+waits_for AllWords m = true
+
+-- what the automaton is made from: words of each kind are found by one of the standard kind
+abbrev pub made_from : Sequence → Dictionary → Dictionary
+made_from Picks m = m
+made_from Occurrences m = m
+made_from Words m = record m { kind = Standard }
+made_from AllWords m = m
 
 -- ---- how far it has come
 
@@ -69,8 +116,7 @@ room_of Occurrences b = least_room
 -- more comes; the items that it returned; where the held bytes begin, which reach to the end of what was read; up to
 -- which place the automaton has read; before which place it needs no byte any more; and how many states it looked at,
 -- places it scanned and bytes it moved. For matches `last` is where it last began anew: at first, after a match, and
--- where nothing of what was read is live. For occurrences it is `at`. Places are counted from the first byte that was
--- read.
+-- where nothing of what was read is live. For a listing it is `at`. Places are counted from the first byte that was read.
 pub record StreamProgress (sequence : Sequence) : Type 0 where
   pub built : Built
   pub pieces : List (List ℕ)
@@ -103,7 +149,7 @@ fresh_progress b =
 abbrev pub read_by : {q : Sequence} → StreamProgress q → List ℕ
 read_by s = concat s.pieces
 
--- The place up to which everything is decided: each match not returned yet begins there or later, and each occurrence
+-- The place up to which everything is decided: each match not returned yet begins there or later, and each item of a listing
 -- ends there or later, whatever is still read.
 abbrev pub cut_of : {q : Sequence} → StreamProgress q → ℕ
 cut_of s = max s.last (s.at - max (longest s.built.dictionary.patterns) 1)
@@ -128,25 +174,38 @@ end_of (o ∷ (next ∷ os)) = end_of (next ∷ os)
 abbrev pub NothingIsLive : Dictionary → List ℕ → Type 0
 NothingIsLive m text = IsLive m false text (Some (length text))
 
+-- What follows a text may still change the item that comes next after some: the rest of the text isn't dead. The best word
+-- there waits, under a leftmost kind, until those that begin as early can't end later, or nothing is live. Where all words are
+-- asked for, only one that ends with the text waits.
+abbrev pub StaysOpen : Sequence → Dictionary → List ℕ → List Occurrence → Type 0
+StaysOpen Picks m x os = ¬ IsLive m false (drop (end_of os) x) None
+StaysOpen Occurrences m x os = ¬ IsLive m false (drop (end_of os) x) None
+StaysOpen Words m x os =
+    (best : Occurrence) → IsLeast m.kind (WordsBefore m x (end_of os) (length x)) (Some best)
+    → (m.kind ≢ Standard) × (length x ≤ best.start + longest m.patterns)
+    × ¬ NothingIsLive (made_from Words m) (drop (end_of os) x)
+StaysOpen AllWords m x os =
+    (o : Occurrence) → OccursWhole (whole m x false) o → o.end < length x → Contains os o
+
 -- The items that a text decides: however it goes on, they are the first ones. Under standard they are all items of the
--- text.
--- The rest of the text after the last of them isn't dead, so what follows may still change the next one.
+-- text, but for a word, which waits for the byte after it. What follows may still change the next one.
 pub record Decides (q : Sequence) (m : Dictionary) (x : List ℕ) (os : List Occurrence) : Type 0 where
   pub first : ((more : List ℕ) → IsBeginning os (items_of q m (x ++ more)))
-  pub all : m.kind ≡ Standard → os ≡ items_of q m x
-  pub open_ : ¬ IsLive m false (drop (end_of os) x) None
+  pub all : IsPrompt q m → os ≡ items_of q m x
+  pub open_ : StaysOpen q m x os
 
 -- After a place, a text has at most as many bytes left as the longest pattern has, or one byte; and none, if all of it
 -- is decided.
-pub record IsNear (m : Dictionary) (x : List ℕ) (place : ℕ) : Type 0 where
+pub record IsNear (q : Sequence) (m : Dictionary) (x : List ℕ) (place : ℕ) : Type 0 where
   pub kept : length x ≤ place + max (longest m.patterns) 1
-  pub all : ((os : List Occurrence) → Decides Picks m x os → NothingIsLive m (drop (end_of os) x)) → length x ≤ place
+  pub all : ((os : List Occurrence) → Decides q m x os → NothingIsLive (made_from q m) (drop (end_of os) x))
+      → length x ≤ place
 
 -- the front of a text up to a cut, as far as it can be written
 pub record IsFront (m : Dictionary) (output : List ℕ → List ℕ) (x text : List ℕ) : Type 0 where
   pub cut : ℕ
   pub is_cut : IsCut m x cut
-  pub near : IsNear m x cut
+  pub near : IsNear Picks m x cut
   pub front : text ≡ output (take cut x)
 
 -- ---- whether a stream can be searched
@@ -217,7 +276,7 @@ pub record IsWithinStreamBudget {q : Sequence} (s : StreamProgress q) : Type 0 w
 pub record IsOnCourse {q : Sequence} (s : StreamProgress q) : Type 0 where
   pub standard : q ≡ Occurrences → s.built.dictionary.kind ≡ Standard
   pub passed : q ≡ Occurrences → s.last ≡ s.at
-  pub unclosed : s.built.dictionary.kind ≡ Standard → s.closed ≡ false
+  pub unclosed : IsPrompt q s.built.dictionary → s.closed ≡ false
   pub filled : 1 ≤ shortest s.built.dictionary.patterns
   pub ordered : (s.last ≤ s.at) × (s.at ≤ length (read_by s))
   pub kept : (s.from ≤ cut_of s) × (s.from ≤ s.at) × (length (read_by s) ≤ s.from + room_of q s.built)
@@ -239,15 +298,9 @@ IsOutOfMemory other = ⊥
 
 -- ---- what a call does
 
--- whether a match may wait to be decided: under a leftmost kind
-abbrev pub may_wait : MatchKind → Bool
-may_wait Standard = false
-may_wait LeftmostFirst = true
-may_wait LeftmostLongest = true
-
--- a search after it was told that no more comes; under standard that changes nothing
+-- a search after it was told that no more comes; where no item waits, that changes nothing
 abbrev pub closed_by : {q : Sequence} → StreamProgress q → StreamProgress q
-closed_by s = record s { closed = may_wait s.built.dictionary.kind }
+closed_by {q} s = record s { closed = waits_for q s.built.dictionary }
 
 -- the search counted exactly what was done in between
 abbrev pub StreamCounts : {q : Sequence} → StreamProgress q → StreamProgress q → Steps → Steps → Type 0
@@ -266,7 +319,7 @@ pub record CountsNothing {q : Sequence} (s t : StreamProgress q) : Type 0 where
   pub moved : t.moved ≡ s.moved
 
 -- everything is unchanged, except that bytes before the cut may have been dropped
-pub record IsRolled (s t : StreamProgress Picks) : Type 0 where
+pub record IsRolled {q : Sequence} (s t : StreamProgress q) : Type 0 where
   pub from : (s.from ≤ t.from) × (t.from ≤ cut_of s)
   pub same : t ≡ record s { from = t.from; moved = t.moved }
 
@@ -283,24 +336,24 @@ pub record ReadsNothing {q : Sequence} (s t : StreamProgress q) : Type 0 where
 -- last of them before. Nor had it read the last of an occurrence, if all occurrences in what it had read were returned.
 pub record IsHeldItem {q : Sequence} (s : StreamProgress q) (o : Occurrence) : Type 0 where
   pub pattern : o.pattern < length s.built.dictionary.patterns
-  pub held : q ≡ Picks → s.from ≤ o.start
+  pub held : LieApart q → s.from ≤ o.start
   pub behind : s.last ≤ place_of q o
   pub some : o.start < o.end
   pub new : q ≡ Picks → s.built.dictionary.kind ≡ Standard → s.at < o.end
   pub past : q ≡ Occurrences → s.given ≡ items_of q s.built.dictionary (take s.at (read_by s)) → s.at < o.end
   pub within : o.end ≤ length (read_by s)
 
--- All items of what was read are decided: under standard always, under a leftmost kind once no more comes.
+-- All items of what was read are decided: always where each is decided with its last byte, else once no more comes.
 abbrev pub EachIsDecided : {q : Sequence} → StreamProgress q → Type 0
-EachIsDecided s = (s.built.dictionary.kind ≡ Standard) ⊎ (s.closed ≡ true)
+EachIsDecided {q} s = IsPrompt q s.built.dictionary ⊎ (s.closed ≡ true)
 
--- All that was read was searched, and all items that it decides were returned. What comes after the last of them isn't
--- dead. If nothing of that is live, the search began anew at its end.
+-- All that was read was searched, and all items that it decides were returned. What follows may change the next one, unless
+-- no more comes. If nothing after the last of them is live, the search began anew at its end.
 pub record AreAllGiven {q : Sequence} (s : StreamProgress q) : Type 0 where
   pub searched : IsSearched s
   pub all : EachIsDecided s → s.given ≡ items_of q s.built.dictionary (read_by s)
-  pub open_ : ¬ IsLive s.built.dictionary false (drop (end_of s.given) (read_by s)) None
-  pub anew : NothingIsLive s.built.dictionary (drop (end_of s.given) (read_by s)) → s.last ≡ s.at
+  pub open_ : StaysOpen q s.built.dictionary (read_by s) s.given
+  pub anew : NothingIsLive (made_from q s.built.dictionary) (drop (end_of s.given) (read_by s)) → s.last ≡ s.at
 
 -- This is the next item of what was read; or there is none, and all decided ones were returned if places can be
 -- counted.

@@ -7,6 +7,7 @@
 //! Where occurrences overlap, the bytes that one stretch of them has masked already aren't written again.
 //!
 //! Both [`in_memory::mask`](crate::in_memory::mask) and [`stream::mask`](crate::stream::mask) stand on this walk.
+//! Where whole words alone count, they stand on another one: see [`words`].
 ghost use Rattle.std.specs.Prelude.{◌≡◌, ◌≢◌, ◌-◌, ◌≤◌, [], length, drop};
 ghost use Rattle.ac_input.specs.declared.search.Anchored.TheVariants.{No};
 ghost use Rattle.ac_input.specs.declared.search.MatchKind.TheVariants.{Standard};
@@ -17,6 +18,8 @@ use crate::ahead::{Ahead, advance_to_match};
 use crate::automaton::Automaton;
 use ac_input::primitives::StateID;
 use ac_input::steps::Steps;
+
+pub(crate) mod words;
 
 /// Bytes that were masked, from one place to another.
 #[derive(Clone, Copy)]

@@ -15,6 +15,10 @@
 //!   [`try_stream_search`](crate::automaton::Automaton::try_stream_search).
 //! - [`StreamReplacer`] is passed its pieces too, and hands out the text with each match replaced. From
 //!   [`try_stream_replacer`](crate::automaton::Automaton::try_stream_replacer).
+//! - [`StreamFindWordIter`] returns the whole words of a stream under a kind, by [`WordSearch`]: a word waits for the byte after it. From
+//!   [`try_stream_find_word_iter`](crate::search::Search::try_stream_find_word_iter).
+//! - [`StreamFindOverlappingWordIter`] returns all whole words of a stream, by [`OverlappingWordSearch`]. From
+//!   [`try_stream_find_overlapping_word_iter`](crate::search::Search::try_stream_find_overlapping_word_iter).
 //! - [`mask`] replaces each byte that an occurrence covers by one byte: with a reader and a writer, or pushed.
 //!
 //! Streams stand on the states of an automaton, as searches in memory do, and on [`devices`]: a watched reader and writer, and the
@@ -34,6 +38,7 @@ pub(crate) mod replace_with;
 mod replacer;
 mod search;
 pub mod sink;
+mod words;
 
 use crate::error::StreamError;
 use crate::search::Search;
@@ -45,6 +50,10 @@ pub(crate) use search::search as search_held;
 pub use search::{Progress, StreamSearch};
 use std::alloc::Global;
 use std::io::Read;
+pub use words::overlapping::{
+    OverlappingWordSearch, StreamFindOverlappingWordIter, stream_find_overlapping_word_iter,
+};
+pub use words::{StreamFindWordIter, WordSearch, stream_find_word_iter};
 
 /// How much room a buffer for the bytes of a stream has at least: 64 KiB.
 pub const LEAST_ROOM: usize = 65536;
@@ -62,7 +71,7 @@ pub enum StreamKinds {
 /// A search of a stream for the items of one sequence. An iterator asks it for the next one, and reads for it.
 pub trait ItemSearch {
     ghost use Rattle.std.specs.Prelude.{◌≡◌, false, true, length, Option};
-    ghost use Rattle.ac_automaton.specs.Stream.{CanBeCounted, FindsHeld, GoesOn, IsOnCourse, IsSearched, Picks, ReadsMore, Sequence, StreamProgress, closed_by, cut_of, read_by};
+    ghost use Rattle.ac_automaton.specs.Stream.{CanBeCounted, FindsHeld, GoesOn, IsOnCourse, IsSearched, LieApart, ReadsMore, Sequence, StreamProgress, closed_by, cut_of, read_by};
     ghost use Rattle.ac_automaton.specs.Stream.Pump.{LiesHeld, bytes_between};
 
     /// What it returns.
@@ -76,9 +85,9 @@ pub trait ItemSearch {
         ensures finds { FindsHeld (progress self.old) result (progress self.new) }
         ensures goes { GoesOn (progress self.old) (progress self.new) steps.old steps.new };
 
-    /// The bytes between two places, which are held: what a sink is passed. None in a search for every occurrence.
+    /// The bytes between two places, which are held: what a sink is passed. None where the items don't lie one after another.
     fn between(&self, start: usize, end: usize) -> &[u8]
-        requires held { sequence ≡ Picks → LiesHeld (progress self.now) start end }
+        requires held { LieApart sequence → LiesHeld (progress self.now) start end }
         ensures { result.now ≡ bytes_between sequence (read_by (progress self.now)) start end };
 
     /// The place up to which everything is decided.

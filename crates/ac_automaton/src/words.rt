@@ -6,8 +6,8 @@
 //! end, and reads again what it has read past it: no more than the longest pattern and one byte.
 //!
 //! Whether an occurrence is a whole word isn't known before the byte after it is, or that none follows. So a search of a text that comes
-//! in pieces stops before it looks at what ends at the last byte.
-ghost use Rattle.std.specs.Prelude.{◌≡◌, ◌⊎◌, ◌≢◌, ℕ, ◌+◌, ◌<◌, ◌≤◌, List, None, Some, length, true, false};
+//! in pieces stops before it looks at what ends at the last byte. All words, overlapping ones too, are found in [`listed`].
+ghost use Rattle.std.specs.Prelude.{◌≡◌, ℕ, ◌+◌, ◌-◌, ◌<◌, ◌≤◌, max, List, None, Some, length, true, false};
 ghost use Rattle.ac_input.specs.declared.search.Anchored.TheVariants.{No};
 ghost use Rattle.ac_input.specs.declared.search.MatchKind.TheVariants.{Standard};
 ghost use Rattle.ac_input.specs.Best.{IsLeast, preference};
@@ -16,7 +16,9 @@ ghost use Rattle.ac_input.specs.Number.{usize_max};
 ghost use Rattle.ac_input.specs.Occurrence.{Occurrence};
 ghost use Rattle.ac_input.specs.Work.{longest, shortest};
 ghost use Rattle.ac_automaton.specs.Automaton.{IsState};
-ghost use Rattle.ac_automaton.specs.Words.{BetterOf, CostsWord, Decided, FindsWord, IsDecidedBy, IsOpen, HasSeen, IsWindowOf, PaysForWords, StandsForWords, WordsBefore, anew_after};
+ghost use Rattle.ac_automaton.specs.Words.{BeginsIfIdle, BetterOf, CostsWord, Decided, FindsWord, IsDecidedBy, IsOpen, HasSeen, IsWindowOf, PaysForWords, StandsForWords, WaitsForWord, WordsBefore, anew_after};
+
+pub(crate) mod listed;
 
 use crate::automaton::Automaton;
 use ac_input::primitives::StateID;
@@ -60,6 +62,31 @@ impl WordPlace {
             best: None,
         }
     }
+
+    /// One that begins at a later place.
+    pub(crate) fn new_at(kind: MatchKind, start: StateID, at: usize) -> WordPlace
+        ensures { result ≡ (record { kind = kind; start = start; sid = start; last = at; at = at; best = None }) }
+    {
+        WordPlace {
+            last: at,
+            at,
+            ..WordPlace::new(kind, start)
+        }
+    }
+
+    /// Where it last began anew: at the end of the last word, if there was one.
+    pub(crate) fn last(&self) -> usize
+        ensures { result ≡ self.now.last }
+    {
+        self.last
+    }
+
+    /// A word that is still to be found begins at this place or later, where no pattern is longer than this.
+    pub(crate) fn cut(&self, longest: usize) -> usize
+        ensures { result ≡ max self.now.last (self.now.at - max longest 1) }
+    {
+        self.last.max(self.at.saturating_sub(longest.max(1)))
+    }
 }
 
 /// Whether a byte is a word byte.
@@ -77,7 +104,7 @@ fn is_word_at(bytes: &[u8], at: usize) -> bool
 }
 
 /// Whether a match is a whole word of the text that a window shows.
-fn is_whole_word(window: Window<'_>, found: &Match) -> bool
+pub(crate) fn is_whole_word(window: Window<'_>, found: &Match) -> bool
     requires before { 0 < found.now.start → window.from < found.now.start }
     requires after { window.from ≤ found.now.end }
     ensures { (x : List ℕ) → IsWindowOf window.entry x → result ≡ is_whole_word x found.now }
@@ -155,7 +182,7 @@ fn is_decided<A: Automaton>(
 ) -> bool
     requires { IsState (A.Reaches automaton.now) place.now.sid }
     ensures yes { result ≡ true → IsDecidedBy A.Automaton automaton.now place.now seen over best.now }
-    ensures no { result ≡ false → IsOpen (A.built automaton.now) place.now seen over best.now }
+    ensures no { result ≡ false → IsOpen A.Automaton automaton.now place.now seen over best.now }
 {
     if over || place.kind == MatchKind::Standard {
         return true;
@@ -183,7 +210,7 @@ fn decided<A: Automaton>(automaton: &A, place: &WordPlace, seen: bool, over: boo
 fn limit<A: Automaton>(automaton: &A, window: Window<'_>, place: &WordPlace) -> usize
     requires fits { window.from + length window.bytes.now ≤ usize_max }
     requires more { place.now.at < window.from + length window.bytes.now }
-    requires open { (o : Occurrence) → place.now.best ≡ Some o → IsOpen (A.built automaton.now) place.now true false o }
+    requires open { (o : Occurrence) → place.now.best ≡ Some o → IsOpen A.Automaton automaton.now place.now true false o }
     ensures order { (place.now.at < result) × (result ≤ window.entry.from + length window.entry.bytes.now) }
     ensures near { (o : Occurrence) → place.now.best ≡ Some o
         → result ≤ o.start + longest (A.built automaton.now).dictionary.patterns + 1 }
@@ -209,7 +236,7 @@ fn read_on<A: Automaton>(
     requires fits { window.from + length window.bytes.now ≤ usize_max }
     requires stands { (x : List ℕ) × IsWindowOf window x × (place.old.at < length x)
         × HasSeen (A.built automaton.now).dictionary (A.Reaches automaton.now No) window.from x place.old }
-    requires open { (o : Occurrence) → place.old.best ≡ Some o → IsOpen (A.built automaton.now) place.old true false o }
+    requires open { (o : Occurrence) → place.old.best ≡ Some o → IsOpen A.Automaton automaton.now place.old true false o }
     ensures stands { (x : List ℕ) → IsWindowOf window.entry x
         → HasSeen (A.built automaton.now).dictionary (A.Reaches automaton.now No) window.entry.from x place.old
         → StandsForWords (A.built automaton.now).dictionary (A.Reaches automaton.now No) window.entry.from x place.new }
@@ -256,6 +283,7 @@ pub(crate) fn next_word<A: Automaton>(
     ensures cost { (x : List ℕ) → IsWindowOf window.entry x
         → StandsForWords (A.built automaton.now).dictionary (A.Reaches automaton.now No) window.entry.from x place.old
         → CostsWord (A.built automaton.now) x place.old place.new result steps.old steps.new }
+    ensures waits { WaitsForWord A.Automaton automaton.now window.entry place.old place.new result }
 {
     let end = window.from + window.bytes.len();
     while place.at < end || window.closed {
@@ -272,4 +300,16 @@ pub(crate) fn next_word<A: Automaton>(
     let found = decided(automaton, place, false, false)?;
     begin_anew(place, &found);
     Some(found)
+}
+
+/// A search that has no best word begins anew where it stands, if nothing of what was read is live: a word still to be found begins
+/// there or later.
+pub(crate) fn begin_if_idle<A: Automaton>(automaton: &A, place: &mut WordPlace)
+    requires { IsState (A.Reaches automaton.now) place.old.sid }
+    ensures { BeginsIfIdle A.Automaton automaton.now place.old place.new }
+{
+    if place.best.is_none() && automaton.is_start(place.sid) && !automaton.is_match(place.sid) {
+        place.sid = place.start;
+        place.last = place.at;
+    }
 }

@@ -17,3 +17,4 @@ pub mod Tell
 pub mod Text
 pub mod Walk
 pub mod Walking
+pub mod Words

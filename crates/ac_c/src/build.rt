@@ -125,7 +125,7 @@ impl Settings {
 }
 
 /// The kind of this number.
-fn kind_by(kind: u32) -> Option<MatchKind>
+pub fn kind_by(kind: u32) -> Option<MatchKind>
     ensures { result ≡ kind_by kind }
 {
     match kind {

@@ -25,6 +25,7 @@ ghost use Rattle.ac_c.specs.Stream.{AnswersStream, AnswersNext, AnswersPush, fin
 ghost use Rattle.ac_c.specs.Text.{held_len};
 ghost use Rattle.ac_c.specs.Tell.{AnswersLength, TellsAbout};
 ghost use Rattle.ac_c.specs.Walk.{AnswersSome, AnswersStep, cursor};
+ghost use Rattle.ac_c.specs.Words.{AnswersSomeWords};
 
 pub mod build;
 pub mod find;
@@ -45,6 +46,7 @@ pub mod text;
 mod threads;
 pub mod walk;
 mod walking;
+pub mod words;
 
 use aho_corasick::AhoCorasick;
 use build::{Fault, Pair, Settings};
@@ -64,6 +66,7 @@ use stream::Stream;
 use tell::About;
 use text::Text;
 use walk::{Batch, Step};
+use words::Words;
 
 /// Calls a function with what a handle holds, which it holds again after that. Gives `none` where it holds nothing.
 macro_rules! with {
@@ -427,6 +430,24 @@ pub unsafe extern "C" fn dado_raw_walk(
 {
     let ac = at as *const AhoCorasick;
     walk::next_matches(&*ac, haystack, start, end, last, anchored, earliest, out)
+}
+
+/// The next whole words of a text under a kind.
+#[unsafe(no_mangle)]
+pub unsafe extern "C" fn dado_raw_words(
+    at: *const Opaque,
+    kind: u32,
+    haystack: &[u8],
+    from: usize,
+    out: &mut [Found],
+) -> Words
+    ghost g: { Lent }
+    requires* lent { sem 𝓛 (is_lent at g) }
+    ensures* lasts { sem 𝓛 (lasting g) }
+    ensures answer { AnswersSomeWords g.automaton kind haystack.now from out.old out.new result }
+{
+    let ac = at as *const AhoCorasick;
+    words::next_words(&*ac, kind, haystack, from, out)
 }
 
 /// The next occurrences of a listing.

@@ -1,3 +1,2 @@
-pub mod MaskFileLemmas
 pub mod MaskRunLemmas
 pub mod UnusedLemmas

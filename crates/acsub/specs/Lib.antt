@@ -7,6 +7,8 @@ pub mod Outcome
 pub mod Served
 pub mod Finder
 pub mod Matches
+pub mod Early
 pub mod Masked
+pub mod WordRun
 pub mod Stream
 pub mod Plan

@@ -1,29 +1,32 @@
 -- A run that masks: which rules it takes, what it writes, and what each of its results means.
-use Rattle.std.specs.Prelude.{◌≡◌, ℕ, ◌+◌, ◌*◌, ◌≤◌, true, false, List, [], ◌++◌, length, take, Result, Option, Ok, Err, OnOk}
-use Rattle.std.specs.List.{concat}
-use Rattle.ac_input.specs.Dictionary.{whole}
-use Rattle.ac_input.specs.Mask.{masked}
-use Rattle.ac_input.specs.Occurrence.{Occurrence, Occurs}
+use Rattle.std.specs.Prelude.{◌≡◌, ℕ, ◌+◌, Bool, true, false, IsTrue, List, [], ◌++◌, length, take, Result, Option}
+use Rattle.ac_input.specs.Dictionary.{Dictionary, whole}
+use Rattle.ac_input.specs.Mask.{masked_among}
+use Rattle.ac_input.specs.Occurrence.{Occurrence}
 use Rattle.ac_input.specs.Rules.{Rule}
 use Rattle.ac_input.specs.Unused.{IsUnused}
+use Rattle.ac_input.specs.Word.{OccursAsked, asked_occurrences, is_word_byte}
+use Rattle.ac_input.specs.Work.{longest}
 use Rattle.ac_input.specs.declared.steps.Steps.{Steps}
 use Rattle.ac_automaton.specs.Stream.Answer.{WritesStream}
-use Rattle.ac_automaton.specs.Stream.Mask.{IsMaskCut}
+use Rattle.ac_automaton.specs.Automaton.{Built}
+use Rattle.ac_automaton.specs.Masking.Words.Stream.{CostsMaskWordsStream, IsWordMaskCut, MasksWordsStream}
+use Rattle.ac_automaton.specs.Stream.Devices.Buffer.{room_for}
+use Rattle.ac_automaton.specs.Stream.Mask.{CostsMaskStream, IsMaskCut, MasksStream}
 use Rattle.ac_automaton.specs.declared.error.StreamError.{StreamError}
-use Rattle.ac_automaton.specs.declared.error.StreamError.TheVariants as stream
 use Rattle.ac_automaton.specs.declared.stream.devices.watched.Watched.{Watched}
 use Rattle.acsub.specs.declared.args.settings.Mode.TheVariants.{List as Listing, Overlap}
 use Rattle.acsub.specs.declared.args.settings.Settings.{Settings}
-use Rattle.acsub.specs.declared.error.RunError.TheVariants as errors
-use Rattle.acsub.specs.declared.mask.MaskError.{MaskError}
-use Rattle.acsub.specs.declared.mask.MaskError.TheVariants as masking
-use Rattle.acsub.specs.declared.mask.MaskRefusal.{MaskRefusal}
-use Rattle.acsub.specs.declared.mask.MaskRefusal.TheVariants as refusals
-use Rattle.acsub.specs.declared.rules.RuleError.TheVariants as rule_errors
-use Rattle.acsub.specs.Args.Settings.{HasEmptyPattern, IsAccepted, IsFirstExclusion}
+use Rattle.acsub.specs.declared.early.EarlyError.{EarlyError}
+use Rattle.acsub.specs.declared.early.Refusal.{Refusal}
+use Rattle.acsub.specs.declared.early.Refusal.TheVariants as refusals
+use Rattle.acsub.specs.declared.mask.Mask.{Mask}
+use Rattle.acsub.specs.Args.Settings.{HasEmptyPattern, IsAccepted}
+use Rattle.acsub.specs.Early.{AnswersEarly, AnswersEarlyIn, CostsEarly, Demand, IsUnmet}
 use Rattle.acsub.specs.Plan.{plan_of}
+use Rattle.acsub.specs.Rules.Sides.{rule_patterns}
 use Rattle.acsub.specs.Run.Transformed.{room_in}
-use Rattle.acsub.specs.Served.{AreLooksFor, IsBuildable, IsNotBuilt, dictionary_for}
+use Rattle.acsub.specs.Served.{IsBuildable, dictionary_for}
 
 -- ---- what it takes
 
@@ -37,87 +40,111 @@ IsInNoPattern settings rules byte = IsUnused (whole (dictionary_for settings rul
 
 -- Rules can be masked by: all that overlap is found by the settings, no pattern is empty, and none has the mask or its
 -- partner.
-pub record IsMaskable (settings : Settings) (rules : List Rule) (mask : ℕ) : Type 0 where
+pub record IsMaskable (settings : Settings) (rules : List Rule) (byte : ℕ) : Type 0 where
   pub accepted : IsAccepted (for_every settings) rules
   pub filled : ¬ HasEmptyPattern rules
-  pub unused : IsInNoPattern settings rules mask
+  pub unused : IsInNoPattern settings rules byte
 
 -- why rules can't be masked by, which the settings fit
-abbrev pub IsMaskRefusal : Settings → List Rule → ℕ → MaskRefusal → Type 0
-IsMaskRefusal settings rules mask refusals.Empty = HasEmptyPattern rules
-IsMaskRefusal settings rules mask (refusals.Occurs byte) =
-    (byte ≡ mask) × ¬ HasEmptyPattern rules × ¬ IsInNoPattern settings rules mask
+abbrev pub IsMaskRefusal : Settings → List Rule → ℕ → Refusal → Type 0
+IsMaskRefusal settings rules byte refusals.EmptyMasked = HasEmptyPattern rules
+IsMaskRefusal settings rules byte (refusals.Occurs named) =
+    (named ≡ byte) × ¬ HasEmptyPattern rules × ¬ IsInNoPattern settings rules byte
+IsMaskRefusal settings rules byte other = ⊥
+
+-- what a run that masks asks of settings and rules
+abbrev pub mask_demand : Settings → List Rule → ℕ → Demand
+mask_demand settings rules byte =
+    record {
+      rules = rules;
+      asked = for_every settings;
+      built = settings;
+      fits = IsMaskable settings rules byte;
+      refuses = IsMaskRefusal settings rules byte;
+    }
 
 -- why a check of rules, settings and mask fails
-abbrev pub NotMaskable : Settings → List Rule → ℕ → MaskError → Type 0
-NotMaskable settings rules mask (masking.Refused refusal) =
-    IsAccepted (for_every settings) rules × IsMaskRefusal settings rules mask refusal
-NotMaskable settings rules mask (masking.Run (errors.Setting e)) = IsFirstExclusion (for_every settings) rules e
-NotMaskable settings rules mask (masking.Run other) = ⊥
+abbrev pub NotMaskable : Settings → List Rule → ℕ → EarlyError → Type 0
+NotMaskable settings rules byte error = IsUnmet (mask_demand settings rules byte) error
 
 -- ---- what it writes
 
--- the input with each byte that an occurrence of a pattern covers replaced by the mask
-abbrev pub masked_by : Settings → List Rule → ℕ → List ℕ → List ℕ
-masked_by settings rules mask x = masked mask (whole (dictionary_for settings rules) x false)
+-- a mask by this byte, of whole words alone or of every occurrence
+abbrev pub mask_of : ℕ → Bool → Mask
+mask_of byte word = record { byte = byte; word = word }
 
--- the front of it that can be written once this much was read: all but fewer bytes than the longest pattern has
-abbrev pub IsMaskedFront : Settings → List Rule → ℕ → List ℕ → List ℕ → Type 0
+-- the input with each byte that an occurrence covers replaced by the mask
+abbrev pub masked_by : Settings → List Rule → Mask → List ℕ → List ℕ
+masked_by settings rules mask x =
+    masked_among (asked_occurrences mask.word) mask.byte (whole (dictionary_for settings rules) x false)
+
+-- before this place the masked text is final: all but the last bytes, fewer than the longest pattern has, or as many where
+-- whole words alone count
+abbrev pub IsCutFor : Bool → Dictionary → List ℕ → ℕ → Type 0
+IsCutFor false m x cut = IsMaskCut m x cut
+IsCutFor true m x cut = IsWordMaskCut m x cut
+
+-- the front of the masked text that can be written once this much was read
+abbrev pub IsMaskedFront : Settings → List Rule → Mask → List ℕ → List ℕ → Type 0
 IsMaskedFront settings rules mask x text =
-    (cut : ℕ) × IsMaskCut (dictionary_for settings rules) x cut × (text ≡ take cut (masked_by settings rules mask x))
+    (cut : ℕ) × IsCutFor mask.word (dictionary_for settings rules) x cut
+    × (text ≡ take cut (masked_by settings rules mask x))
 
--- no pattern occurs in what was written since
-abbrev pub LeavesNone : {W : Type 0} → Settings → List Rule → Watched W → Watched W → Type 0
-LeavesNone settings rules before after =
+-- how many bytes a buffer for the input has room for
+abbrev pub mask_room : Bool → List Rule → ℕ
+mask_room false rules = room_in Listing rules
+mask_room true rules = room_for (longest (rule_patterns rules) + 1)
+
+-- No pattern occurs in what was written since. Where whole words alone are masked, no whole word occurs, if the mask is a
+-- word byte.
+abbrev pub LeavesNone : {W : Type 0} → Mask → Settings → List Rule → Watched W → Watched W → Type 0
+LeavesNone mask settings rules before after =
     (text : List ℕ) × (after.taken.bytes ≡ before.taken.bytes ++ text)
-    × ((o : Occurrence) → ¬ Occurs (whole (dictionary_for settings rules) text false) o)
+    × ((mask.word ≡ true → IsTrue (is_word_byte mask.byte))
+    → (o : Occurrence) → ¬ OccursAsked mask.word (whole (dictionary_for settings rules) text false) o)
 
 -- ---- what its results mean
 
 module _ {R W : Type 0} (remaining : R → Option (List ℕ)) (contents : W → Option (List ℕ))
     (old new : Watched R × Watched W) where
-  module _ (settings : Settings) (rules : List Rule) (mask : ℕ) where
+  module _ (settings : Settings) (rules : List Rule) (mask : Mask) where
     -- It got past its build; then it read the input and wrote it masked, with the result of a stream.
     pub record MasksInput (result : Result (Unit {0}) StreamError) : Type 0 where
-      pub maskable : IsMaskable settings rules mask
+      pub maskable : IsMaskable settings rules mask.byte
       pub within : IsBuildable settings rules
-      pub writes : WritesStream remaining contents (room_in Listing rules) (masked_by settings rules mask)
+      pub writes : WritesStream remaining contents (mask_room mask.word rules) (masked_by settings rules mask)
           (IsMaskedFront settings rules mask) old.0 new.0 old.1 new.1 result
 
-    -- What each result means. A refused run has touched neither device, nor has one that is out of memory.
-    abbrev pub AnswersMask : Result (Unit {0}) MaskError → Type 0
-    AnswersMask (Ok done) = MasksInput (Ok done)
-    AnswersMask (Err (masking.Refused refusal)) =
-        IsAccepted (for_every settings) rules × IsMaskRefusal settings rules mask refusal × (new ≡ old)
-    AnswersMask (Err (masking.Run (errors.Rule e))) = ⊥
-    AnswersMask (Err (masking.Run (errors.Setting e))) =
-        IsFirstExclusion (for_every settings) rules e × (new ≡ old)
-    AnswersMask (Err (masking.Run (errors.Build kind))) =
-        IsMaskable settings rules mask × IsNotBuilt settings rules kind × (new ≡ old)
-    AnswersMask (Err (masking.Run (errors.Read e))) = MasksInput (Err (stream.Read e))
-    AnswersMask (Err (masking.Run (errors.Write e))) = MasksInput (Err (stream.Write e))
-    AnswersMask (Err (masking.Run errors.WriteZero)) = MasksInput (Err stream.WriteZero)
-    AnswersMask (Err (masking.Run errors.Memory)) = IsMaskable settings rules mask × (new ≡ old)
-    AnswersMask (Err (masking.Run errors.Position)) = MasksInput (Err stream.Position)
+    -- what each result means
+    abbrev pub AnswersMask : Result (Unit {0}) EarlyError → Type 0
+    AnswersMask result = AnswersEarly old new (mask_demand settings rules mask.byte) MasksInput result
 
-  -- The same by a rule file, given which rules it holds. If a line is no rule, or memory ran out while the rules were
-  -- decoded, neither device was touched.
-  abbrev pub AnswersMaskIn : (List Rule → Type 0) → Settings → ℕ → Result (Unit {0}) MaskError → Type 0
-  AnswersMaskIn holds settings mask (Err (masking.Run (errors.Rule (rule_errors.Line n)))) = new ≡ old
-  AnswersMaskIn holds settings mask (Err (masking.Run errors.Memory)) =
-      (rules : List Rule) × holds rules × (new ≡ old)
+  -- the same by a rule file, given which rules it holds
+  abbrev pub AnswersMaskIn : (List Rule → Type 0) → Settings → Mask → Result (Unit {0}) EarlyError → Type 0
   AnswersMaskIn holds settings mask result =
-      (rules : List Rule) × holds rules × AnswersMask settings rules mask result
+      AnswersEarlyIn old new holds (λ rules. AnswersMask settings rules mask) result
 
--- ---- what it costs
+-- how many buffers for the input there are; where whole words alone are masked, one has the bytes as they were
+abbrev pub buffers_for : Bool → ℕ
+buffers_for false = 1
+buffers_for true = 2
 
--- What a run that masks costs, by the bytes that it read: at most two looks for each, or one where a DFA serves, and a
--- seventh of them moved. If it returns Ok, it has looked at each.
-pub record CostsMaskRun {R : Type 0} (settings : Settings) (rules : List Rule) (reader_before reader_after : Watched R)
-    (before after : Steps) (result : Result (Unit {0}) MaskError) : Type 0 where
-  pub gained : List (List ℕ)
-  pub read : reader_after.pieces.items ≡ reader_before.pieces.items ++ gained
-  pub looked : AreLooksFor (plan_of true settings rules) (length (concat gained)) before after
-  pub some : OnOk result (before.looked.value + length (concat gained) ≤ after.looked.value)
-  pub scanned : after.scanned.value ≡ before.scanned.value
-  pub moved : 7 * after.moved.value ≤ 7 * before.moved.value + length (concat gained)
+-- what it costs, by the bytes that it read
+abbrev pub CostsMaskRun : {R : Type 0} → Bool → Settings → List Rule → Watched R → Watched R → Steps → Steps
+    → Result (Unit {0}) EarlyError → Type 0
+CostsMaskRun word settings rules reader_before reader_after before after result =
+    CostsEarly (plan_of true settings rules) length (buffers_for word) reader_before reader_after before after result
+
+-- ---- what the automaton does
+
+-- a masking of a stream by an automaton, of every occurrence or of whole words alone: what it read, wrote and returned
+abbrev pub MasksBy : {R W : Type 0} → Bool → (R → Option (List ℕ)) → (W → Option (List ℕ)) → Built → ℕ → Watched R
+    → Watched R → Watched W → Watched W → Result (Unit {0}) StreamError → Type 0
+MasksBy false = MasksStream
+MasksBy true = MasksWordsStream
+
+-- and what it cost
+abbrev pub CostsMasking : {R : Type 0} → Bool → Built → Watched R → Watched R → Steps → Steps
+    → Result (Unit {0}) StreamError → Type 0
+CostsMasking false = CostsMaskStream
+CostsMasking true = CostsMaskWordsStream

@@ -1,5 +1,5 @@
 -- What the program did, by its outcome.
-use Rattle.std.specs.Prelude.{◌≡◌, ◌↔◌, ℕ, ◌+◌, List, ◌⊎◌, Option, Some, None, IfSome, Result, Ok, Err, String, Vec, map, string_bytes}
+use Rattle.std.specs.Prelude.{◌≡◌, ◌↔◌, ℕ, ◌+◌, Bool, true, false, List, ◌⊎◌, Option, Some, None, IfSome, Result, Ok, Err, String, Vec, map, string_bytes}
 use Rattle.std.specs.Io.KnownBytes.{Keeps}
 use Rattle.std.specs.IoError.{error_kind}
 use Rattle.std.specs.declared.io.Error.{Error}
@@ -11,14 +11,15 @@ use Rattle.ac_automaton.specs.declared.error.StreamError.{StreamError}
 use Rattle.ac_automaton.specs.declared.stream.devices.watched.Watched.{Watched}
 use Rattle.acsub.specs.declared.error.RunError.{RunError}
 use Rattle.acsub.specs.declared.error.RunError.TheVariants as errors
-use Rattle.acsub.specs.declared.mask.MaskError.TheVariants as masking
+use Rattle.acsub.specs.declared.early.EarlyError.TheVariants as early
 use Rattle.acsub.specs.declared.rules.RuleError.TheVariants as rule_errors
 use Rattle.acsub.specs.declared.tool.Fault.{Fault}
 use Rattle.acsub.specs.declared.tool.Fault.TheVariants as faults
 use Rattle.acsub.specs.declared.args.Words.{Words}
 use Rattle.acsub.specs.declared.args.WordsFault.{WordsFault}
 use Rattle.acsub.specs.declared.args.WordsFault.TheVariants.{Help, Bad, Memory, Pairing}
-use Rattle.acsub.specs.Masked.{AnswersMaskIn}
+use Rattle.acsub.specs.Masked.{AnswersMaskIn, mask_of}
+use Rattle.acsub.specs.WordRun.{AnswersWordRunIn}
 use Rattle.acsub.specs.Plan.{plan_of}
 use Rattle.acsub.specs.Rules.File.{grammar_of}
 use Rattle.acsub.specs.Run.{RanIn}
@@ -83,28 +84,37 @@ module _ {W : Type 0} (contents : W → Option (List ℕ)) where
 -- ---- the whole program
 
 -- What the run that was asked for read, wrote and returned, by the bytes of a rule file: a run that masks, where a mask
--- was asked for, or another.
+-- was asked for; or one for whole words; or another.
 module _ {R W : Type 0} (remaining : R → Option (List ℕ)) (contents : W → Option (List ℕ)) where
-  abbrev pub RanAsBy : Option ℕ → Words → Watched R × Watched W → Watched R × Watched W → List ℕ
+  abbrev pub RanAsBy : Option ℕ → Bool → Words → Watched R × Watched W → Watched R × Watched W → List ℕ
       → Result (Unit {0}) Fault → Type 0
-  RanAsBy None asked old new file (Ok done) =
+  RanAsBy None false asked old new file (Ok done) =
       RanIn remaining contents old new ((grammar_of asked.text).holds file) (plan_of asked.stream asked.settings)
       (Ok done)
-  RanAsBy None asked old new file (Err (faults.Run e)) =
+  RanAsBy None false asked old new file (Err (faults.Run e)) =
       RanIn remaining contents old new ((grammar_of asked.text).holds file) (plan_of asked.stream asked.settings) (Err e)
-  RanAsBy None asked old new file (Err other) = ⊥
-  RanAsBy (Some mask) asked old new file (Ok done) =
-      AnswersMaskIn remaining contents old new ((grammar_of asked.text).holds file) asked.settings mask (Ok done)
-  RanAsBy (Some mask) asked old new file (Err (faults.Mask refusal)) =
-      AnswersMaskIn remaining contents old new ((grammar_of asked.text).holds file) asked.settings mask
-      (Err (masking.Refused refusal))
-  RanAsBy (Some mask) asked old new file (Err (faults.Run e)) =
-      AnswersMaskIn remaining contents old new ((grammar_of asked.text).holds file) asked.settings mask
-      (Err (masking.Run e))
-  RanAsBy (Some mask) asked old new file (Err other) = ⊥
+  RanAsBy None false asked old new file (Err other) = ⊥
+  RanAsBy None true asked old new file (Ok done) =
+      AnswersWordRunIn remaining contents old new ((grammar_of asked.text).holds file) asked.settings (Ok done)
+  RanAsBy None true asked old new file (Err (faults.Refused refusal)) =
+      AnswersWordRunIn remaining contents old new ((grammar_of asked.text).holds file) asked.settings
+      (Err (early.Refused refusal))
+  RanAsBy None true asked old new file (Err (faults.Run e)) =
+      AnswersWordRunIn remaining contents old new ((grammar_of asked.text).holds file) asked.settings (Err (early.Run e))
+  RanAsBy None true asked old new file (Err other) = ⊥
+  RanAsBy (Some byte) word asked old new file (Ok done) =
+      AnswersMaskIn remaining contents old new ((grammar_of asked.text).holds file) asked.settings
+      (mask_of byte word) (Ok done)
+  RanAsBy (Some byte) word asked old new file (Err (faults.Refused refusal)) =
+      AnswersMaskIn remaining contents old new ((grammar_of asked.text).holds file) asked.settings (mask_of byte word)
+      (Err (early.Refused refusal))
+  RanAsBy (Some byte) word asked old new file (Err (faults.Run e)) =
+      AnswersMaskIn remaining contents old new ((grammar_of asked.text).holds file) asked.settings (mask_of byte word)
+      (Err (early.Run e))
+  RanAsBy (Some byte) word asked old new file (Err other) = ⊥
 
   abbrev pub RanAsked : Words → Watched R × Watched W → Watched R × Watched W → List ℕ → Result (Unit {0}) Fault → Type 0
-  RanAsked asked = RanAsBy asked.mask asked
+  RanAsked asked = RanAsBy asked.mask asked.word asked
 
 -- The rule file has these bytes, in the form that was asked for, and a run by them returned this result. The first bad
 -- line is reported whatever memory does.
@@ -132,7 +142,8 @@ module _ {F R W : Type 0} (held : F → Option (List ℕ)) (remaining : R → Op
     AnswersFile (Err faults.Words) = ⊥
     AnswersFile (Err (faults.Pairs e)) = ⊥
     AnswersFile (Err faults.RuleFile) = new ≡ old
-    AnswersFile (Err (faults.Mask r)) = RanAndFlushed (Err (faults.Mask r)) 0 ⊎ RanAndFlushed (Err (faults.Mask r)) 1
+    AnswersFile (Err (faults.Refused r)) =
+        RanAndFlushed (Err (faults.Refused r)) 0 ⊎ RanAndFlushed (Err (faults.Refused r)) 1
     AnswersFile (Err (faults.Run e)) =
         RanAndFlushed (Err (faults.Run e)) 0 ⊎ RanAndFlushed (Err (faults.Run e)) 1
         ⊎ ((e ≡ errors.Memory) × (new ≡ old))

@@ -11,10 +11,10 @@ use Rattle.acsub.specs.declared.error.RunError.{RunError}
 use Rattle.acsub.specs.declared.error.RunError.TheVariants as errors
 use Rattle.acsub.specs.Rules.File.{rule_text}
 use Rattle.acsub.specs.Args.Settings.{setting_text}
-use Rattle.acsub.specs.declared.mask.MaskError.{MaskError}
-use Rattle.acsub.specs.declared.mask.MaskError.TheVariants as masking
-use Rattle.acsub.specs.declared.mask.MaskRefusal.{MaskRefusal}
-use Rattle.acsub.specs.declared.mask.MaskRefusal.TheVariants as refusals
+use Rattle.acsub.specs.declared.early.EarlyError.{EarlyError}
+use Rattle.acsub.specs.declared.early.EarlyError.TheVariants as early
+use Rattle.acsub.specs.declared.early.Refusal.{Refusal}
+use Rattle.acsub.specs.declared.early.Refusal.TheVariants as refusals
 use Rattle.acsub.specs.declared.tool.Fault.{Fault}
 use Rattle.acsub.specs.declared.tool.Fault.TheVariants as faults
 
@@ -39,16 +39,18 @@ run_text errors.Position = codes "input too long"
 abbrev pub hex_of : ℕ → List ℕ
 hex_of byte = radix_digits 16 false (byte / 16) ++ radix_digits 16 false (byte % 16)
 
-abbrev pub refusal_text : MaskRefusal → List ℕ
-refusal_text refusals.Empty = codes "a pattern is empty"
-refusal_text (refusals.Occurs byte) = codes "byte " ++ hex_of byte ++ codes " occurs in a pattern"
+abbrev pub refusal_text : Refusal → List ℕ
+refusal_text refusals.EmptyMasked = codes "mask: a pattern is empty"
+refusal_text (refusals.Occurs byte) = codes "mask: byte " ++ hex_of byte ++ codes " occurs in a pattern"
+refusal_text refusals.PackedWord = codes "word: packed finds no whole words"
+refusal_text refusals.EmptyWord = codes "word: a pattern is empty"
 
 -- the message of a fault, after the program's name
 abbrev pub fault_text : Fault → List ℕ
 fault_text faults.Words = codes "bad words"
 fault_text (faults.Pairs e) = codes "setting: " ++ (codes "byte " ++ decimal (twice_of e) ++ codes " is named twice")
 fault_text faults.RuleFile = codes "rules: file cannot be read"
-fault_text (faults.Mask refusal) = codes "mask: " ++ refusal_text refusal
+fault_text (faults.Refused refusal) = refusal_text refusal
 fault_text (faults.Run e) = run_text e
 fault_text faults.Flush = codes "flush failed"
 
@@ -62,12 +64,18 @@ run_status errors.WriteZero = 6
 run_status errors.Memory = 7
 run_status errors.Position = 8
 
+abbrev pub status_of_refusal : Refusal → ℕ
+status_of_refusal refusals.EmptyMasked = 4
+status_of_refusal (refusals.Occurs byte) = 4
+status_of_refusal refusals.PackedWord = 2
+status_of_refusal refusals.EmptyWord = 4
+
 -- the exit status for a fault
 abbrev pub status_of : Fault → ℕ
 status_of faults.Words = 2
 status_of (faults.Pairs e) = 2
 status_of faults.RuleFile = 3
-status_of (faults.Mask refusal) = 4
+status_of (faults.Refused refusal) = status_of_refusal refusal
 status_of (faults.Run e) = run_status e
 status_of faults.Flush = 6
 
@@ -79,10 +87,10 @@ line_of fault = codes "acsub: " ++ fault_text fault ++ codes "\n"
 abbrev pub WritesLine : {E F : Type 0} → (E → Option (List ℕ)) → E → E → Fault → Result (Unit {0}) F → Type 0
 WritesLine contents before after fault result = OnOk result (Appends (contents before) (contents after) (line_of fault))
 
--- the fault for a run that masks and stopped
-abbrev pub masking_fault : MaskError → Fault
-masking_fault (masking.Refused refusal) = faults.Mask refusal
-masking_fault (masking.Run e) = faults.Run e
+-- the fault for a run that always writes while it reads, and stopped
+abbrev pub early_fault : EarlyError → Fault
+early_fault (early.Refused refusal) = faults.Refused refusal
+early_fault (early.Run e) = faults.Run e
 
 -- the exit status for an outcome
 abbrev pub exit_of : Result (Unit {0}) Fault → ℕ

@@ -1,7 +1,7 @@
 //! The command line of `acsub`: its words, and the settings that they ask for.
 //!
-//! `acsub MODE RULES [--text] [--stream] [--with HEX] [--kind K] [--fold] [--pairs HEX] [--engine E] [--no-prefilter]
-//! [--dense-depth N] [--no-byte-classes]`
+//! `acsub MODE RULES [--text] [--stream] [--word] [--with HEX] [--kind K] [--fold] [--pairs HEX] [--engine E]
+//! [--no-prefilter] [--dense-depth N] [--no-byte-classes]`
 //!
 //! clap splits the words, names the values that an argument takes and writes the help; what a value means is said here. The
 //! command stands as data in `specs/Args/Command.antt`. So the contract of `read_words` says of all words what comes of them. It goes
@@ -81,6 +81,8 @@ pub struct Words<'a> {
     pub text: bool,
     /// Whether the text is asked for while the input is read, under every kind. A mask is always written so.
     pub stream: bool,
+    /// Whether whole words alone count. Their text is always written while the input is read.
+    pub word: bool,
     /// The byte that masks, in mode `mask`. The settings are then those of a list of all that overlap.
     pub mask: Option<u8>,
     /// The path of the rule file.
@@ -223,6 +225,11 @@ fn command<'a>(alloc: Global) -> Result<Command<'a>, AllocError>
             "stream",
             "Write while reading under every kind and mode, where that can be",
         ))?
+        .arg(flag(
+            alloc,
+            "word",
+            "Count only whole words: no letter, digit, '_' or byte from 80 on beside them",
+        ))?
         .arg(option(
             alloc,
             "with",
@@ -305,6 +312,7 @@ fn asked_for<'a>(alloc: Global, matches: &ArgMatches<'a>) -> Result<Words<'a>, W
         settings,
         text: is_given(matches, "text"),
         stream: is_given(matches, "stream"),
+        word: is_given(matches, "word"),
         mask,
         rules: text_of(matches, "rules").unwrap(),
     })

@@ -2,10 +2,11 @@
 //!
 //! It reads rules, each a pattern and its replacement, and an input. It writes the input with each match replaced, or with each
 //! byte masked that lies in an occurrence, or a line for each match, or a line for each occurrence. Definitions alone fix that text:
-//! the mode, the kind of match, the pairing of bytes and the mask, and nothing else.
+//! the mode, the kind of match, the pairing of bytes, the mask and whether whole words alone count, and nothing else.
 #![tactic(auto)]
 
 mod args;
+mod early;
 mod error;
 mod hint;
 mod input;
@@ -20,6 +21,7 @@ mod run;
 mod scripted;
 mod stream;
 mod tool;
+mod word;
 
 use ac_automaton::watched::Watched;
 use std::env;

@@ -4,76 +4,40 @@
 //! has written that returns Ok. A replacement promises no such thing: it takes the matches of a walk, and what overlaps them stays
 //! in part. The replacements of the rules are not used.
 //!
+//! Where whole words alone are masked, an occurrence beside a word byte stays. If the mask is a word byte, no whole word is left;
+//! beside another one, such as a star, what was no word may have become one: of `a` and `-x` in `a-x` it leaves `*-x`.
+//!
 //! It always writes while it reads. Before each read it has written everything but the last bytes that may still be covered: fewer
 //! than the longest pattern has. It takes memory for what is built of the rules, and for one buffer.
-ghost use Rattle.std.specs.Prelude.{◌≡◌, ◌↔◌, ℕ, IsTrue, OnOk, IfErr, IfOk, length, Err, false};
-ghost use Rattle.ac_input.specs.declared.search.MatchKind.TheVariants.{Standard};
-ghost use Rattle.acsub.specs.Args.Settings.{IsAccepted};
-ghost use Rattle.acsub.specs.Masked.{AnswersMask, AnswersMaskIn, CostsMaskRun, IsInNoPattern, IsMaskable, LeavesNone, NotMaskable, for_every};
+ghost use Rattle.std.specs.Prelude.{◌≡◌, ◌↔◌, ℕ, IsTrue, OnOk, IfErr, Err, false};
+ghost use Rattle.ac_automaton.specs.Stream.Overlapping.{AcceptsListing};
+ghost use Rattle.aho_corasick.specs.AhoCorasick.{as_built, supported_by};
+ghost use Rattle.acsub.specs.Masked.{AnswersMask, AnswersMaskIn, CostsMaskRun, CostsMasking, IsInNoPattern, IsMaskable, LeavesNone, MasksBy, NotMaskable};
 ghost use Rattle.acsub.specs.Rules.File.{grammar_of};
 ghost use Rattle.acsub.specs.declared.error.RunError.TheVariants.{Rule};
-ghost use Rattle.acsub.specs.declared.mask.MaskError.TheVariants.{Run};
+ghost use Rattle.acsub.specs.declared.early.EarlyError.TheVariants.{Run};
 ghost use Rattle.acsub.specs.declared.rules.RuleError.TheVariants.{Line};
 
 use crate::args::settings::{Mode, Settings, check, has_empty_pattern};
+use crate::early::{EarlyError, Refusal};
 use crate::error::RunError;
 use crate::prepared::automaton_for;
 use crate::rules::{Rules, read_rules};
 use crate::run::{Request, unread};
 use crate::stream::told;
+use ac_automaton::error::StreamError;
 use ac_automaton::watched::Watched;
 use ac_input::steps::Steps;
+use aho_corasick::AhoCorasick;
 use memchr::memchr2;
 use std::alloc::Global;
-use std::error::Error;
-use std::fmt;
 use std::io::{Read, Write};
 
-/// Why rules can't be masked by, which the settings fit.
+/// What masks: a byte, and whether whole words alone are masked.
 #[derive(Clone, Copy, Debug, PartialEq, Eq)]
-pub enum MaskRefusal {
-    /// A pattern is empty. It covers no byte, so nothing would come of it.
-    Empty,
-    /// The mask is in a pattern, or its partner is: the pattern could occur in what is masked.
-    Occurs(u8),
-}
-
-impl fmt::Display for MaskRefusal {
-    ghost use Rattle.std.specs.Prelude.{Some};
-    ghost use Rattle.acsub.specs.Tool.{refusal_text};
-
-    ghost output = { λ refusal. Some (refusal_text refusal) };
-
-    fn fmt<W: fmt::Write>(&self, f: &mut fmt::Formatter<W>) -> fmt::Result {
-        match self {
-            MaskRefusal::Empty => write!(f, "a pattern is empty"),
-            MaskRefusal::Occurs(byte) => {
-                let (high, low) = (byte / 16, byte % 16);
-                write!(f, "byte {high:x}{low:x} occurs in a pattern")
-            }
-        }
-    }
-}
-
-impl Error for MaskRefusal {}
-
-/// Why a run that masks stopped.
-#[derive(Debug, Drop)]
-pub enum MaskError {
-    /// The rules can't be masked by.
-    Refused(MaskRefusal),
-    /// It stopped as other runs do.
-    Run(RunError),
-}
-
-impl From<RunError> for MaskError {
-    ghost use Rattle.acsub.specs.declared.mask.MaskError.TheVariants.{Run};
-
-    ghost from_gives = { λ error stopped. stopped ≡ Run error };
-
-    fn from(error: RunError) -> MaskError {
-        MaskError::Run(error)
-    }
+pub struct Mask {
+    pub byte: u8,
+    pub word: bool,
 }
 
 /// Reads the input to its end, and writes it masked.
@@ -83,14 +47,14 @@ impl From<RunError> for MaskError {
 pub fn run_mask<R: Read, W: Write>(
     alloc: Global,
     settings: &Settings,
-    mask: u8,
+    mask: Mask,
     rules: &Rules,
     reader: &mut Watched<R>,
     writer: &mut Watched<W>,
-) -> Result<(), MaskError>
+) -> Result<(), EarlyError>
     requires { reader.old.ended ≡ false }
-    // After Ok no pattern occurs in what was written.
-    ensures clean { OnOk result (LeavesNone settings.now rules.now writer.old writer.new) }
+    // After Ok no pattern occurs in what was written; and where whole words alone are masked, by a word byte, no whole word does.
+    ensures clean { OnOk result (LeavesNone mask settings.now rules.now writer.old writer.new) }
     ensures answered { AnswersMask R.remaining W.contents (reader.old, writer.old) (reader.new, writer.new)
         settings.now rules.now mask result }
 {
@@ -102,32 +66,54 @@ pub fn run_mask<R: Read, W: Write>(
 pub fn run_mask_counted<R: Read, W: Write>(
     alloc: Global,
     settings: &Settings,
-    mask: u8,
+    mask: Mask,
     rules: &Rules,
     reader: &mut Watched<R>,
     writer: &mut Watched<W>,
     steps: &mut Steps,
-) -> Result<(), MaskError>
+) -> Result<(), EarlyError>
     requires { reader.old.ended ≡ false }
     ensures answered { AnswersMask R.remaining W.contents (reader.old, writer.old) (reader.new, writer.new)
         settings.now rules.now mask result }
-    ensures cost { CostsMaskRun settings.now rules.now reader.old reader.new steps.old steps.new result }
+    ensures cost { CostsMaskRun mask.word settings.now rules.now reader.old reader.new steps.old steps.new result }
 {
-    check_mask(settings, mask, rules)?;
+    check_mask(settings, mask.byte, rules)?;
     let automaton = automaton_for(alloc, settings, rules)?;
-    let masked = automaton.try_mask_stream_counted(alloc, reader, writer, mask, steps);
+    let masked = mask_stream(alloc, mask, &automaton, reader, writer, steps);
     Ok(told(masked)?)
+}
+
+/// Masks the stream, each occurrence or whole words alone.
+fn mask_stream<R: Read, W: Write>(
+    alloc: Global,
+    mask: Mask,
+    automaton: &AhoCorasick,
+    reader: &mut Watched<R>,
+    writer: &mut Watched<W>,
+    steps: &mut Steps,
+) -> Result<(), StreamError>
+    requires { reader.old.ended ≡ false }
+    ensures masked { MasksBy mask.word R.remaining W.contents (as_built automaton.now) mask.byte reader.old reader.new
+        writer.old writer.new result }
+    ensures accepted { AcceptsListing (as_built automaton.now) (supported_by automaton.now) result }
+    ensures cost { CostsMasking mask.word (as_built automaton.now) reader.old reader.new steps.old steps.new result }
+{
+    if mask.word {
+        automaton.try_mask_words_stream_counted(alloc, reader, writer, mask.byte, steps)
+    } else {
+        automaton.try_mask_stream_counted(alloc, reader, writer, mask.byte, steps)
+    }
 }
 
 /// The same, by a rule file of plain text or of hex. Which bad line comes first is reported before all else.
 pub fn run_mask_in<R: Read, W: Write>(
     alloc: Global,
     asked: Request,
-    mask: u8,
+    mask: Mask,
     file: &[u8],
     reader: &mut Watched<R>,
     writer: &mut Watched<W>,
-) -> Result<(), MaskError>
+) -> Result<(), EarlyError>
     requires { reader.old.ended ≡ false }
     ensures answered { AnswersMaskIn R.remaining W.contents (reader.old, writer.old) (reader.new, writer.new)
         ((grammar_of asked.text).holds file.now) asked.settings mask result }
@@ -135,25 +121,25 @@ pub fn run_mask_in<R: Read, W: Write>(
 {
     match read_rules(alloc, asked.text, file) {
         Ok(rules) => run_mask(alloc, &asked.settings, mask, &rules, reader, writer),
-        Err(error) => Err(MaskError::Run(unread(error))),
+        Err(error) => Err(EarlyError::Run(unread(error))),
     }
 }
 
 /// Whether rules can be masked by, with these settings and this mask.
-pub fn check_mask(settings: &Settings, mask: u8, rules: &Rules) -> Result<(), MaskError>
+pub fn check_mask(settings: &Settings, mask: u8, rules: &Rules) -> Result<(), EarlyError>
     ensures accepted { OnOk result (IsMaskable settings.now rules.now mask) }
     ensures refused { IfErr result (NotMaskable settings.now rules.now mask) }
 {
     let mut every = *settings;
     every.mode = Mode::Overlap;
     if let Err(error) = check(&every, rules) {
-        return Err(MaskError::Run(RunError::Setting(error)));
+        return Err(EarlyError::Run(RunError::Setting(error)));
     }
     if has_empty_pattern(rules) {
-        return Err(MaskError::Refused(MaskRefusal::Empty));
+        return Err(EarlyError::Refused(Refusal::EmptyMasked));
     }
     if !is_in_no_pattern(settings, rules, mask) {
-        return Err(MaskError::Refused(MaskRefusal::Occurs(mask)));
+        return Err(EarlyError::Refused(Refusal::Occurs(mask)));
     }
     Ok(())
 }

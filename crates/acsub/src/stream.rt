@@ -22,6 +22,7 @@ use std::alloc::Global;
 use std::io::{Read, Write};
 
 mod list;
+pub(crate) mod words;
 
 use list::{list_every, list_stream};
 

@@ -16,10 +16,12 @@ ghost use Rattle.acsub.specs.declared.tool.Fault.TheVariants.{Run};
 ghost use Rattle.acsub.specs.Tool.{IsFaultOf, WritesLine, status_of};
 
 use crate::args::{Words, WordsFault, read_words};
+use crate::early::{EarlyError, Refusal};
 use crate::error::RunError;
-use crate::mask::{MaskError, MaskRefusal, run_mask_in};
+use crate::mask::{Mask, run_mask_in};
 use crate::run::{Request, run_in};
 use crate::stream::told;
+use crate::word::run_words_in;
 use ac_automaton::watched::{Watched, write_whole};
 use ac_input::pairing::PairingError;
 use ac_input::steps::Steps;
@@ -39,8 +41,8 @@ pub enum Fault {
     Pairs(PairingError),
     /// The rule file cannot be read.
     RuleFile,
-    /// The rules can't be masked by.
-    Mask(MaskRefusal),
+    /// The rules don't suit a mask, or a run for whole words.
+    Refused(Refusal),
     /// The run stopped.
     Run(RunError),
     /// What was written cannot be flushed.
@@ -55,7 +57,7 @@ impl Fault {
         match self {
             Fault::Words | Fault::Pairs(_) => 2,
             Fault::RuleFile => 3,
-            Fault::Mask(_) => 4,
+            Fault::Refused(refusal) => refusal.status(),
             Fault::Run(RunError::Rule(_)) => 3,
             Fault::Run(RunError::Setting(_)) => 2,
             Fault::Run(RunError::Build(_)) => 4,
@@ -80,7 +82,7 @@ impl fmt::Display for Fault {
             Fault::Words => write!(f, "bad words"),
             Fault::Pairs(error) => write!(f, "setting: {error}"),
             Fault::RuleFile => write!(f, "rules: file cannot be read"),
-            Fault::Mask(refusal) => write!(f, "mask: {refusal}"),
+            Fault::Refused(refusal) => write!(f, "{refusal}"),
             Fault::Run(error) => write!(f, "{error}"),
             Fault::Flush => write!(f, "flush failed"),
         }
@@ -97,15 +99,15 @@ impl From<RunError> for Fault {
     }
 }
 
-impl From<MaskError> for Fault {
-    ghost use Rattle.acsub.specs.Tool.{masking_fault};
+impl From<EarlyError> for Fault {
+    ghost use Rattle.acsub.specs.Tool.{early_fault};
 
-    ghost from_gives = { λ error fault. fault ≡ masking_fault error };
+    ghost from_gives = { λ error fault. fault ≡ early_fault error };
 
-    fn from(error: MaskError) -> Fault {
+    fn from(error: EarlyError) -> Fault {
         match error {
-            MaskError::Refused(refusal) => Fault::Mask(refusal),
-            MaskError::Run(error) => Fault::Run(error),
+            EarlyError::Refused(refusal) => Fault::Refused(refusal),
+            EarlyError::Run(error) => Fault::Run(error),
         }
     }
 }
@@ -235,12 +237,17 @@ fn serve<R: Read, W: Write>(
         text: asked.text,
         stream: asked.stream,
     };
+    let word = asked.word;
     match asked.mask {
+        Some(byte) => {
+            let mask = Mask { byte, word };
+            Ok(run_mask_in(alloc, wanted, mask, file, reader, writer)?)
+        }
+        None if word => Ok(run_words_in(alloc, wanted, file, reader, writer)?),
         None => {
             let mut steps = Steps::new();
             Ok(run_in(alloc, wanted, file, reader, writer, &mut steps)?)
         }
-        Some(mask) => Ok(run_mask_in(alloc, wanted, mask, file, reader, writer)?),
     }
 }
 

@@ -11,6 +11,7 @@ pub use Rattle.ac_input.specs.Same
 pub use Rattle.ac_input.specs.Steps
 pub use Rattle.ac_input.specs.Text
 pub use Rattle.ac_input.specs.Walk
+pub use Rattle.ac_input.specs.Word
 pub use Rattle.ac_input.specs.Work
 pub use Rattle.ac_literal.specs.Packed
 pub use Rattle.ac_automaton.specs.Automaton
@@ -19,14 +20,20 @@ pub use Rattle.ac_automaton.specs.InMemory.Iter
 pub use Rattle.ac_automaton.specs.InMemory.Overlapping
 pub use Rattle.ac_automaton.specs.InMemory.Overlapping.OverlappingIter
 pub use Rattle.ac_automaton.specs.InMemory.Replace
+pub use Rattle.ac_automaton.specs.InMemory.Words
+pub use Rattle.ac_automaton.specs.InMemory.Words.Overlapping as WordListing
 pub use Rattle.ac_automaton.specs.Masking
+pub use Rattle.ac_automaton.specs.Masking.Words as WordMask
+pub use Rattle.ac_automaton.specs.Masking.Words.Stream as StreamWordMask
 pub use Rattle.ac_automaton.specs.Stream
 pub use Rattle.ac_automaton.specs.Stream.Iter as StreamIter
 pub use Rattle.ac_automaton.specs.Stream.Answer as StreamAnswer
 pub use Rattle.ac_automaton.specs.Stream.Mask as StreamMask
+pub use Rattle.ac_automaton.specs.Stream.Overlapping as StreamOverlapping
 pub use Rattle.ac_automaton.specs.Stream.Pump as StreamPump
 pub use Rattle.ac_automaton.specs.Stream.Replace as StreamReplace
 pub use Rattle.ac_automaton.specs.Stream.ReplaceWith as StreamReplaceWith
+pub use Rattle.ac_automaton.specs.Stream.WholeWords as StreamWords
 pub use Rattle.ac_automaton.specs.Stream.Devices.Watched
 pub mod Engine
 pub mod EngineLaws

@@ -16,6 +16,7 @@ mod mask;
 mod replace;
 mod search;
 mod stream;
+mod words;
 
 ghost use Rattle.std.specs.Prelude.{◌≡◌, ◌↔◌, IfOk, IsTrue};
 ghost use Rattle.ac_input.specs.Work.{longest, shortest};
@@ -26,6 +27,7 @@ ghost use Rattle.ac_input.specs.Dfa.{Serves};
 use crate::engine::Engine;
 use crate::shared::Shared;
 use ac_automaton::automaton::Automaton;
+use ac_automaton::in_memory::words as in_text;
 use ac_automaton::{iter, overlapping, stream as streams};
 use ac_input::search::{MatchKind, StartKind};
 pub use builder::AhoCorasickBuilder;
@@ -53,8 +55,8 @@ pub enum AhoCorasickKind {
 /// A search returns an error only for its configuration, never for what the haystack holds:
 ///
 /// - for an anchoring that the start kind doesn't have;
-/// - for a stream or overlapping matches under a leftmost kind;
-/// - for a stream where a pattern is empty;
+/// - for a stream, overlapping matches or whole words under a leftmost kind;
+/// - for a stream or whole words where a pattern is empty;
 /// - for an iterator over overlapping matches of an anchored input.
 ///
 /// Each call has two forms. Those with `try_`, such as [`AhoCorasick::try_find`], return a `MatchError` then. The others, such
@@ -88,8 +90,28 @@ pub type FindIterAhead<'a, 'h> = iter::ahead::FindIterAhead<'a, 'h, AhoCorasick>
 /// The remaining overlapping matches of an input. From [`AhoCorasick::find_overlapping_iter`].
 pub type FindOverlappingIter<'a, 'h> = overlapping::FindOverlappingIter<'a, 'h, AhoCorasick>;
 
+/// The remaining whole words of a text. From [`AhoCorasick::try_find_word_iter`].
+pub type FindWordIter<'a, 'h> = in_text::FindWordIter<'a, 'h, AhoCorasick>;
+
+/// All remaining whole words of a text, overlapping ones too. From [`AhoCorasick::try_find_overlapping_word_iter`].
+pub type FindOverlappingWordIter<'a, 'h> = in_text::overlapping::FindOverlappingWordIter<
+    'a,
+    'h,
+    AhoCorasick,
+>;
+
 /// The remaining matches of a stream. From [`AhoCorasick::stream_find_iter`].
 pub type StreamFindIter<'a, R> = streams::StreamFindIter<'a, AhoCorasick, R>;
+
+/// The remaining whole words of a stream. From [`AhoCorasick::try_stream_find_word_iter`].
+pub type StreamFindWordIter<'a, R> = streams::StreamFindWordIter<'a, AhoCorasick, R>;
+
+/// All remaining whole words of a stream, overlapping ones too. From [`AhoCorasick::try_stream_find_overlapping_word_iter`].
+pub type StreamFindOverlappingWordIter<'a, R> = streams::StreamFindOverlappingWordIter<
+    'a,
+    AhoCorasick,
+    R,
+>;
 
 /// The remaining occurrences in a stream. From [`AhoCorasick::try_stream_find_overlapping_iter`].
 pub type StreamFindOverlappingIter<'a, R> = streams::overlapping::StreamFindOverlappingIter<

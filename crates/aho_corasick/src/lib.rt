@@ -40,5 +40,6 @@ pub use ac_input::steps::Steps;
 pub use ac_noncontiguous::error::{BuildError, BuildErrorKind};
 pub use ahocorasick::{
     AhoCorasick, AhoCorasickBuilder, AhoCorasickKind, FindIter, FindIterAhead, FindOverlappingIter,
-    StreamFindIter, StreamFindOverlappingIter,
+    FindOverlappingWordIter, FindWordIter, StreamFindIter, StreamFindOverlappingIter,
+    StreamFindOverlappingWordIter, StreamFindWordIter,
 };

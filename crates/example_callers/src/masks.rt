@@ -1,5 +1,5 @@
 //! Masks, and whole words.
-ghost use Rattle.std.specs.Prelude.{◌≡◌, None, IfOk, false};
+ghost use Rattle.std.specs.Prelude.{◌≡◌, ◌≤◌, None, IfOk, false, length};
 ghost use Rattle.ac_input.specs.declared.search.MatchKind.TheVariants.{LeftmostLongest, Standard};
 ghost use Rattle.ac_input.specs.Dictionary.{whole};
 ghost use Rattle.ac_input.specs.Walk.{IsPickAmong};
@@ -7,7 +7,6 @@ ghost use Rattle.ac_input.specs.Word.{OccursWhole};
 ghost use Rattle.ac_automaton.specs.Masking.{masked_in};
 ghost use Rattle.aho_corasick.specs.AhoCorasick.{as_built, kind_of, supported_by};
 
-use aho_corasick::automaton::Search;
 use aho_corasick::{AhoCorasick, Anchored, Match, MatchError, MatchKind, Steps};
 
 /// Hides each occurrence in the text behind stars.
@@ -27,4 +26,21 @@ pub fn first_word(ac: &AhoCorasick, text: &[u8]) -> Result<Option<Match>, MatchE
     let mut words = ac.try_find_word_iter(MatchKind::LeftmostLongest, text)?;
     let mut steps = Steps::new();
     Ok(words.next_counted(&mut steps))
+}
+
+/// The next whole word of a caller who keeps a place, and the place to go on from.
+pub fn next_word(
+    ac: &AhoCorasick,
+    kind: MatchKind,
+    text: &[u8],
+    place: usize,
+) -> Result<(Option<Match>, usize), MatchError>
+    requires { place ≤ length text.now }
+    ensures next { IfOk result
+        (λ r. IsPickAmong OccursWhole kind (whole (as_built ac.now).dictionary text.now false) place None r.0) }
+    ensures within { IfOk result (λ r. r.1 ≤ length text.now) }
+{
+    let mut words = ac.try_find_word_iter_from(kind, text, place)?;
+    let word = words.next_counted(&mut Steps::new());
+    Ok((word, words.place()))
 }

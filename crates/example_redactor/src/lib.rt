@@ -1,8 +1,8 @@
-//! Finds and hides forbidden words: a small crate over `aho_corasick`, as a user would write it.
+//! Hides and finds forbidden words: a small crate over `aho_corasick`, as a user would write it.
 //!
 //! Its line in `crates.txt` names one crate, and it has no proof file: the check proves each function by itself. Two ghost fields
-//! say what the automaton is built for. By them the calls that can't fail may be made, such as `find`; the calls with `try_`
-//! need none.
+//! say what the automaton is built for. By them the calls that can't fail may be made, such as `mask` and `find`; the calls with
+//! `try_` need none.
 #![tactic(auto)]
 
 ghost use Rattle.std.specs.Prelude.{◌≡◌};
@@ -14,8 +14,11 @@ use aho_corasick::{AhoCorasick, BuildError, Input, StreamError, Watched};
 use std::alloc::{AllocError, Global};
 use std::io::{Read, Write};
 
-/// What stands in place of a word.
-const MASK: &str = "***";
+/// What stands in place of each byte of a word. No word may have it: then none is left in what is hidden.
+const MASK: u8 = b'*';
+
+/// What stands in place of a word where its length is to be hidden, too.
+const COVER: &str = "***";
 
 /// Words to hide.
 #[derive(Debug, Drop)]
@@ -24,7 +27,7 @@ pub struct Redactor {
     words: Vec<String>,
     // searches may start anywhere, so `find`, `find_iter` and `replace_all` may be called ..
     ghost unanchored: { start_kind_of ac ≡ Unanchored },
-    // .. and matches are standard ones, so `find_overlapping_iter` may be called, too
+    // .. and matches are standard ones, so `mask` and `find_overlapping_iter` may be called, too
     ghost standard: { kind_of ac ≡ Standard },
 }
 
@@ -39,10 +42,17 @@ impl Redactor {
         Ok(Redactor { ac, words })
     }
 
-    /// The text with each word hidden. Of words that overlap the one that ends first is hidden.
-    pub fn redact(&self, alloc: Global, text: &str) -> Result<String, AllocError> {
-        let masks = vec![in alloc; MASK; self.ac.patterns_len()]?;
-        self.ac.replace_all(alloc, text, &masks)
+    /// Hides the words of a text where it stands: each byte that lies in one becomes a star, also where words overlap. The rest of
+    /// the text stays, and so do its length and its places.
+    pub fn redact(&self, text: &mut [u8]) {
+        self.ac.mask(text, MASK);
+    }
+
+    /// The text with three stars in the place of each word that [`Redactor::found`] lists. Of words that overlap the one that ends
+    /// first is covered, and what it leaves of the others stays: where nothing may be left, call [`Redactor::redact`].
+    pub fn covered(&self, alloc: Global, text: &str) -> Result<String, AllocError> {
+        let covers = vec![in alloc; COVER; self.ac.patterns_len()]?;
+        self.ac.replace_all(alloc, text, &covers)
     }
 
     /// The first word that stands in the text.
@@ -51,18 +61,18 @@ impl Redactor {
         text.get(found.range())
     }
 
-    /// How many words [`Redactor::redact`] hides in the text.
+    /// How many words stand in the text one after another. Of words that overlap the one that ends first counts.
     pub fn count(&self, text: &str) -> usize {
         self.ac.find_iter(Input::from(text)).count()
     }
 
-    /// The bytes of each word that [`Redactor::redact`] hides in the text.
-    pub fn hidden<'t>(&self, alloc: Global, text: &'t str) -> Result<Vec<&'t [u8]>, AllocError> {
-        let mut hidden = Vec::new(alloc);
-        for found in self.ac.find_iter(Input::from(text)) {
-            hidden.push(found.span().of(text.as_bytes()))?;
+    /// The bytes of each of these.
+    pub fn found<'t>(&self, alloc: Global, text: &'t str) -> Result<Vec<&'t [u8]>, AllocError> {
+        let mut found = Vec::new(alloc);
+        for word in self.ac.find_iter(Input::from(text)) {
+            found.push(word.span().of(text.as_bytes()))?;
         }
-        Ok(hidden)
+        Ok(found)
     }
 
     /// All words that stand in the text, also those that overlap others.
@@ -76,18 +86,17 @@ impl Redactor {
         Ok(words)
     }
 
-    /// Copies what the reader gives to the writer, with each word hidden, while it reads.
+    /// Copies what the reader gives to the writer with its words hidden, as [`Redactor::redact`] hides them, while it reads.
     pub fn redact_stream<R: Read + Drop, W: Write + Drop>(
         &self,
         alloc: Global,
         reader: R,
         writer: W,
     ) -> Result<(), StreamError> {
-        let masks = vec![in alloc; MASK.as_bytes(); self.ac.patterns_len()]?;
         let mut reader = Watched::new(reader);
         let mut writer = Watched::new(writer);
         self.ac
-            .try_stream_replace_all(alloc, &mut reader, &mut writer, &masks)
+            .try_mask_stream(alloc, &mut reader, &mut writer, MASK)
     }
 
     /// Where words start in what the reader gives, counted in bytes.

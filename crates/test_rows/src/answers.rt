@@ -110,35 +110,39 @@ pub fn by_plain(
     )
 }
 
-/// The text as the plain program masks it.
+/// The plain program for a text.
+fn plain<'a>(asked: Asked<'a>, text: &'a [u8]) -> Result<Naive<'a>, Fail> {
+    let whole = Input::new(text);
+    Ok(Naive::new(
+        asked.patterns,
+        pairing(asked.letters)?,
+        text,
+        whole.get_span(),
+        whole.get_anchored(),
+    ))
+}
+
+/// The text as the plain program masks it, all occurrences or whole words alone.
 pub fn masked_by_plain(
     alloc: Global,
     asked: Asked<'_>,
     text: &[u8],
     mask: u8,
+    words: bool,
 ) -> Result<Vec<u8>, Fail> {
-    let whole = Input::new(text);
-    let plain = Naive::new(
-        asked.patterns,
-        pairing(asked.letters)?,
-        text,
-        whole.get_span(),
-        whole.get_anchored(),
-    );
+    let plain = plain(asked, text)?.whole_words(words);
     Ok(plain.masked(alloc, mask)?)
 }
 
-/// The whole words of the text by the plain program.
-pub fn words_by_plain(alloc: Global, asked: Asked<'_>, text: &[u8]) -> Result<Vec<Pick>, Fail> {
-    let whole = Input::new(text);
-    let plain = Naive::new(
-        asked.patterns,
-        pairing(asked.letters)?,
-        text,
-        whole.get_span(),
-        whole.get_anchored(),
-    );
-    let found = plain.whole_words(true).walk(alloc, asked.kind, false)?;
+/// The whole words of the text by the plain program: the matches of the kind, or all of them.
+pub fn words_by_plain(
+    alloc: Global,
+    asked: Asked<'_>,
+    asks: Asks,
+    text: &[u8],
+) -> Result<Vec<Pick>, Fail> {
+    let plain = plain(asked, text)?.whole_words(true);
+    let found = plain_matches(alloc, &plain, asked.kind, asks, false)?;
     Ok(
         found
             .iter()

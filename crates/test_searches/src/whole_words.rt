@@ -3,10 +3,12 @@ use crate::asserts::{equal, same};
 use ac_automaton::error::MatchErrorKind;
 use ac_input::search::MatchKind;
 use ac_input::search::MatchKind::{LeftmostFirst, LeftmostLongest, Standard};
+use ac_input::steps::Steps;
 use ac_noncontiguous::Search;
 use std::alloc::Global;
 use std::process::Abort;
 use std::test::Fail;
+use test_rows::answers::Asks::Walk;
 use test_rows::answers::{collected, words_by_plain};
 use test_rows::drawn::{EACH_OF_LETTERS, KINDS, from_there, letters_of, patterns_of};
 use test_rows::engines::Letters::{Cased, Folded};
@@ -33,6 +35,20 @@ impl<T: Abort> Case<T> for Words<'_> {
         }
         let words = on.automaton.try_find_word_iter(self.kind, self.text)?;
         same(on.rt, &collected(on.alloc, words)?, self.gives, self.shows);
+        self.goes_on(on)
+    }
+}
+
+impl Words<'_> {
+    /// A walk from the end of the first word has the others.
+    fn goes_on<T: Abort, A: Search>(&self, on: &Trial<'_, T, A>) -> Result<(), Fail> {
+        let mut words = on.automaton.try_find_word_iter(self.kind, self.text)?;
+        words.next_counted(&mut Steps::new());
+        let left = on
+            .automaton
+            .try_find_word_iter_from(self.kind, self.text, words.place())?;
+        let others = collected(on.alloc, words)?;
+        same(on.rt, &collected(on.alloc, left)?, &others, self.shows);
         Ok(())
     }
 }
@@ -132,7 +148,7 @@ fn words_are_alike<'a, T: Abort>(
     text: &'a [u8],
 ) -> Result<(), Fail> {
     for kind in KINDS {
-        let gives = words_by_plain(alloc, Asked::of(patterns, kind, letters), text)?;
+        let gives = words_by_plain(alloc, Asked::of(patterns, kind, letters), Walk, text)?;
         let words = Words {
             shows: "as the plain program",
             asked: Asked::of(patterns, Standard, letters),

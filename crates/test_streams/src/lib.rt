@@ -25,3 +25,5 @@ mod stream_memory;
 mod stream_replacement;
 #[cfg(test)]
 mod streams;
+#[cfg(test)]
+mod whole_words;

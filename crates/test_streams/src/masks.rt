@@ -160,7 +160,7 @@ fn seed_is_alike<T: Abort>(rt: &T, alloc: Global, seed: u8) -> Result<(), Fail> 
     for same in EACH_OF_LETTERS {
         let asked = Asked::of(&patterns, Standard, same);
         let text = from_there(&letters, 30, 14);
-        let gives = masked_by_plain(alloc, asked, text, MASK)?;
+        let gives = masked_by_plain(alloc, asked, text, MASK, false)?;
         let masked = Masked {
             shows: "as the plain program",
             asked,

@@ -7,7 +7,7 @@ ghost use Rattle.std.specs.Prelude.{◌≡◌, false};
 use crate::asserts::equal;
 use crate::devices::{AMPLE, Given, Outcome, Sink, Source, Tally};
 use ac_automaton::error::{MatchErrorKind, StreamError};
-use ac_automaton::stream::StreamFindIter;
+use ac_automaton::stream::{ItemSearch, StreamFindIter, StreamIter};
 use ac_automaton::watched::Watched;
 use ac_input::search::{Match, MatchKind};
 use ac_input::steps::Steps;
@@ -28,9 +28,9 @@ pub fn picked(next: Option<Result<Match, StreamError>>) -> Result<Option<Pick>, 
     }
 }
 
-/// The next match of a stream; or where that is asked, the next one that is held, and after the last of these the next one.
-pub fn next_pick<A: Search, R: Read>(
-    matches: &mut StreamFindIter<'_, A, R>,
+/// The next item of a stream; or where that is asked, the next one that is held, and after the last of these the next one.
+pub fn next_pick<S: ItemSearch + Drop, R: Read>(
+    matches: &mut StreamIter<'_, S, R>,
     held: bool,
 ) -> Result<Option<Pick>, Outcome> {
     let mut steps = Steps::new();

@@ -225,6 +225,16 @@ extern "C" {
         room: usize,
         count: *mut usize,
     ) -> dado_status;
+    pub fn dado_words_some(
+        ac: *const dado_automaton,
+        kind: u32,
+        haystack: *const u8,
+        len: usize,
+        from: *mut usize,
+        out: *mut dado_match,
+        room: usize,
+        count: *mut usize,
+    ) -> dado_status;
     pub fn dado_replace_into(
         ac: *const dado_automaton,
         haystack: *const u8,

@@ -60,11 +60,7 @@ impl AhoCorasickBuilder {
     /// Which of several overlapping occurrences is the match: the standard kind at first.
     pub fn match_kind(&mut self, kind: MatchKind) -> &mut AhoCorasickBuilder {
         self.match_kind = kind;
-        self.settings.kind = match kind {
-            MatchKind::Standard => sys::DADO_STANDARD,
-            MatchKind::LeftmostFirst => sys::DADO_LEFTMOST_FIRST,
-            MatchKind::LeftmostLongest => sys::DADO_LEFTMOST_LONGEST,
-        };
+        self.settings.kind = kind.number();
         self
     }
 

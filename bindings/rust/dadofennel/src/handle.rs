@@ -130,6 +130,31 @@ impl Handle {
         counted(status, count)
     }
 
+    /// The next whole words from a place on, as many as there is room for; how many there are. The place is moved after them.
+    pub(crate) fn words_some(
+        &self,
+        kind: u32,
+        haystack: &[u8],
+        from: &mut usize,
+        out: &mut [sys::dado_match],
+    ) -> Result<usize, sys::dado_status> {
+        let mut count = 0;
+        // SAFETY: the automaton, the haystack and the room are lent.
+        let status = unsafe {
+            sys::dado_words_some(
+                self.0.as_ptr(),
+                kind,
+                haystack.as_ptr(),
+                haystack.len(),
+                from,
+                out.as_mut_ptr(),
+                out.len(),
+                &mut count,
+            )
+        };
+        counted(status, count)
+    }
+
     /// A stream, which owns the automaton too.
     pub(crate) fn stream(&self) -> Result<Pieces, sys::dado_status> {
         let mut stream = Pieces(ptr::null_mut());

@@ -3,6 +3,8 @@
 use std::fmt;
 use std::ops::{Bound, Index, IndexMut, Range, RangeBounds};
 
+use dadofennel_sys as sys;
+
 use crate::PatternID;
 
 /// What is searched: a haystack, the span of it that is looked at, and how.
@@ -397,6 +399,17 @@ pub enum MatchKind {
     LeftmostFirst,
     /// The one that starts first; of those the longest, as in a POSIX one; then the lower number.
     LeftmostLongest,
+}
+
+impl MatchKind {
+    /// The number that the library has for it.
+    pub(crate) fn number(self) -> u32 {
+        match self {
+            MatchKind::Standard => sys::DADO_STANDARD,
+            MatchKind::LeftmostFirst => sys::DADO_LEFTMOST_FIRST,
+            MatchKind::LeftmostLongest => sys::DADO_LEFTMOST_LONGEST,
+        }
+    }
 }
 
 /// Whether a match must start where the search does.

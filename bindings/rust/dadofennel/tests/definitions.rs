@@ -35,7 +35,7 @@ struct Case {
 
 impl Case {
     fn new(rng: &mut Random) -> Case {
-        let alphabets: [&[&str]; 4] = [&["a", "b"], &["a", "A", "b"], &["a", "é", "€"], &["a", "😀"]];
+        let alphabets: [&[&str]; 5] = [&["a", " ", "b"], &["a", "b"], &["a", "A", "b"], &["a", "é", "€"], &["a", "😀"]];
         let alphabet = rng.one(&alphabets);
         let patterns: Vec<String> = (0..rng.below(6)).map(|_| rng.word(alphabet, 4)).collect();
         let kind = rng.one(&[MatchKind::Standard, MatchKind::LeftmostFirst, MatchKind::LeftmostLongest]);
@@ -73,11 +73,7 @@ impl Case {
 
     fn best(&self, start: usize, end: usize, anchored: bool, kind: MatchKind) -> Option<Match> {
         let found = if start <= end { self.occurrences(start, end, anchored) } else { vec![] };
-        found.into_iter().min_by_key(|it| match kind {
-            MatchKind::LeftmostFirst => (it.start(), it.pattern().as_usize(), 0),
-            MatchKind::LeftmostLongest => (it.start(), usize::MAX - it.end(), it.pattern().as_usize()),
-            _ => (it.end(), it.start(), it.pattern().as_usize()),
-        })
+        preferred(found.into_iter(), kind)
     }
 
     fn walk(&self, mut start: usize, end: usize, anchored: bool) -> Vec<Match> {
@@ -101,6 +97,15 @@ impl Case {
     fn shown(&self) -> String {
         format!("{:?} {:?} {:?} {:?} fold {}", self.patterns, self.text, self.kind, self.start_kind, self.fold)
     }
+}
+
+/// The one that the kind prefers.
+fn preferred(found: impl Iterator<Item = Match>, kind: MatchKind) -> Option<Match> {
+    found.min_by_key(|it| match kind {
+        MatchKind::LeftmostFirst => (it.start(), it.pattern().as_usize(), 0),
+        MatchKind::LeftmostLongest => (it.start(), usize::MAX - it.end(), it.pattern().as_usize()),
+        _ => (it.end(), it.start(), it.pattern().as_usize()),
+    })
 }
 
 fn cases(mut check: impl FnMut(&mut Random, &Case)) {
@@ -267,6 +272,56 @@ fn streams() {
         let found: Vec<_> = case.ac.stream_find_iter(reader(2)).filter_map(Result::ok).collect();
         assert_eq!(matches, found, "a search goes on after an error: {}", case.shown());
     });
+}
+
+fn is_word_byte(byte: Option<&u8>) -> bool {
+    byte.map_or(false, |it| it.is_ascii_alphanumeric() || *it == b'_' || *it >= 0x80)
+}
+
+/// Under each kind, beside the occurrences with no word byte beside them.
+#[test]
+fn words() {
+    cases(|_, case| {
+        let text = case.text.as_bytes();
+        let can =
+            case.kind == MatchKind::Standard && case.start_kind != StartKind::Anchored && !case.patterns.contains(&String::new());
+        for kind in [MatchKind::Standard, MatchKind::LeftmostFirst, MatchKind::LeftmostLongest] {
+            let mut left = case.occurrences(0, text.len(), false);
+            left.retain(|it| !is_word_byte(text[..it.start()].last()) && !is_word_byte(text.get(it.end())));
+            let mut wanted = vec![];
+            left.retain(|it| !it.is_empty());
+            while let Some(best) = preferred(left.iter().copied(), kind) {
+                wanted.push(best);
+                left.retain(|it| it.start() >= best.end());
+            }
+            let words = case.ac.try_find_word_iter(kind, text).map(Iterator::collect::<Vec<_>>);
+            assert_eq!(if can { Some(wanted) } else { None }, words.ok(), "{:?} {}", kind, case.shown());
+        }
+    });
+}
+
+/// Rows: within a word, at both ends, beside `_` and beside a character beyond ASCII; a word that begins another one.
+#[test]
+fn rows_of_words() {
+    let of = |patterns: &[&str], kind, text: &str| -> Vec<_> {
+        AhoCorasick::new(patterns).unwrap().find_word_iter(kind, text).map(|it| (it.pattern().as_usize(), it.range())).collect()
+    };
+    for kind in [MatchKind::Standard, MatchKind::LeftmostFirst, MatchKind::LeftmostLongest] {
+        assert!(of(&["cat"], kind, "concatenate cat_ _cat ücat catü cat9").is_empty());
+        assert_eq!(vec![(0, 0..3), (0, 7..10)], of(&["cat"], kind, "cat, a cat"));
+        assert_eq!((0, 0..3), of(&["new", "new york"], kind, "new yorker, new york")[0]);
+        assert!(of(&[], kind, "cat").is_empty() && of(&["cat"], kind, "").is_empty());
+        let many = "cat ".repeat(3000);
+        let wanted: Vec<_> = (0..3000).map(|at| (0, 4 * at..4 * at + 3)).collect();
+        assert_eq!(wanted, of(&["cat"], kind, &many));
+    }
+    let last = |kind| of(&["new", "new york"], kind, "new yorker, new york")[1].clone();
+    assert_eq!((0, 12..15), last(MatchKind::Standard));
+    assert_eq!((0, 12..15), last(MatchKind::LeftmostFirst));
+    assert_eq!((1, 12..20), last(MatchKind::LeftmostLongest));
+    let leftmost = AhoCorasick::builder().match_kind(MatchKind::LeftmostFirst).build(["cat"]).unwrap();
+    assert!(leftmost.try_find_word_iter(MatchKind::LeftmostFirst, "cat").is_err());
+    assert!(AhoCorasick::new(["cat", ""]).unwrap().try_find_word_iter(MatchKind::Standard, "cat").is_err());
 }
 
 /// In memory and over a stream, beside the occurrences.

@@ -14,7 +14,7 @@ use Rattle.ac_input.specs.Dictionary.{live_len, whole}
 use Rattle.ac_input.specs.Mask.{IsLongestEnding, masked_to_end}
 use Rattle.ac_input.specs.Occurrence.{Occurrence, Occurs}
 use Rattle.ac_input.specs.Tells.{Tells, ending}
-use Rattle.ac_input.specs.Work.{lookups_per_byte}
+use Rattle.ac_input.specs.Work.{IsLookups, lookups_per_byte}
 use Rattle.ac_input.proofs.lemmas.LiveLemmas.{occurs-front}
 use Rattle.ac_input.proofs.lemmas.MaskGrowthLemmas.{longest-told, masked-grown}
 use Rattle.ac_input.proofs.lemmas.MaskLemmas.{masked-masked}
@@ -323,31 +323,34 @@ cost-settled b Reaches sid none over settles cost = λ text p q reads g h.
       moved = sym settles.moved ∙ run.moved;
     }
 
--- what a walk from the start over a whole text costs
-pub mask-cost : (b : Built) (Reaches : Anchored → List ℕ → StateID → Type 0) (sid : StateID) {text : List ℕ}
-    {s t : Steps} → Reaches No [] sid → IsReadCost b Reaches No sid text s t
-    → IsMaskCost b (length text) s t × (t.moved.value ≡ s.moved.value)
-mask-cost b Reaches sid {text} {s} {t} begins cost =
-    let before = live-some in
-    let after = live-some in
-    let run = cost [] before.0 after.0 begins before.1 after.1 in
-    let none = live-none before.0 in
-    let some = run.some in
+-- of a text without bytes none is live
+pub live-none : (live : Option ℕ) → live_len [] live ≡ 0
+live-none None = refl
+live-none (Some from) = omega arith
+
+-- what looks at states cost where nothing was live before
+pub looks-cost : (b : Built) {n live live_after : ℕ} {s t : Steps} → live ≡ 0
+    → IsLookups b.deterministic n live live_after s t → IsMaskCost b n s t × (t.moved.value ≡ s.moved.value)
+looks-cost b {n} {live} {live_after} {s} {t} none run =
     let bound = run.bound in (
       record {
-        some = some;
+        some = run.some;
         looked = by b.deterministic refl run.one (omega (arith, none, bound));
         scanned = run.scanned;
       },
       run.moved,
     )
   where
-    live-none : (live : Option ℕ) → live_len [] live ≡ 0
-    live-none None = refl
-    live-none (Some from) = omega arith
-
-    by : (d : Bool) → b.deterministic ≡ d → (IsTrue d → t.looked.value ≡ s.looked.value + length text)
-        → t.looked.value ≤ s.looked.value + 2 * length text
-        → t.looked.value ≤ s.looked.value + lookups_per_byte d * length text
+    by : (d : Bool) → b.deterministic ≡ d → (IsTrue d → t.looked.value ≡ s.looked.value + n)
+        → t.looked.value ≤ s.looked.value + 2 * n → t.looked.value ≤ s.looked.value + lookups_per_byte d * n
     by true is one two = let e = one refl in omega (arith, e)
     by false is one two = omega (arith, two)
+
+-- what a walk from the start over a whole text costs
+pub mask-cost : (b : Built) (Reaches : Anchored → List ℕ → StateID → Type 0) (sid : StateID) {text : List ℕ}
+    {s t : Steps} → Reaches No [] sid → IsReadCost b Reaches No sid text s t
+    → IsMaskCost b (length text) s t × (t.moved.value ≡ s.moved.value)
+mask-cost b Reaches sid begins cost =
+    let before = live-some in
+    let after = live-some in
+    looks-cost b (live-none before.0) (cost [] before.0 after.0 begins before.1 after.1)

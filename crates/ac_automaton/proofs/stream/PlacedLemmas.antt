@@ -8,13 +8,14 @@ use Rattle.std.proofs.lemmas.List.Elements.{recursion_from_All}
 use Rattle.std.proofs.lemmas.List.Folds.{concat-append}
 use Rattle.ac_input.specs.declared.search.MatchKind.{MatchKind}
 use Rattle.ac_input.specs.declared.search.MatchKind.TheVariants.{Standard, LeftmostFirst, LeftmostLongest}
+use Rattle.ac_input.specs.Dictionary.{Dictionary}
 use Rattle.ac_input.specs.Occurrence.{Occurrence}
 use Rattle.ac_input.specs.Text.{replaced_from}
 use Rattle.ac_input.specs.Work.{longest}
 use Rattle.ac_automaton.specs.Automaton.{Built}
 use Rattle.ac_automaton.specs.Stream.Devices.Moved.{AllFit, HasGiven, but_last}
 use Rattle.ac_automaton.specs.InMemory.Replace.{LieInOrder}
-use Rattle.ac_automaton.specs.Stream.{AreAllGiven, CanBeCounted, Decides, FindsHeld, HasRead, IsFront, IsNear, IsOnCourse, Picks, Occurrences, ReadsNothing, Sequence, StreamProgress, closed_by, cut_of, items_of, may_wait, place_of, read_by, room_of}
+use Rattle.ac_automaton.specs.Stream.{AllWords, AreAllGiven, CanBeCounted, Decides, FindsHeld, HasRead, IsFront, IsNear, IsOnCourse, IsPrompt, LieApart, Picks, Occurrences, ReadsNothing, Sequence, StreamProgress, Words, closed_by, cut_of, items_of, may_wait, place_of, read_by, room_of, waits_for}
 use Rattle.ac_automaton.specs.Stream.Replace.{IsAtCut, IsPlaced, replaced_in}
 use Rattle.ac_automaton.specs.declared.stream.devices.watched.Watched.{Watched}
 use Rattle.ac_automaton.proofs.stream.devices.MovedLemmas.{given-push}
@@ -38,15 +39,19 @@ lies-behind patterns len at place [] [] lies begin = tt
 lies-behind patterns len at place [] (o ∷ rest) lies begin = (lies.0, begin.0, lies.2, lies.3, lies.4)
 lies-behind patterns len at place (q ∷ os) rest lies begin = lies-behind patterns len q.end place os rest lies.4 begin
 
--- a match goes on from where it starts
-pub place-start : (q : Sequence) (o : Occurrence) → q ≡ Picks → place_of q o ≡ o.start
-place-start Picks o is = refl
-place-start Occurrences o is = let e : Occurrences ≡ Picks = is in absurd (cc)
+-- a match or a word goes on from where it starts
+pub place-start : (q : Sequence) (o : Occurrence) → LieApart q → place_of q o ≡ o.start
+place-start Picks o apart = refl
+place-start Occurrences o apart = absurd apart
+place-start Words o apart = refl
+place-start AllWords o apart = absurd apart
 
 -- an item goes on from where it ends, or before that
 place-end : (q : Sequence) (o : Occurrence) → o.start < o.end → place_of q o ≤ o.end
 place-end Picks o some = omega arith
 place-end Occurrences o some = omega arith
+place-end Words o some = omega arith
+place-end AllWords o some = omega arith
 
 -- items at a place or later are at any earlier place or later
 pub all-later : (q : Sequence) (place later : ℕ) (os : List Occurrence) → place ≤ later
@@ -126,9 +131,9 @@ module _ {q : Sequence} (s t : StreamProgress q) (o : Occurrence) (course : IsOn
         let le = placed.cut in
         omega arith
 
-    -- a match begins there
-    pub match-behind : q ≡ Picks → at ≤ o.start
-    match-behind is = let behind = item-behind in let start = place-start q o is in omega arith
+    -- a match or a word begins there
+    pub match-behind : LieApart q → at ≤ o.start
+    match-behind apart = let behind = item-behind in let start = place-start q o apart in omega arith
 
     -- the text may be passed on up to the item's end
     pub item-placed : IsPlaced t o.end
@@ -203,10 +208,10 @@ decides-given course all unclosed = record {
   open_ = all.open_;
 }
 
--- no more bytes lie after the cut of a search for matches than may be kept
-near-picked : {s : StreamProgress Picks} {at : ℕ} → IsAtCut s at → s.closed ≡ false
-    → IsNear s.built.dictionary (read_by s) at
-near-picked {s} {at} place unclosed =
+-- no more bytes lie after the cut than may be kept
+pub near-cut : {q : Sequence} {s : StreamProgress q} {at : ℕ} → IsAtCut s at → s.closed ≡ false
+    → IsNear q s.built.dictionary (read_by s) at
+near-cut {s} {at} place unclosed =
     let is : at ≡ cut_of s = place.cut in
     let searched : s.at ≡ length (read_by s) = place.all.searched in
     record {
@@ -214,19 +219,6 @@ near-picked {s} {at} place unclosed =
       all = λ done. let anew = place.all.anew (done s.given (decides-given place.placed.course place.all unclosed)) in
           omega arith;
     }
-
--- no bytes lie after the cut of a search for occurrences
-near-listed : {s : StreamProgress Occurrences} {at : ℕ} → IsAtCut s at → IsNear s.built.dictionary (read_by s) at
-near-listed {s} {at} place =
-    let is : at ≡ cut_of s = place.cut in
-    let searched : s.at ≡ length (read_by s) = place.all.searched in
-    let last : s.last ≡ s.at = place.placed.course.passed refl in
-    record { kept = omega arith; all = λ done. omega arith }
-
-pub near-cut : (q : Sequence) {s : StreamProgress q} {at : ℕ} → IsAtCut s at → s.closed ≡ false
-    → IsNear s.built.dictionary (read_by s) at
-near-cut Picks place unclosed = near-picked place unclosed
-near-cut Occurrences place unclosed = near-listed place
 
 -- the text up to the cut is the front of what was read, replaced
 pub front-at_cut : (b : Built) (replacements : List (List ℕ)) {s : StreamProgress Picks} {at : ℕ} → s.built ≡ b
@@ -242,12 +234,12 @@ front-at_cut b replacements {s} {at} built place unclosed =
     let inside : at ≤ length x = omega arith in
     let begin = all-later Picks at _ left.0 (omega arith) left.2 in
     let patterns = length s.built.dictionary.patterns in
-    let lies = place.placed.lies refl in
+    let lies = place.placed.lies tt in
     subst (λ c. IsFront c.dictionary (replaced_in c replacements) x (replaced_from 0 (take at x) replacements s.given))
     built (record {
       cut = at;
       is_cut = matches-cut s.built x at patterns s.given left.0 inside left.1 lies begin;
-      near = near-picked place unclosed;
+      near = near-cut place unclosed;
       front = ap (replaced_from 0 (take at x) replacements)
           (sym (matches-front s.built x at patterns s.given left.0 course.filled inside left.1 lies begin));
     })
@@ -322,16 +314,25 @@ less-left s t u (b ∷ bs) more same some countable =
 
 -- ---- the end
 
--- a closed search decides all items of what was read
+-- a closed search decides all matches of what was read
 pub each-closed : (kind : MatchKind) (closed : Bool) → closed ≡ may_wait kind → (kind ≡ Standard) ⊎ (closed ≡ true)
 each-closed Standard closed is = inl refl
 each-closed LeftmostFirst closed is = inr is
 each-closed LeftmostLongest closed is = inr is
 
+-- it decides all items
+pub each-decided : (q : Sequence) (m : Dictionary) (closed : Bool) → closed ≡ waits_for q m
+    → IsPrompt q m ⊎ (closed ≡ true)
+each-decided Picks m closed is = each-closed m.kind closed is
+each-decided Occurrences m closed is = each-closed m.kind closed is
+each-decided Words m closed is = inr is
+each-decided AllWords m closed is = inr is
+
+-- once it is closed, a search has returned all items of what was read
 pub given-closed : {q : Sequence} (t v u : StreamProgress q) → v ≡ closed_by t → ReadsNothing v u → AreAllGiven u
     → u.given ≡ items_of q u.built.dictionary (read_by u)
-given-closed t v u is same all =
+given-closed {q} t v u is same all =
     let built : u.built ≡ t.built = same.built ∙ ap (λ p. p.built) is in
-    let closed : u.closed ≡ may_wait u.built.dictionary.kind = same.closed ∙ ap (λ p. p.closed) is
-    ∙ ap (λ b. may_wait b.dictionary.kind) (sym built) in
-    all.all (each-closed u.built.dictionary.kind u.closed closed)
+    let closed : u.closed ≡ waits_for q u.built.dictionary = same.closed ∙ ap (λ p. p.closed) is
+    ∙ ap (λ b. waits_for q b.dictionary) (sym built) in
+    all.all (each-decided q u.built.dictionary u.closed closed)

@@ -4,7 +4,7 @@ use Rattle.std.specs.List.{concat}
 use Rattle.std.proofs.lemmas.List.{append-nil, length-append}
 use Rattle.ac_input.specs.Occurrence.{Occurrence}
 use Rattle.ac_automaton.specs.InMemory.Replace.{LieInOrder}
-use Rattle.ac_automaton.specs.Stream.{AreAllGiven, FindsHeld, IsOnCourse, Occurrences, Picks, Sequence, StreamProgress, cut_of, items_of, place_of, read_by}
+use Rattle.ac_automaton.specs.Stream.{AllWords, AreAllGiven, FindsHeld, IsOnCourse, LieApart, Occurrences, Picks, Sequence, StreamProgress, Words, cut_of, items_of, place_of, read_by}
 use Rattle.ac_automaton.specs.Stream.Pump.{Handling, IsSinkChain, LiesHeld, PassesItems, StaysReady, StopsFrom, StopsPassing, bytes_between}
 use Rattle.ac_automaton.specs.Stream.Replace.{IsPlaced}
 use Rattle.ac_automaton.specs.declared.error.StreamError.{StreamError}
@@ -32,7 +32,7 @@ begins-by patterns to mid (o ∷ more) le lies = lies.1
 
 -- the bytes between two places of what is held may be lent
 pub item-held : {q : Sequence} (s t : StreamProgress q) (o : Occurrence) (course : IsOnCourse t)
-    (finds : FindsHeld s (Some o) t) (at : ℕ) → IsPlaced s at → q ≡ Picks
+    (finds : FindsHeld s (Some o) t) (at : ℕ) → IsPlaced s at → LieApart q
     → LiesHeld t at o.start × LiesHeld t o.start o.end
 item-held s t o course finds at placed is =
     let found = finds.4 in
@@ -91,6 +91,8 @@ module _ {Z : Type 0} {h : Handling Z} (lawful : IsLawful h) {q : Sequence} wher
             by : (p : Sequence) (place : ℕ) → place ≡ place_of p o → at ≤ place → o.start < o.end → at ≤ o.end
             by Picks place is le some = omega arith
             by Occurrences place is le some = omega arith
+            by Words place is le some = omega arith
+            by AllWords place is le some = omega arith
 
     -- the sink stopped at the item
     pub item-refused : (z last : Z) (error : StreamError) → h.refuses z before o matched error last
@@ -158,7 +160,7 @@ module _ {Z : Type 0} {h : Handling Z} (lawful : IsLawful h) {q : Sequence} wher
 
     pub PassesItems-then : (to : ℕ) → PassesItems h t u mid to y last → PassesItems h s u from to z last
     PassesItems-then to b =
-        let behind = λ (e : q ≡ Picks).
+        let behind = λ (e : LieApart q).
         subst (λ n. LieInOrder n to mid b.more) same-patterns (b.lies e) in
         record {
           same = ReadsNothing-then s t u a.same b.same;

@@ -1,6 +1,6 @@
 -- What has been pumped of a stream, from one read to the next, and at its end.
 use Rattle.std.proofs.Common.{◌≡◌, ◌≢◌, inl, inr, false, ℕ, ◌≤◌, List, [], ◌∷◌, ◌++◌, length, Option, None, Result, Ok, Err, refl, sym, ap, ◌∙◌, subst, arith}
-use Rattle.std.specs.List.{Contains, concat}
+use Rattle.std.specs.List.{Contains, concat, filter}
 use Rattle.std.specs.Prelude.{OnOk}
 use Rattle.std.proofs.lemmas.Bool.{false≢true}
 use Rattle.std.proofs.lemmas.List.{append-nil}
@@ -10,16 +10,18 @@ use Rattle.ac_input.specs.Computed.{listing_of}
 use Rattle.ac_input.specs.Dictionary.{Dictionary, IsLive, whole}
 use Rattle.ac_input.specs.Occurrence.{Occurrence}
 use Rattle.ac_input.specs.Walk.{IsWalk}
+use Rattle.ac_input.specs.Word.{is_whole_word}
 use Rattle.ac_input.specs.Work.{shortest}
 use Rattle.ac_input.proofs.lemmas.ContainsLemmas.{Contains-head}
 use Rattle.ac_input.proofs.lemmas.ListingLemmas.{listing_of-lists}
 use Rattle.ac_input.proofs.lemmas.TextLemmas.{pick-occurs}
 use Rattle.ac_input.proofs.lemmas.UnusedLemmas.{occurs-some}
 use Rattle.ac_input.proofs.lemmas.WalkLemmas.{pick-within}
+use Rattle.ac_input.proofs.lemmas.WordLemmas.{words-filtered}
 use Rattle.ac_automaton.specs.Automaton.{Built}
 use Rattle.ac_automaton.specs.Stream.Devices.Moved.{AreFilled, AreWhole, HasGiven, but_last}
 use Rattle.ac_automaton.specs.InMemory.Replace.{matches_in}
-use Rattle.ac_automaton.specs.Stream.{CanBeCounted, HasRead, IsOnCourse, IsSearched, Occurrences, Picks, ReadsMore, ReadsNothing, Sequence, StreamCounts, StreamProgress, closed_by, cut_of, fresh_progress, items_of, place_of, read_by}
+use Rattle.ac_automaton.specs.Stream.{AllWords, CanBeCounted, HasRead, IsOnCourse, IsSearched, Occurrences, Picks, ReadsMore, ReadsNothing, Sequence, StaysOpen, StreamCounts, StreamProgress, Words, closed_by, cut_of, fresh_progress, items_of, place_of, read_by}
 use Rattle.ac_automaton.specs.Stream.Pump.{HasComeToCut, Handling, IsSinkChain, PassesItems, Pumps, StopsFrom, StopsPassing, AnswersTake, bytes_between}
 use Rattle.ac_automaton.specs.Stream.Replace.{HasSearched, IsAtCut, IsPlaced}
 use Rattle.ac_automaton.specs.declared.error.StreamError.{StreamError}
@@ -32,6 +34,7 @@ use Rattle.ac_automaton.proofs.stream.PumpLemmas.{begins-by}
 use Rattle.ac_automaton.proofs.stream.SearchReadLemmas.{nothing-in_empty}
 use Rattle.ac_automaton.proofs.stream.SinkChainLemmas.{IsLawful, chain-longer, chain-none, chain-then}
 use Rattle.ac_automaton.proofs.stream.StreamCutLemmas.{matches-walk}
+use Rattle.ac_automaton.proofs.stream.StreamWordLemmas.{no-words}
 
 -- ---- before the first read
 
@@ -57,14 +60,25 @@ nothing-occurs m (o ∷ os) filled is =
     let within = occurs.within.2 in
     absurd (omega arith)
 
--- so it has no item of either sequence
+-- so it has no item of any sequence
 pub no-items : (q : Sequence) (b : Built) → 1 ≤ shortest b.dictionary.patterns → [] ≡ items_of q b.dictionary []
 no-items Picks b filled = nothing-matches b (matches_in b []) filled (matches-walk b [])
 no-items Occurrences b filled = nothing-occurs b.dictionary (items_of Occurrences b.dictionary []) filled refl
+no-items Words b filled = no-words b.dictionary filled
+no-items AllWords b filled =
+    ap (filter (is_whole_word [])) (nothing-occurs b.dictionary (items_of Occurrences b.dictionary []) filled refl)
+    ∙ sym (words-filtered (whole b.dictionary [] false) (omega arith))
 
 -- an empty text isn't dead
 pub empty-alive : (b : Built) → 1 ≤ shortest b.dictionary.patterns → ¬ IsLive b.dictionary false [] None
 empty-alive b filled = none-alive b.dictionary b.dictionary.kind [] (nothing-in_empty b.dictionary [] filled refl)
+
+-- what follows it may change the first item
+empty-open : (q : Sequence) (b : Built) → 1 ≤ shortest b.dictionary.patterns → StaysOpen q b.dictionary [] []
+empty-open Picks b filled = empty-alive b filled
+empty-open Occurrences b filled = empty-alive b filled
+empty-open Words b filled = λ best least. let none = least.0.1 in absurd (omega arith)
+empty-open AllWords b filled = λ o word before. absurd (omega arith)
 
 -- a search that has read nothing stands at the cut
 fresh-at_cut : (q : Sequence) (b : Built) → IsOnCourse {q = q} (fresh_progress b)
@@ -75,7 +89,7 @@ fresh-at_cut q b course = record {
   all = record {
     searched = refl;
     all = λ each. no-items q b course.filled;
-    open_ = empty-alive b course.filled;
+    open_ = empty-open q b course.filled;
     anew = λ done. refl;
   };
 }
@@ -137,7 +151,7 @@ module _ {Z : Type 0} {h : Handling Z} (lawful : IsLawful h) {q : Sequence} {R :
         later = λ more.
             let left = course.decided more (λ closed. absurd (false≢true (sym p.unclosed ∙ closed))) in
             (left.0, left.1, all-later q at _ left.0 (omega arith) left.2);
-        near = near-cut q p.place p.unclosed;
+        near = near-cut p.place p.unclosed;
         lies = p.place.placed.lies;
         chain = p.chain;
         settled = p.settled;

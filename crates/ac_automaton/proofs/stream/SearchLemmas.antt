@@ -271,7 +271,7 @@ pub search-decided : (s : StreamProgress Picks) (Reaches : List ℕ → StateID 
 search-decided s Reaches start sid best o looks y z stands countable held open_ pick done bound some one =
     let course = stands.course in
     let behind : s.last ≤ o.start = held.behind in
-    let from = held.held refl in
+    let from = held.held tt in
     let filled = held.some in
     let within = held.within in
     let again = given-more s.built.dictionary s.given o in

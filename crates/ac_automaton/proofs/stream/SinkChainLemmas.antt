@@ -5,7 +5,7 @@ use Rattle.std.proofs.Math.Seq.{take-add}
 use Rattle.ac_input.specs.Occurrence.{Occurrence}
 use Rattle.ac_input.proofs.lemmas.BeginningLemmas.{slice_range-append}
 use Rattle.ac_automaton.specs.InMemory.Replace.{LieInOrder}
-use Rattle.ac_automaton.specs.Stream.{Occurrences, Picks, Sequence}
+use Rattle.ac_automaton.specs.Stream.{AllWords, LieApart, Occurrences, Picks, Sequence, Words}
 use Rattle.ac_automaton.specs.Stream.Pump.{Handling, IsSinkChain, bytes_between}
 use Rattle.ac_automaton.proofs.lemmas.CursorLemmas.{part-empty}
 
@@ -20,21 +20,34 @@ slice_range-join x a b c le more =
     ∙ sym (take-add (b - a) (c - b) (drop a x))
     ∙ ap (λ k. take k (drop a x)) n
 
-pub between-join : (q : Sequence) (x : List ℕ) (a b c : ℕ) → (q ≡ Picks → (a ≤ b) × (b ≤ c))
+pub between-join : (q : Sequence) (x : List ℕ) (a b c : ℕ) → (LieApart q → (a ≤ b) × (b ≤ c))
     → bytes_between q x a b ++ bytes_between q x b c ≡ bytes_between q x a c
-between-join Picks x a b c order = slice_range-join x a b c (order refl).0 (order refl).1
+between-join Picks x a b c order = slice_range-join x a b c (order tt).0 (order tt).1
 between-join Occurrences x a b c order = refl
+between-join Words x a b c order = slice_range-join x a b c (order tt).0 (order tt).1
+between-join AllWords x a b c order = refl
 
 -- no bytes lie between a place and itself
 pub between-none : (q : Sequence) (x : List ℕ) (a : ℕ) → bytes_between q x a a ≡ []
 between-none Picks x a = part-empty x a
 between-none Occurrences x a = refl
+between-none Words x a = part-empty x a
+between-none AllWords x a = refl
 
 -- the bytes between two places of a text are there in a longer text too
-pub between-append : (q : Sequence) (x more : List ℕ) (a b : ℕ) → (q ≡ Picks → (a ≤ b) × (b ≤ length x))
+pub between-append : (q : Sequence) (x more : List ℕ) (a b : ℕ) → (LieApart q → (a ≤ b) × (b ≤ length x))
     → bytes_between q (x ++ more) a b ≡ bytes_between q x a b
-between-append Picks x more a b order = slice_range-append x more (order refl).0 (order refl).1
+between-append Picks x more a b order = slice_range-append x more (order tt).0 (order tt).1
 between-append Occurrences x more a b order = refl
+between-append Words x more a b order = slice_range-append x more (order tt).0 (order tt).1
+between-append AllWords x more a b order = refl
+
+-- the bytes between two places, of items that lie one after another
+pub between-is : (q : Sequence) (x : List ℕ) (a b : ℕ) → LieApart q → bytes_between q x a b ≡ slice_range x a b
+between-is Picks x a b apart = refl
+between-is Occurrences x a b apart = absurd apart
+between-is Words x a b apart = refl
+between-is AllWords x a b apart = absurd apart
 
 -- ---- the chain
 
@@ -58,7 +71,7 @@ module _ {Z : Type 0} {h : Handling Z} (lawful : IsLawful h) (q : Sequence) wher
 
   -- one chain after another
   pub chain-then : (patterns : ℕ) (x : List ℕ) (at mid to : ℕ) (os more : List Occurrence) (z y last : Z)
-      → (q ≡ Picks → LieInOrder patterns mid at os × (at ≤ mid) × (mid ≤ begin_of more to))
+      → (LieApart q → LieInOrder patterns mid at os × (at ≤ mid) × (mid ≤ begin_of more to))
       → IsSinkChain h q x at os mid z y → IsSinkChain h q x mid more to y last
       → IsSinkChain h q x at (os ++ more) to z last
   chain-then patterns x at mid to [] [] z y last order one two =
@@ -80,7 +93,7 @@ module _ {Z : Type 0} {h : Handling Z} (lawful : IsLawful h) (q : Sequence) wher
 -- the chain over a text is one over any longer text
 pub chain-longer : {Z : Type 0} (h : Handling Z) (q : Sequence) (patterns : ℕ) (x y : List ℕ) (at to : ℕ)
     (os : List Occurrence) (z last : Z)
-    → (q ≡ Picks → LieInOrder patterns to at os × (at ≤ to) × (to ≤ length x))
+    → (LieApart q → LieInOrder patterns to at os × (at ≤ to) × (to ≤ length x))
     → IsSinkChain h q x at os to z last → IsSinkChain h q (x ++ y) at os to z last
 chain-longer h q patterns x y at to [] z last order one =
     subst (λ bytes. h.takes z bytes last) (sym (between-append q x y at to (λ e. ((order e).1, (order e).2)))) one

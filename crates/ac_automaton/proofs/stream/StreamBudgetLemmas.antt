@@ -16,7 +16,7 @@ budget-from true looked live at paid one = let e = one refl in omega arith
 budget-from false looked live at paid one = omega arith
 
 -- The bytes passed, those read again and those read ahead are at most all bytes and those that may be looked at again.
-passed-within : (kind : MatchKind) (long matches at ahead n : ℕ) → at ≤ n → ahead ≤ n
+pub passed-within : (kind : MatchKind) (long matches at ahead n : ℕ) → at ≤ n → ahead ≤ n
     → (kind ≡ Standard → at + ahead ≤ n)
     → at + again_for kind long 0 matches + ahead ≤ n + again_for kind long n matches
 passed-within Standard long matches at ahead n le few standard = let e = standard refl in omega arith
@@ -26,7 +26,7 @@ passed-within LeftmostLongest long matches at ahead n le few standard = let agai
     omega arith
 
 -- under standard no byte is read again, so the looks are for the bytes passed and for those read ahead
-looks-near : (kind : MatchKind) (deterministic : Bool) (long matches looked at ahead : ℕ)
+pub looks-near : (kind : MatchKind) (deterministic : Bool) (long matches looked at ahead : ℕ)
     → looked ≤ lookups_per_byte deterministic * (at + again_for kind long 0 matches) → kind ≡ Standard
     → ahead ≤ most_ahead → looked + ahead ≤ lookups_per_byte deterministic * at + most_ahead
 looks-near Standard true long matches looked at ahead le standard few = omega arith

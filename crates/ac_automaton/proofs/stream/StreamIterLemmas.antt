@@ -8,12 +8,9 @@ use Rattle.std.proofs.lemmas.List.Folds.{concat-append}
 use Rattle.ac_input.specs.declared.steps.Steps.{Steps}
 use Rattle.std.specs.Io.KnownBytes.{IsAtEnd}
 use Rattle.ac_input.specs.Number.{usize_max}
-use Rattle.ac_input.specs.declared.search.MatchKind.{MatchKind}
-use Rattle.ac_input.specs.declared.search.MatchKind.TheVariants.{Standard, LeftmostFirst, LeftmostLongest}
-use Rattle.ac_input.specs.Dictionary.{IsLive}
+use Rattle.ac_input.specs.declared.search.MatchKind.TheVariants.{Standard}
 use Rattle.ac_input.specs.Occurrence.{Occurrence}
-use Rattle.ac_input.proofs.lemmas.LiveLemmas.{kind_cases}
-use Rattle.ac_automaton.specs.Stream.{AreAllGiven, CanBeCounted, EachIsDecided, FindsHeld, HasRead, IsHeldItem, NothingIsLive, Occurrences, Picks, ReadsMore, ReadsNothing, Sequence, StreamCounts, StreamProgress, closed_by, end_of, items_of, may_wait, read_by, room_of}
+use Rattle.ac_automaton.specs.Stream.{AllWords, AreAllGiven, CanBeCounted, EachIsDecided, FindsHeld, HasRead, IsHeldItem, IsPrompt, NothingIsLive, Occurrences, Picks, ReadsMore, ReadsNothing, Sequence, StaysOpen, StreamCounts, StreamProgress, Words, closed_by, end_of, items_of, made_from, read_by, room_of}
 use Rattle.ac_automaton.specs.Stream.Devices.Moved.{AreFilled, AreWhole, but_last}
 use Rattle.ac_automaton.specs.Stream.Iter.{HadGiven, HasGained, IsReadForItem, IsStopped, NextGives, StaysStopped, TurnGives, TurnReads, read_before}
 use Rattle.ac_automaton.specs.declared.error.StreamError.{StreamError}
@@ -21,6 +18,7 @@ use Rattle.ac_automaton.specs.declared.error.StreamError.TheVariants.{Config, Re
 use Rattle.ac_automaton.specs.declared.stream.Turn.TheVariants.{Found, More, Ended, Over, Failed}
 use Rattle.ac_automaton.specs.declared.stream.devices.watched.Watched.{Watched}
 use Rattle.ac_automaton.proofs.stream.devices.MovedLemmas.{AreFilled-push, given-none, given-push, is_empty-none}
+use Rattle.ac_automaton.proofs.stream.SequenceLemmas.{prompt_cases, waits-unless_prompt}
 use Rattle.ac_automaton.proofs.stream.StreamCountLemmas.{StreamCounts-then}
 
 -- ---- one turn
@@ -116,17 +114,17 @@ pub data HowItStands {R : Type 0} {q : Sequence} (remaining : R → Option (List
   GoesOnReading : AreFilled gained → (gained ≢ [] → (¬ IsTrue after.ended) × (t.closed ≡ false))
       → HowItStands remaining s t after gained
   HasEnded : AreWhole gained → after.ended ≡ true → IsAtEnd (remaining after.inner)
-      → (t.built.dictionary.kind ≡ Standard → AreAllGiven t) → (t.built.dictionary.kind ≢ Standard → t.closed ≡ true)
+      → (IsPrompt q t.built.dictionary → AreAllGiven t) → (¬ IsPrompt q t.built.dictionary → t.closed ≡ true)
       → HowItStands remaining s t after gained
 
--- The last turn read. All decided items of what was read before had been returned, and what came after them wasn't
--- dead.
+-- The last turn read. All decided items of what was read before had been returned, and what followed could still change the
+-- next one.
 pub record HasJustRead {q : Sequence} (s t : StreamProgress q) : Type 0 where
   pub all : HadGiven s t
   pub at : t.at ≡ length (read_before t)
   pub front : take t.at (read_by t) ≡ read_before t
   pub countable : CanBeCounted (read_by t)
-  pub open_ : ¬ IsLive s.built.dictionary false (drop (end_of s.given) (read_before t)) None
+  pub open_ : StaysOpen q s.built.dictionary (read_before t) s.given
 
 -- Some turns have been made, each of which read.
 pub record HasTurned {R : Type 0} {q : Sequence} (remaining : R → Option (List ℕ)) (s t : StreamProgress q)
@@ -193,10 +191,10 @@ module _ {R : Type 0} {q : Sequence} {remaining : R → Option (List ℕ)} {s t 
   turned-before : read_before u ≡ read_by turn.mid
   turned-before = before-last turn
 
-  -- under standard all items of what was read before the turn had been returned
+  -- where each item is decided with its last byte, all of what was read before the turn had been returned
   pub turned-had : HadGiven s u
-  turned-had = λ standard.
-      sym turned-given ∙ turn.all.all (inl (subst (λ b. b.dictionary.kind ≡ Standard) (sym turned-built) standard))
+  turned-had = λ prompt.
+      sym turned-given ∙ turn.all.all (inl (subst (λ b. IsPrompt q b.dictionary) (sym turned-built) prompt))
       ∙ ap (λ b. items_of q b.dictionary (read_by turn.mid)) turned-built
       ∙ ap (items_of q s.built.dictionary) (sym turned-before)
 
@@ -218,13 +216,12 @@ module _ {R : Type 0} {q : Sequence} {remaining : R → Option (List ℕ)} {s t 
       text = ap concat turn.read.pieces ∙ concat-append turn.mid.pieces (piece ∷ [])
           ∙ ap (λ l. read_by turn.mid ++ l) (append-nil piece) ∙ ap (λ l. l ++ piece) (sym turned-before)
 
-      -- what comes after the items returned isn't dead
-      turned-open : ¬ IsLive s.built.dictionary false (drop (end_of s.given) (read_before u)) None
+      -- what followed could still change the next item
+      turned-open : StaysOpen q s.built.dictionary (read_before u) s.given
       turned-open =
-          subst (λ l. ¬ IsLive s.built.dictionary false (drop (end_of s.given) l) None) (sym turned-before)
-          (subst (λ os. ¬ IsLive s.built.dictionary false (drop (end_of os) (read_by turn.mid)) None) turned-given
-          (subst (λ b. ¬ IsLive b.dictionary false (drop (end_of turn.mid.given) (read_by turn.mid)) None) turned-built
-          turn.all.open_))
+          subst (λ l. StaysOpen q s.built.dictionary l s.given) (sym turned-before)
+          (subst (λ os. StaysOpen q s.built.dictionary (read_by turn.mid) os) turned-given
+          (subst (λ b. StaysOpen q b.dictionary (read_by turn.mid) turn.mid.given) turned-built turn.all.open_))
 
   -- no piece gained so far is empty
   turned-reads : HowItStands remaining s t mid has.gained → AreFilled has.gained
@@ -270,30 +267,24 @@ all-given-still {R} {q} {u} turn =
       searched = read.at ∙ turn.all.searched ∙ ap length (sym same);
       all = λ each. read.given ∙ turn.all.all (each-before each) ∙ ap (items_of q turn.mid.built.dictionary) (sym same)
           ∙ ap (λ b. items_of q b.dictionary (read_by u)) (sym read.built);
-      open_ = subst (λ l. ¬ IsLive u.built.dictionary false l None) (sym rest)
-          (subst (λ b. ¬ IsLive b.dictionary false (drop (end_of turn.mid.given) (read_by turn.mid)) None)
-          (sym read.built)
-          turn.all.open_);
+      open_ = subst (λ l. StaysOpen q u.built.dictionary l u.given) (sym same)
+          (subst (λ os. StaysOpen q u.built.dictionary (read_by turn.mid) os) (sym read.given)
+          (subst (λ b. StaysOpen q b.dictionary (read_by turn.mid) turn.mid.given) (sym read.built)
+          turn.all.open_));
       anew = λ done. read.last ∙ turn.all.anew
-          (subst (λ b. NothingIsLive b.dictionary (drop (end_of turn.mid.given) (read_by turn.mid))) read.built
-          (subst (NothingIsLive u.built.dictionary) rest done)) ∙ sym read.at;
+          (subst (λ b. NothingIsLive (made_from q b.dictionary) (drop (end_of turn.mid.given) (read_by turn.mid)))
+          read.built (subst (NothingIsLive (made_from q u.built.dictionary)) rest done)) ∙ sym read.at;
     }
   where
     each-before : EachIsDecided u → EachIsDecided turn.mid
-    each-before (inl standard) = inl (subst (λ b. b.dictionary.kind ≡ Standard) turn.read.built standard)
+    each-before (inl prompt) = inl (subst (λ b. IsPrompt q b.dictionary) turn.read.built prompt)
     each-before (inr closed) = inr (sym turn.read.closed ∙ closed)
 
--- under the standard kind, closing a search leaves all of its matches returned
-given-closed : {q : Sequence} (u : StreamProgress q) → u.built.dictionary.kind ≡ Standard → AreAllGiven u
+-- where each item is decided with its last byte, closing a search leaves all of them returned
+given-closed : {q : Sequence} (u : StreamProgress q) → IsPrompt q u.built.dictionary → AreAllGiven u
     → AreAllGiven (closed_by u)
-given-closed u standard all =
-    record { searched = all.searched; all = λ each. all.all (inl standard); open_ = all.open_; anew = all.anew }
-
--- under a leftmost kind a closed search knows that no more comes
-closed-leftmost : (kind : MatchKind) → kind ≢ Standard → may_wait kind ≡ true
-closed-leftmost Standard leftmost = absurd (leftmost refl)
-closed-leftmost LeftmostFirst leftmost = refl
-closed-leftmost LeftmostLongest leftmost = refl
+given-closed u prompt all =
+    record { searched = all.searched; all = λ each. all.all (inl prompt); open_ = all.open_; anew = all.anew }
 
 -- some turns and one more that ended the input
 pub turned-ended : {R : Type 0} {q : Sequence} {remaining : R → Option (List ℕ)} {s t u : StreamProgress q}
@@ -322,8 +313,8 @@ turned-ended {R} {q} {remaining} {s} {t} {before} {after} {x} {y} {z} has turn c
           };
           how = HasEnded (has.gained, turned-filled has turn.1, refl)
               read.read.turns.1 (read.read.at_end refl ([], tt, refl))
-              (λ standard. given-closed v standard (all-given-still turn.1))
-              (λ leftmost. closed-leftmost v.built.dictionary.kind leftmost);
+              (λ prompt. given-closed v prompt (all-given-still turn.1))
+              (λ waits. waits-unless_prompt q v.built.dictionary waits);
           given = read.given ∙ turn.1.given ∙ has.given;
           fresh = λ some.
               let just =
@@ -361,22 +352,23 @@ read-for : {R : Type 0} {q : Sequence} {remaining : R → Option (List ℕ)} {s 
     → HowItStands remaining s t after has.gained → FindsHeld t (Some o) u → IsReadForItem s u has.gained
 read-for has (GoesOnReading filled goes) finds =
     inl (filled, finds.0.closed ∙ closed-still has goes)
-read-for {R} {t} has (HasEnded whole ended at_end given closed) finds = ⊎_elim
-    (λ (standard : t.built.dictionary.kind ≡ Standard). absurd (finds.6 (given standard)))
-    (λ (leftmost : t.built.dictionary.kind ≢ Standard).
+read-for {R} {q} {t} has (HasEnded whole ended at_end given closed) finds = ⊎_elim
+    (λ (prompt : IsPrompt q t.built.dictionary). absurd (finds.6 (given prompt)))
+    (λ (waits : ¬ IsPrompt q t.built.dictionary).
     inr (
-      subst (λ b. b.dictionary.kind ≢ Standard) (sym finds.0.built) leftmost,
+      subst (λ b. ¬ IsPrompt q b.dictionary) (sym finds.0.built) waits,
       whole,
-      finds.0.closed ∙ closed leftmost,
+      finds.0.closed ∙ closed waits,
     ))
-    (kind_cases t.built.dictionary.kind)
+    (prompt_cases q t.built.dictionary)
 
 -- an item found ends after all that was searched, if all items of that were returned
 ends-later : (q : Sequence) (t : StreamProgress q) (o : Occurrence) → IsHeldItem t o
-    → t.built.dictionary.kind ≡ Standard → t.given ≡ items_of q t.built.dictionary (take t.at (read_by t))
-    → t.at < o.end
+    → IsPrompt q t.built.dictionary → t.given ≡ items_of q t.built.dictionary (take t.at (read_by t)) → t.at < o.end
 ends-later Picks t o held standard all = held.new refl standard
 ends-later Occurrences t o held standard all = held.past refl all
+ends-later Words t o held prompt all = absurd prompt
+ends-later AllWords t o held prompt all = absurd prompt
 
 -- a turn that found an item returns it
 pub turned-found : {R : Type 0} {q : Sequence} {remaining : R → Option (List ℕ)} {s t u : StreamProgress q}
@@ -393,21 +385,22 @@ turned-found {R} {q} {remaining} {s} {t} {u} {before} {o} has turn = record {
   pattern = subst (λ b. o.pattern < length b.dictionary.patterns) has.has.built held.pattern;
   behind = let l = has.has.last in let b = held.behind in omega arith;
   some = held.some;
-  new = λ picks standard. let a = has.on standard in let new = held.new picks (there standard) in omega arith;
+  new = λ picks standard. let a = has.on standard in
+      let new = held.new picks (subst (λ b. b.dictionary.kind ≡ Standard) (sym has.has.built) standard) in omega arith;
   within = subst (λ l. o.end ≤ length (concat l)) (sym finds.0.pieces) held.within;
   countable = subst (λ l. CanBeCounted (concat l)) (sym finds.0.pieces) finds.5;
   due = λ some.
       let fresh = has.fresh some in
       record {
-        all = λ standard. fresh.all standard ∙ ap (items_of q s.built.dictionary) (sym same);
-        ends = λ standard.
-            let new = ends-later q t o held (there standard)
-            (has.given ∙ fresh.all standard ∙ ap (items_of q s.built.dictionary) (sym fresh.front)
+        all = λ prompt. fresh.all prompt ∙ ap (items_of q s.built.dictionary) (sym same);
+        ends = λ prompt.
+            let new = ends-later q t o held (there prompt)
+            (has.given ∙ fresh.all prompt ∙ ap (items_of q s.built.dictionary) (sym fresh.front)
             ∙ ap (λ b. items_of q b.dictionary (take t.at (read_by t))) (sym has.has.built)) in
             let e = ap length same in
             let at = fresh.at in
             omega arith;
-        open_ = subst (λ l. ¬ IsLive s.built.dictionary false (drop (end_of s.given) l) None) (sym same) fresh.open_;
+        open_ = subst (λ l. StaysOpen q s.built.dictionary l s.given) (sym same) fresh.open_;
       };
 }
   where
@@ -417,8 +410,8 @@ turned-found {R} {q} {remaining} {s} {t} {u} {before} {o} has turn = record {
     held : IsHeldItem t o
     held = finds.4
 
-    there : s.built.dictionary.kind ≡ Standard → t.built.dictionary.kind ≡ Standard
-    there standard = subst (λ b. b.dictionary.kind ≡ Standard) (sym has.has.built) standard
+    there : IsPrompt q s.built.dictionary → IsPrompt q t.built.dictionary
+    there prompt = subst (λ b. IsPrompt q b.dictionary) (sym has.has.built) prompt
 
     same : read_before u ≡ read_before t
     same = ap (λ l. concat (but_last l)) finds.0.pieces
@@ -440,7 +433,7 @@ read-to_end {R} {u} {mid} has (GoesOnReading filled goes) nothing stopped = ⊎_
     many (subst (λ l. CanBeCounted (concat l)) (sym nothing.pieces) (has.fresh some).countable))
     stopped))
     (none-or-some has.gained)
-read-to_end {R} {t} {u} {mid} has (HasEnded whole ended at_end given closed) nothing stopped = ⊎_elim
+read-to_end {R} {q} {t} {u} {mid} has (HasEnded whole ended at_end given closed) nothing stopped = ⊎_elim
     (λ (over : ((mid.ended ≡ true) ⊎ (u.closed ≡ true)) × AreAllGiven u). inr (whole, over.1, each, at_end))
     (λ (many : ¬ CanBeCounted (read_by u)).
     absurd (many (subst (λ l. CanBeCounted (concat l)) (sym nothing.pieces) (has.fresh some).countable)))
@@ -452,10 +445,10 @@ read-to_end {R} {t} {u} {mid} has (HasEnded whole ended at_end given closed) not
 
     each : EachIsDecided u
     each = ⊎_elim
-        (λ (standard : t.built.dictionary.kind ≡ Standard).
-        inl (subst (λ b. b.dictionary.kind ≡ Standard) (sym nothing.built) standard))
-        (λ (leftmost : t.built.dictionary.kind ≢ Standard). inr (nothing.closed ∙ closed leftmost))
-        (kind_cases t.built.dictionary.kind)
+        (λ (prompt : IsPrompt q t.built.dictionary).
+        inl (subst (λ b. IsPrompt q b.dictionary) (sym nothing.built) prompt))
+        (λ (waits : ¬ IsPrompt q t.built.dictionary). inr (nothing.closed ∙ closed waits))
+        (prompt_cases q t.built.dictionary)
 
 -- a turn at the end returns no item
 pub turned-over : {R : Type 0} {q : Sequence} {remaining : R → Option (List ℕ)} {s t u : StreamProgress q}

@@ -1,25 +1,28 @@
 -- How many items of a stream are left: each call that returns one leaves fewer.
-use Rattle.std.proofs.Common.{◌≡◌, ⊎_elim, inl, inr, ℕ, ◌+◌, ◌-◌, ◌*◌, ◌<◌, ◌≤◌, Bool, true, false, List, [], ◌∷◌, ◌++◌, length, Option, None, Some, Result, Ok, Err, sym, ap, subst, refl, ◌∙◌, arith, append-nil, length-append}
+use Rattle.std.proofs.Common.{◌≡◌, ⊎_elim, inr, ℕ, ◌+◌, ◌-◌, ◌*◌, ◌<◌, ◌≤◌, Bool, true, false, not, List, [], ◌∷◌, ◌++◌, length, Option, None, Some, Result, Ok, Err, sym, ap, subst, refl, ◌∙◌, arith, append-nil, length-append}
 use Rattle.std.specs.Iterator.{MakesProgress, at_most}
 use Rattle.std.specs.List.{concat}
 use Rattle.std.proofs.Math.Nat.{mul-le-mul_left}
 use Rattle.std.proofs.lemmas.Bool.{cases_lt, false≢true}
 use Rattle.std.proofs.lemmas.Bool.Decides.{nat_tests}
+use Rattle.std.proofs.lemmas.List.Filters.{length-filter_both}
 use Rattle.std.proofs.lemmas.List.Folds.{concat-append}
 use Rattle.ac_input.specs.Number.{usize_max}
 use Rattle.ac_input.specs.Input.{whole_of}
+use Rattle.ac_input.specs.Dictionary.{whole}
 use Rattle.ac_input.specs.Occurrence.{Occurrence}
+use Rattle.ac_input.specs.Word.{is_whole_word}
+use Rattle.ac_input.proofs.lemmas.WordLemmas.{words-filtered}
 use Rattle.ac_automaton.specs.Automaton.{Built}
-use Rattle.ac_automaton.specs.Stream.Devices.Moved.{AreFilled, AreInTurn}
+use Rattle.ac_automaton.specs.Stream.Devices.Moved.{AreInTurn}
 use Rattle.ac_automaton.specs.InMemory.Overlapping.OverlappingIter.{fresh_run}
-use Rattle.ac_automaton.specs.Stream.{CanBeCounted, FindsHeld, IsOnCourse, Occurrences, Picks, Sequence, StreamProgress, items_of, read_by}
-use Rattle.ac_automaton.specs.Stream.Iter.{GivesItem, HasGained, IsReadForItem, IsStopped, NextGives, PassesPlaces, ReturnsNext, StaysStopped, items_left, matches_left, most_left, occurrences_left}
+use Rattle.ac_automaton.specs.Stream.{AllWords, CanBeCounted, FindsHeld, IsOnCourse, Occurrences, Picks, Sequence, StreamProgress, Words, items_of, read_by}
+use Rattle.ac_automaton.specs.Stream.Iter.{GivesItem, HasGained, IsStopped, NextGives, PassesPlaces, ReturnsNext, StaysStopped, items_left, listed_left, matches_left, most_left, occurrences_left}
 use Rattle.ac_automaton.specs.declared.error.StreamError.{StreamError}
 use Rattle.ac_automaton.specs.declared.error.StreamError.TheVariants.{Config, Read, Write, WriteZero, Memory, Position}
 use Rattle.ac_automaton.specs.declared.stream.StreamIter.{StreamIter}
 use Rattle.ac_automaton.specs.declared.stream.devices.watched.Watched.{Watched}
 use Rattle.ac_automaton.proofs.in_memory.iter.ItemsLemmas.{listing-few}
-use Rattle.ac_automaton.proofs.stream.devices.MovedLemmas.{turns-filled}
 
 -- ---- over numbers
 
@@ -102,18 +105,21 @@ module _ {R : Type 0} {q : Sequence} (remaining : R → Option (List ℕ)) (s t 
       let many = passed-many in
       omega arith)
 
--- ---- matches
+-- ---- matches and words
 
--- a match leaves fewer
-match-leaves : {R : Type 0} {remaining : R → Option (List ℕ)} {s t : StreamProgress Picks} {before after : Watched R}
-    {o : Occurrence} → ReturnsNext remaining s t before after o → IsOnCourse t
-    → items_left Picks t after.ended < items_left Picks s before.ended
-match-leaves {s} {t} {before} {after} {o} next course =
+-- how many items that lie one after another are left at most
+abbrev pub apart_left : {q : Sequence} → StreamProgress q → Bool → ℕ
+apart_left s ended = matches_left (length (read_by s)) s.last ended
+
+-- a match or a word leaves fewer
+match-leaves : {R : Type 0} {q : Sequence} {remaining : R → Option (List ℕ)} {s t : StreamProgress q}
+    {before after : Watched R} {o : Occurrence} → ReturnsNext remaining s t before after o → s.last ≤ o.start
+    → IsOnCourse t → apart_left t after.ended < apart_left s before.ended
+match-leaves {s} {t} {before} {after} {o} next behind course =
     let has = next.has in
     let long = read-gained has in
     let last : t.last ≡ o.end = next.come.0 in
     let order = course.ordered in
-    let behind : s.last ≤ o.start = next.behind in
     let some = next.some in
     match-fewer (length (read_by s)) (length (read_by t)) s.last t.last before.ended after.ended (omega arith)
     next.countable (omega arith) (omega (arith, order.0, order.1))
@@ -121,9 +127,9 @@ match-leaves {s} {t} {before} {after} {o} next course =
     let none = ap (λ l. length (concat l)) still.0 in (omega arith, still.1))
 
 -- an error leaves fewer
-error-leaves : {R : Type 0} (remaining : R → Option (List ℕ)) (s t : StreamProgress Picks) (before after : Watched R)
-    (error : StreamError) → NextGives remaining s t before after (Some (Err error)) → ¬ IsStopped s before
-    → items_left Picks t after.ended < items_left Picks s before.ended
+error-leaves : {R : Type 0} {q : Sequence} (remaining : R → Option (List ℕ)) (s t : StreamProgress q)
+    (before after : Watched R) (error : StreamError) → NextGives remaining s t before after (Some (Err error))
+    → ¬ IsStopped s before → apart_left t after.ended < apart_left s before.ended
 error-leaves remaining s t before after (Config error) next goes = absurd next
 error-leaves remaining s t before after (Read error) next goes =
     let open_ : before.ended ≡ false = open-before before.ended after.ended next.filled [] next.has.read.turns in
@@ -140,7 +146,7 @@ error-leaves remaining s t before after Position next goes =
     let left = ap (matches_left (length (read_by s)) s.last) (passed-open remaining s t before after few next) in
     omega arith
 
--- ---- occurrences
+-- ---- listings
 
 -- The bytes that can be counted have at most one occurrence of each pattern for each place.
 occurrences-few : (b : Built) (x : List ℕ) → CanBeCounted x
@@ -152,21 +158,29 @@ occurrences-few b x few =
     more : CanBeCounted x → length x + 1 ≤ 18446744073709551616
     more le = omega (arith, le)
 
--- with one more occurrence returned, fewer are left
-found-fewer : (read later given some all listed most : ℕ) (ended : Bool) → read ≤ later → later ≤ usize_max
-    → some ≡ given + 1 → some ≤ all → all ≤ most → (ended ≡ true → listed ≡ all)
-    → occurrences_left later all some most ended < occurrences_left read listed given most ended
-found-fewer read later given some all listed most true le few one within fits still = let e = still refl in
-    grind (arith, nat_tests)
-found-fewer read later given some all listed most false le few one within fits still = grind (arith, nat_tests)
+-- with one more item returned, fewer are left
+found-fewer : (read later given some all listed most : ℕ) (ended ends : Bool) → read ≤ later → later ≤ usize_max
+    → some ≡ given + 1 → some ≤ all → all ≤ most → (ended ≡ true → (listed ≡ all) × (ends ≡ true))
+    → occurrences_left later all some most ends < occurrences_left read listed given most ended
+found-fewer read later given some all listed most true true le few one within fits still =
+    let same = still refl in let e = same.0 in grind (arith, nat_tests)
+found-fewer read later given some all listed most true false le few one within fits still =
+    let same = still refl in absurd (false≢true same.1)
+found-fewer read later given some all listed most false true le few one within fits still = grind (arith, nat_tests)
+found-fewer read later given some all listed most false false le few one within fits still = grind (arith, nat_tests)
+
+-- once the reader has ended, fewer are left
+listed-ended : (read later given listed all most : ℕ) → read ≤ usize_max → (later ≤ usize_max → all ≤ most)
+    → occurrences_left later all given most true < occurrences_left read listed given most false
+listed-ended read later given listed all most few fits =
+    ⊎_elim
+    (λ (many : usize_max < later). grind (arith, nat_tests))
+    (λ (le : later ≤ usize_max). let within = fits le in grind (arith, nat_tests))
+    (cases_lt usize_max later)
 
 -- where the reader has not ended and places can be counted, an item may be left
 occurrence-open : (read listed given most : ℕ) → read ≤ usize_max → 0 < occurrences_left read listed given most false
 occurrence-open read listed given most few = grind (arith, nat_tests)
-
--- where the reader has ended and all occurrences were returned, no item is left
-ended-none : (read listed given most : ℕ) → listed ≡ given → occurrences_left read listed given most true ≡ 0
-ended-none read listed given most all = grind (arith, nat_tests)
 
 -- where places can't be counted, no item is left
 occurrence-many : (read listed given most : ℕ) (ended : Bool) → usize_max < read
@@ -174,76 +188,85 @@ occurrence-many : (read listed given most : ℕ) (ended : Bool) → usize_max < 
 occurrence-many read listed given most true many = grind (arith, nat_tests)
 occurrence-many read listed given most false many = grind (arith, nat_tests)
 
--- how many occurrences what was read has
-abbrev pub listed : StreamProgress Occurrences → ℕ
-listed u = length (items_of Occurrences u.built.dictionary (read_by u))
+-- so they have at most as many whole words
+words-few : (b : Built) (x : List ℕ) → CanBeCounted x
+    → length (items_of AllWords b.dictionary x) ≤ length b.dictionary.patterns * 18446744073709551616
+words-few b x few =
+    let same = ap length (words-filtered (whole b.dictionary x false) (omega arith)) in
+    let both = length-filter_both (is_whole_word x) (λ o. not (is_whole_word x o)) (λ o. refl) (items_of Occurrences b.dictionary x) in
+    let all = occurrences-few b x few in
+    omega arith
+
+-- how many items of a listing what was read has
+abbrev pub listed : {q : Sequence} → StreamProgress q → ℕ
+listed {q} u = length (items_of q u.built.dictionary (read_by u))
 
 -- how many may be returned in all
-abbrev pub most_of : StreamProgress Occurrences → ℕ
+abbrev pub most_of : {q : Sequence} → StreamProgress q → ℕ
 most_of u = (length u.built.dictionary.patterns) * 18446744073709551616
 
--- an occurrence leaves fewer
-found-leaves : {R : Type 0} {remaining : R → Option (List ℕ)} {s t : StreamProgress Occurrences}
-    {before after : Watched R} {o : Occurrence} → ReturnsNext remaining s t before after o → IsOnCourse t
-    → items_left Occurrences t after.ended < items_left Occurrences s before.ended
-found-leaves {s} {t} {before} {after} {o} next course =
+-- where at most as many are listed as may be returned
+abbrev pub AreFew : {q : Sequence} → StreamProgress q → Type 0
+AreFew u = CanBeCounted (read_by u) → listed u ≤ most_of u
+
+-- an item of a listing leaves fewer
+found-leaves : {R : Type 0} {q : Sequence} {remaining : R → Option (List ℕ)} {s t : StreamProgress q}
+    {before after : Watched R} {o : Occurrence} → ReturnsNext remaining s t before after o → IsOnCourse t → AreFew t
+    → listed_left t after.ended < listed_left s before.ended
+found-leaves {R} {q} {remaining} {s} {t} {before} {after} {o} next course few =
     let long = read-gained next.has in
     let one = length-append s.given (o ∷ []) in
     let given = ap length next.given in
     let begun = course.begun in
     let all = ap length begun.1 in
     let split = length-append t.given begun.0 in
-    let most = occurrences-few t.built (read_by t) next.countable in
-    let same : after.ended ≡ before.ended = turns-filled next.gained next.has.read.turns (filled next.read) in
     subst (λ n. occurrences_left (length (read_by t)) (listed t) (length t.given) (most_of t) after.ended
     < occurrences_left (length (read_by s)) (listed s) (length s.given) (n * 18446744073709551616) before.ended)
     (ap (λ b. length b.dictionary.patterns) next.has.built)
-    (subst (λ b. items_left Occurrences t b
-    < occurrences_left (length (read_by s)) (listed s) (length s.given) (most_of t) before.ended) (sym same)
     (found-fewer (length (read_by s)) (length (read_by t)) (length s.given) (length t.given) (listed t) (listed s)
-    (most_of t) before.ended (omega (arith, long)) next.countable (omega (arith, one, given))
-    (omega (arith, all, split)) most
-    (λ ended. still next.gained next.has.read.turns next.has.pieces next.has.built ended)))
+    (most_of t) before.ended after.ended (omega (arith, long)) next.countable (omega (arith, one, given))
+    (omega (arith, all, split)) (few next.countable) still)
   where
-    -- only a search under standard returns occurrences, so no piece is empty
-    filled : IsReadForItem s t next.gained → AreFilled next.gained
-    filled (inl read) = read.0
-    filled (inr over) = absurd (over.0 (course.standard refl))
-
     -- a reader that has ended returns nothing
-    still : (gained : List (List ℕ)) → AreInTurn before.ended gained after.ended → t.pieces ≡ s.pieces ++ gained
-        → t.built ≡ s.built → before.ended ≡ true → listed s ≡ listed t
-    still [] turns pieces built ended =
-        let same : read_by t ≡ read_by s = ap concat (pieces ∙ append-nil s.pieces) in
-        ap (λ b. length (items_of Occurrences b.dictionary (read_by s))) (sym built)
-        ∙ ap (λ l. length (items_of Occurrences t.built.dictionary l)) (sym same)
-    still (g ∷ gs) turns pieces built ended = absurd (false≢true (sym turns.0 ∙ ended))
+    still : before.ended ≡ true → (listed s ≡ listed t) × (after.ended ≡ true)
+    still ended =
+        let none = ended-still before.ended after.ended next.gained next.has.read.turns ended in
+        let same : read_by t ≡ read_by s =
+        ap concat (next.has.pieces ∙ ap (λ l. s.pieces ++ l) none.0 ∙ append-nil s.pieces) in (
+          ap (λ b. length (items_of q b.dictionary (read_by s))) (sym next.has.built)
+              ∙ ap (λ l. length (items_of q t.built.dictionary l)) (sym same),
+          none.1,
+        )
 
 -- an error leaves fewer
-failed-leaves : {R : Type 0} (remaining : R → Option (List ℕ)) (s : StreamProgress Occurrences)
-    {t : StreamProgress Occurrences} (before after : Watched R) (error : StreamError)
+failed-leaves : {R : Type 0} {q : Sequence} (remaining : R → Option (List ℕ)) (s t : StreamProgress q)
+    (before after : Watched R) (error : StreamError)
     → NextGives remaining s t before after (Some (Err error))
-    → ¬ IsStopped s before → IsOnCourse t → items_left Occurrences t after.ended < items_left Occurrences s before.ended
-failed-leaves remaining s before after (Config error) next goes course = absurd next
-failed-leaves remaining s {t} before after (Read error) next goes course =
+    → ¬ IsStopped s before → AreFew t → listed_left t after.ended < listed_left s before.ended
+failed-leaves remaining s t before after (Config error) next goes few = absurd next
+failed-leaves remaining s t before after (Read error) next goes few =
     let open_ : before.ended ≡ false = open-before before.ended after.ended next.filled [] next.has.read.turns in
-    let some =
-    occurrence-open (length (read_by s)) (listed s) (length s.given) (most_of s) (few-before s before goes) in
-    let all : t.given ≡ items_of Occurrences t.built.dictionary (read_by t) =
-    next.all.all (inl (course.standard refl)) in
-    let none = ended-none (length (read_by t)) (listed t) (length t.given) (most_of t) (ap length (sym all)) in
-    let left = ap (items_left Occurrences s) open_ in
-    let left_then = ap (items_left Occurrences t) next.ended in
-    omega (arith, some, none, left, left_then)
-failed-leaves remaining s before after (Write error) next goes course = absurd next
-failed-leaves remaining s before after WriteZero next goes course = absurd next
-failed-leaves remaining s before after Memory next goes course = absurd next
-failed-leaves remaining s {t} before after Position next goes course =
-    let few = few-before s before goes in
-    let some = occurrence-open (length (read_by s)) (listed s) (length s.given) (most_of s) few in
+    let same : most_of t ≡ most_of s = ap (λ b. length b.dictionary.patterns * 18446744073709551616) next.has.built in
+    let fits : CanBeCounted (read_by t) → listed t ≤ most_of s = λ le. let few_then = few le in omega (arith, few_then, same) in
+    let less = listed-ended (length (read_by s)) (length (read_by t)) (length s.given) (listed s) (listed t) (most_of s)
+    (few-before s before goes) fits in
+    let left : listed_left s before.ended
+    ≡ occurrences_left (length (read_by s)) (listed s) (length s.given) (most_of s) false = ap (listed_left s) open_ in
+    let left_then : listed_left t after.ended
+    ≡ occurrences_left (length (read_by t)) (listed t) (length s.given) (most_of s) true =
+    ap (listed_left t) next.ended
+    ∙ ap (λ os. occurrences_left (length (read_by t)) (listed t) (length os) (most_of t) true) next.given
+    ∙ ap (λ n. occurrences_left (length (read_by t)) (listed t) (length s.given) n true) same in
+    omega (arith, less, left, left_then)
+failed-leaves remaining s t before after (Write error) next goes few = absurd next
+failed-leaves remaining s t before after WriteZero next goes few = absurd next
+failed-leaves remaining s t before after Memory next goes few = absurd next
+failed-leaves remaining s t before after Position next goes few =
+    let can = few-before s before goes in
+    let some = occurrence-open (length (read_by s)) (listed s) (length s.given) (most_of s) can in
     let none = occurrence-many (length (read_by t)) (listed t) (length t.given) (most_of t) after.ended
-    (passed-many remaining s t before after few next) in
-    let left = ap (items_left Occurrences s) (passed-open remaining s t before after few next) in
+    (passed-many remaining s t before after can next) in
+    let left = ap (listed_left s) (passed-open remaining s t before after can next) in
     omega (arith, some, none, left)
 
 -- ---- items
@@ -252,8 +275,10 @@ failed-leaves remaining s {t} before after Position next goes course =
 item-leaves : {R : Type 0} (q : Sequence) {remaining : R → Option (List ℕ)} {s t : StreamProgress q}
     {before after : Watched R} {o : Occurrence} → ReturnsNext remaining s t before after o → IsOnCourse t
     → items_left q t after.ended < items_left q s before.ended
-item-leaves Picks next course = match-leaves next course
-item-leaves Occurrences next course = found-leaves next course
+item-leaves Picks next course = match-leaves next next.behind course
+item-leaves Occurrences {t = t} next course = found-leaves next course (occurrences-few t.built (read_by t))
+item-leaves Words next course = match-leaves next next.behind course
+item-leaves AllWords {t = t} next course = found-leaves next course (words-few t.built (read_by t))
 
 -- an error leaves fewer
 stop-leaves : {R : Type 0} (q : Sequence) (remaining : R → Option (List ℕ)) (s : StreamProgress q)
@@ -262,8 +287,12 @@ stop-leaves : {R : Type 0} (q : Sequence) (remaining : R → Option (List ℕ)) 
     → ¬ IsStopped s before → IsOnCourse t → items_left q t after.ended < items_left q s before.ended
 stop-leaves Picks remaining s {t} before after error next goes course =
     error-leaves remaining s t before after error next goes
-stop-leaves Occurrences remaining s before after error next goes course =
-    failed-leaves remaining s before after error next goes course
+stop-leaves Occurrences remaining s {t} before after error next goes course =
+    failed-leaves remaining s t before after error next goes (occurrences-few t.built (read_by t))
+stop-leaves Words remaining s {t} before after error next goes course =
+    error-leaves remaining s t before after error next goes
+stop-leaves AllWords remaining s {t} before after error next goes course =
+    failed-leaves remaining s t before after error next goes (words-few t.built (read_by t))
 
 -- each call that returns an item leaves fewer
 pub items-fewer : {S R : Type 0} {q : Sequence} (progress : S → StreamProgress q) (remaining : R → Option (List ℕ))

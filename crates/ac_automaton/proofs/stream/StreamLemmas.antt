@@ -228,7 +228,7 @@ nothing-later m text from live within behind nothing alive =
 -- ---- what is decided
 
 -- if a property holds of each element that a list contains, it holds of all
-all-from : {X : Type 0} (P : X → Type 0) (xs : List X) → ((x : X) → Contains xs x → P x) → All P xs
+pub all-from : {X : Type 0} (P : X → Type 0) (xs : List X) → ((x : X) → Contains xs x → P x) → All P xs
 all-from P xs h = λ k d lt. h _ (All-contains_itself xs k d lt)
 
 -- the walk of a text is its matches

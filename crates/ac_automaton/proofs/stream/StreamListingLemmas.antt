@@ -473,7 +473,7 @@ gives-next {Reaches} {matches} {b} {s} {place} {held} r n y tells is found goes 
             ends,
             record {
               pattern = subst (λ b'. n < length b'.dictionary.patterns) (sym is.built) known;
-              held = λ e. absurd (occurrences≢picks e);
+              held = λ apart. absurd apart;
               behind = let passed = course.passed refl in omega (arith, passed, ends, at);
               some = some;
               new = λ e. absurd (occurrences≢picks e);
@@ -696,7 +696,7 @@ lists-there {Reaches} {matches} {s} {there} {r} o on_course on more found gives 
         finds.3,
         record {
           pattern = some.pattern;
-          held = λ e. absurd (occurrences≢picks e);
+          held = λ apart. absurd apart;
           behind = let passed = on_course.passed refl in omega (arith, on.on, behind, passed);
           some = some.some;
           new = λ e. absurd (occurrences≢picks e);

@@ -16,8 +16,8 @@ use Rattle.ac_automaton.specs.Stream.{CanBeCounted, CanStream, Picks, room_of}
 use Rattle.ac_automaton.specs.Stream.Answer.{WroteToFailedWrite}
 use Rattle.ac_automaton.specs.Stream.Devices.Moved.{AllFit, AreFilled, HasGiven, HasMoved, HasTaken, Moved, NoneTouched, but_last}
 use Rattle.ac_automaton.specs.Stream.Devices.Watched.{IsOfWrite, NoneRead, WritesWhole}
-use Rattle.ac_automaton.specs.Stream.Mask.{AcceptsMask, CostsMaskStream, HasTakenIn, IsAllMasked, IsMaskCut, IsMaskFront, IsOnMask, MaskCounts, MaskProgress, MasksRead, MasksStream, WritesMasked, finished_mask, fresh_mask, front_of, masked_of, passed_to, ready_of}
-use Rattle.ac_automaton.specs.Stream.Overlapping.{IsListingRefusal}
+use Rattle.ac_automaton.specs.Stream.Mask.{CostsMaskStream, HasTakenIn, IsAllMasked, IsMaskCut, IsMaskFront, IsOnMask, MaskCounts, MaskProgress, MasksRead, MasksStream, WritesMasked, finished_mask, fresh_mask, front_of, masked_of, passed_to, ready_of}
+use Rattle.ac_automaton.specs.Stream.Overlapping.{AcceptsListing, IsListingRefusal}
 use Rattle.ac_automaton.specs.Stream.Replace.{IsBegun}
 use Rattle.ac_automaton.specs.declared.error.StreamError.{StreamError}
 use Rattle.ac_automaton.specs.declared.error.StreamError.TheVariants.{Config, Read, Write, WriteZero, Memory, Position}
@@ -33,7 +33,7 @@ pub all-front : (s : MaskProgress) → IsAllMasked s → front_of s ≡ passed_t
 all-front s all = take_all s.at (passed_to s) (omega (arith, all))
 
 -- a front, and what comes up to a later place
-front-and : (xs : List ℕ) (a b : ℕ) → a ≤ b → take a xs ++ slice_range xs a b ≡ take b xs
+pub front-and : (xs : List ℕ) (a b : ℕ) → a ≤ b → take a xs ++ slice_range xs a b ≡ take b xs
 front-and xs a b le =
     let e : a + (b - a) ≡ b = omega (arith, le) in
     ap (λ n. take a xs ++ take n (drop a xs)) refl
@@ -421,7 +421,7 @@ wrote-begun contents w w1 bytes (Err error) wrote = write-begun w w1 error wrote
 
 -- with such an error a stream was accepted
 pub begun-accepts : (b : Built) (supports : Anchored → Type 0) (result : Result (Unit {0}) StreamError)
-    → CanStream OnlyStandard b supports → IfErr result IsBegun → AcceptsMask b supports result
+    → CanStream OnlyStandard b supports → IfErr result IsBegun → AcceptsListing b supports result
 begun-accepts b supports (Ok done) can begun = can
 begun-accepts b supports (Err (Read error)) can begun = can
 begun-accepts b supports (Err (Write error)) can begun = can
@@ -473,7 +473,7 @@ refused-costs b r steps error = record {
 
 -- its error says why
 pub refused-accepts : (b : Built) (supports : Anchored → Type 0) (error : StreamError)
-    → IsListingRefusal b supports error → AcceptsMask b supports (Err error)
+    → IsListingRefusal b supports error → AcceptsListing b supports (Err error)
 refused-accepts b supports (Config error) refused = refused
 refused-accepts b supports Memory refused = refused
 refused-accepts b supports (Read error) refused = absurd refused

@@ -50,7 +50,7 @@ look-placed {s} {t} {at} (Some o) placed course finds =
     let same = finds.0 in
     let is = finds.4 in
     let from : t.from ≡ s.from = same.from in
-    let before = match-behind s t o course finds at placed refl in
+    let before = match-behind s t o course finds at placed tt in
     let long : length (read_by t) ≡ length (read_by s) = ap (λ pieces. length (concat pieces)) same.pieces in
     let within : o.end ≤ length (read_by s) = is.within in
     record {
@@ -63,7 +63,7 @@ look-placed {s} {t} {at} (Some o) placed course finds =
       within = omega arith;
       lies = subst (λ b. LieInOrder (length b.dictionary.patterns) at 0 (replaced_by t (Some o))) (sym same.built)
           (subst (LieInOrder (length s.built.dictionary.patterns) at 0) (sym (found-replaced s t (Some o) finds))
-          (placed.lies refl));
+          (placed.lies tt));
     }
 
 -- where no match was found, all were returned
@@ -128,7 +128,7 @@ pass-lent s at to (Some o) finished placed lt is = let within = placed.within in
 -- the matches replaced lie before the slice
 pass-lies : (s : StreamProgress Picks) (at : ℕ) (met : Option Occurrence) → IsPlacedAt s at met
     → LieInOrder (length s.built.dictionary.patterns) at 0 (replaced_by s met)
-pass-lies s at None placed = placed.lies refl
+pass-lies s at None placed = placed.lies tt
 pass-lies s at (Some o) placed = placed.lies
 
 -- the text may be handed out from the slice's end on, unless that ends the text

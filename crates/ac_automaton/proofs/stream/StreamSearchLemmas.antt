@@ -498,7 +498,7 @@ over-test from held all fits is = (
 )
 
 -- the last n bytes of the buffer are the piece
-piece-behind : (held front piece : List ℕ) (n : ℕ) → held ≡ front ++ piece → length piece ≡ n
+pub piece-behind : (held front piece : List ℕ) (n : ℕ) → held ≡ front ++ piece → length piece ≡ n
     → drop (length held - n) held ≡ piece
 piece-behind held front piece n is long =
     let both = length-append front piece in

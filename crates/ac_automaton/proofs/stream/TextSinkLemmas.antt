@@ -13,21 +13,23 @@ use Rattle.ac_automaton.specs.Stream.Devices.Moved.{AllFit, HasGiven, HasMoved, 
 use Rattle.ac_automaton.specs.Stream.Devices.Output.{Stopped}
 use Rattle.ac_automaton.specs.Stream.Devices.Watched.{IsOfWrite}
 use Rattle.ac_automaton.specs.InMemory.Replace.{LieInOrder, matches_in}
-use Rattle.ac_automaton.specs.Stream.{IsFront, Occurrences, Picks, Sequence, items_of, place_of, room_of}
+use Rattle.ac_automaton.specs.Stream.{AllWords, IsFront, LieApart, Occurrences, Picks, Sequence, Words, items_of, place_of, room_of}
 use Rattle.ac_automaton.specs.Stream.SinkLaws.{IsPiecewise, SendsOn-then}
 use Rattle.ac_automaton.specs.Stream.Answer.{WritesStream, WroteToFailedWrite}
 use Rattle.ac_automaton.specs.Stream.Pump.{Handling, HasComeToCut, IsReadFault, IsSinkChain, Pumps, PumpedWhole, StoppedAtSink, StopsAtBytes, StopsAtItem, StopsFrom, bytes_between}
 use Rattle.ac_automaton.specs.Stream.Replace.{IsBegun, replaced_in}
 use Rattle.ac_automaton.specs.Stream.Texts.{SendsOn, StopsSend, Texts, replacing, sending, text_between}
+use Rattle.ac_automaton.specs.Stream.WholeWords.{IsWordFront, words_replaced_in}
 use Rattle.ac_automaton.specs.declared.error.StreamError.{StreamError}
 use Rattle.ac_automaton.specs.declared.error.StreamError.TheVariants.{Config, Read, Write, WriteZero, Memory, Position}
 use Rattle.ac_automaton.specs.declared.stream.devices.watched.Watched.{Watched}
 use Rattle.ac_automaton.proofs.stream.devices.MovedLemmas.{taken-then}
 use Rattle.ac_automaton.proofs.stream.devices.OutputLemmas.{HasTaken-from_sent, HasTaken-from_stopped, IsOfWrite-then, Stopped-then}
 use Rattle.ac_automaton.proofs.lemmas.ReplaceLemmas.{matches-lie}
-use Rattle.ac_automaton.proofs.stream.SinkChainLemmas.{between-append, between-join, begin_of}
+use Rattle.ac_automaton.proofs.stream.SinkChainLemmas.{between-append, between-is, between-join, begin_of}
 use Rattle.ac_automaton.proofs.stream.StreamCutLemmas.{matches-cut, matches-front}
 use Rattle.ac_automaton.proofs.stream.StreamTextLemmas.{drop-take_is, slice_range-take}
+use Rattle.ac_automaton.proofs.stream.StreamWordLemmas.{words-lie}
 
 -- ---- parts of a text
 
@@ -51,13 +53,17 @@ begins-shorter front gained lost is begins = (
 
 -- ---- where items begin
 
--- the first match begins at a place or later, if all do
-pub begin-later : (q : Sequence) {place to : ℕ} (os : List Occurrence) → q ≡ Picks → All (λ o. place ≤ place_of q o) os
+-- the first match or word begins at a place or later, if all do
+pub begin-later : (q : Sequence) {place to : ℕ} (os : List Occurrence) → LieApart q → All (λ o. place ≤ place_of q o) os
     → place ≤ to → place ≤ begin_of os to
 begin-later Picks [] is all le = le
 begin-later Picks {place} (o ∷ os) is all le =
     (recursion_from_All (λ (r : Occurrence). place ≤ r.start) (o ∷ os) all).0
-begin-later Occurrences os is all le = cc
+begin-later Occurrences os is all le = absurd is
+begin-later Words [] is all le = le
+begin-later Words {place} (o ∷ os) is all le =
+    (recursion_from_All (λ (r : Occurrence). place ≤ r.start) (o ∷ os) all).0
+begin-later AllWords os is all le = absurd is
 
 -- the first of matches that lie in order from a place, and of those after them, begins there or later
 begin-then : (patterns : ℕ) {from at : ℕ} (more rest : List Occurrence) (to : ℕ) → LieInOrder patterns at from more
@@ -69,7 +75,7 @@ begin-then patterns (o ∷ more) rest to lies on later = lies.1
 
 module _ {made : Texts} (laws : IsPiecewise made) (q : Sequence) (x : List ℕ) where
   -- what is made of a text begins with what is made of the bytes up to a place before its first item
-  pub text-begins : (at mid : ℕ) (more : List Occurrence) (to : ℕ) → (q ≡ Picks → (at ≤ mid) × (mid ≤ begin_of more to))
+  pub text-begins : (at mid : ℕ) (more : List Occurrence) (to : ℕ) → (LieApart q → (at ≤ mid) × (mid ≤ begin_of more to))
       → text_between made q x at more to
       ≡ made.plain (bytes_between q x at mid) ++ text_between made q x mid more to
   text-begins at mid [] to order = ap made.plain (sym (between-join q x _ _ _ order)) ∙ laws.joins _ _
@@ -83,7 +89,7 @@ module _ {made : Texts} (laws : IsPiecewise made) (q : Sequence) (x : List ℕ) 
 
   -- what is made of a text is what is made of its part up to a place, and of the rest
   pub text-then : (patterns at : ℕ) (os : List Occurrence) (mid : ℕ) (more : List Occurrence) (to : ℕ)
-      → (q ≡ Picks → (at ≤ mid) × LieInOrder patterns mid at os × (mid ≤ begin_of more to))
+      → (LieApart q → (at ≤ mid) × LieInOrder patterns mid at os × (mid ≤ begin_of more to))
       → text_between made q x at (os ++ more) to
       ≡ text_between made q x at os mid ++ text_between made q x mid more to
   text-then patterns at [] mid more to order =
@@ -96,7 +102,7 @@ module _ {made : Texts} (laws : IsPiecewise made) (q : Sequence) (x : List ℕ) 
 
 -- what is made of a text up to a place is what is made of any longer text up to there
 pub text-longer : (made : Texts) (q : Sequence) (x y : List ℕ) (patterns at : ℕ) (os : List Occurrence) (to : ℕ)
-    → (q ≡ Picks → (at ≤ to) × LieInOrder patterns to at os × (to ≤ length x))
+    → (LieApart q → (at ≤ to) × LieInOrder patterns to at os × (to ≤ length x))
     → text_between made q (x ++ y) at os to ≡ text_between made q x at os to
 text-longer made q x y patterns at [] to order =
     ap made.plain (between-append q x y _ _ (λ is. let p = order is in (p.0, p.2)))
@@ -141,7 +147,7 @@ module _ {K W : Type 0} (contents : W → Option (List ℕ)) (output : K → Lis
     bytes : List ℕ
     stopped : StopsSend contents output texts there bytes error last
     begins : IsBeginning bytes (text_between (texts there.0) q x at rest (length x))
-    later : q ≡ Picks → at ≤ begin_of rest (length x)
+    later : LieApart q → at ≤ begin_of rest (length x)
 
   -- The chain went on from a place and stopped, with a send of bytes that what was left there begins with.
   record StopsOn (b : Built) (from : ℕ) (done : List Occurrence) (mid : K × Watched W) (error : StreamError)
@@ -152,7 +158,7 @@ module _ {K W : Type 0} (contents : W → Option (List ℕ)) (output : K → Lis
     stopped : Stopped contents mid.1 last.1 (output mid.0) bytes
     of_write : IsOfWrite mid.1 last.1 error
     begins : IsBeginning bytes (text_between (texts mid.0) q x from rest (length x))
-    later : q ≡ Picks → from ≤ begin_of rest (length x)
+    later : LieApart q → from ≤ begin_of rest (length x)
 
   module _ (accepts : ℕ → K → Type 0) (laws : ((k : K) → IsPiecewise (texts k))) where
     -- it stopped at the bytes up to a place, or at an item
@@ -161,7 +167,7 @@ module _ {K W : Type 0} (contents : W → Option (List ℕ)) (output : K → Lis
         ⊎ StopsAtItem (sending contents output texts accepts) q x at rest there error last
         → StopsWith at rest there error last
     stop-with at rest there error last (inl stop) =
-        let order : q ≡ Picks → (at ≤ stop.end) × (stop.end ≤ begin_of rest (length x)) =
+        let order : LieApart q → (at ≤ stop.end) × (stop.end ≤ begin_of rest (length x)) =
         λ is. (stop.order.0, begin-later q rest is stop.later stop.order.1) in
         record {
           bytes = (texts there.0).plain (bytes_between q x at stop.end);
@@ -242,7 +248,7 @@ module _ {K W : Type 0} (contents : W → Option (List ℕ)) (output : K → Lis
       (rest : List Occurrence)
       → HasComeToCut (sending contents output texts accepts) q b (concat (but_last pieces)) cut done z last
       → items_of q b.dictionary (concat pieces) ≡ done ++ rest
-      → (q ≡ Picks → cut ≤ begin_of rest (length (concat pieces)))
+      → (LieApart q → cut ≤ begin_of rest (length (concat pieces)))
       → out (concat pieces) ≡ text_between (texts z.0) q (concat (but_last pieces)) 0 done cut
       ++ text_between (texts z.0) q (concat pieces) cut rest (length (concat pieces))
   came-split pieces cut done last rest came all later =
@@ -425,23 +431,24 @@ module _ {K W : Type 0} (contents : W → Option (List ℕ)) (output : K → Lis
 -- ---- replacement
 
 -- the text that replacement makes of the front of a text
-pub replaced-text : (x : List ℕ) (replacements : List (List ℕ)) (patterns at : ℕ) (os : List Occurrence) (to : ℕ)
-    → LieInOrder patterns to at os → at ≤ to → to ≤ length x
-    → text_between (replacing replacements) Picks x at os to ≡ replaced_from at (take to x) replacements os
-replaced-text x replacements patterns at [] to lies le within = sym (drop-take_is x at to le within)
-replaced-text x replacements patterns at (o ∷ os) to lies le within =
+pub replaced-text : (q : Sequence) → LieApart q → (x : List ℕ) (replacements : List (List ℕ)) (patterns at : ℕ)
+    (os : List Occurrence) (to : ℕ) → LieInOrder patterns to at os → at ≤ to → to ≤ length x
+    → text_between (replacing replacements) q x at os to ≡ replaced_from at (take to x) replacements os
+replaced-text q apart x replacements patterns at [] to lies le within =
+    between-is q x at to apart ∙ sym (drop-take_is x at to le within)
+replaced-text q apart x replacements patterns at (o ∷ os) to lies le within =
     let replacement = get_or replacements o.pattern [] in
-    ap (λ t. (t ++ replacement) ++ text_between (replacing replacements) Picks x o.end os to)
-    (sym (slice_range-take x to at o.start lies.1 (omega arith) within))
+    ap (λ t. (t ++ replacement) ++ text_between (replacing replacements) q x o.end os to)
+    (between-is q x at o.start apart ∙ sym (slice_range-take x to at o.start lies.1 (omega arith) within))
     ∙ ap (λ t. (slice_range (take to x) at o.start ++ replacement) ++ t)
-    (replaced-text x replacements patterns o.end os to lies.4 lies.3 within)
+    (replaced-text q apart x replacements patterns o.end os to lies.4 lies.3 within)
 
 -- all of the text, replaced
 pub replaced-whole : (b : Built) (replacements : List (List ℕ)) (x : List ℕ)
     → text_between (replacing replacements) Picks x 0 (items_of Picks b.dictionary x) (length x)
     ≡ replaced_in b replacements x
 replaced-whole b replacements x =
-    replaced-text x replacements (length b.dictionary.patterns) 0 (items_of Picks b.dictionary x) (length x)
+    replaced-text Picks tt x replacements (length b.dictionary.patterns) 0 (items_of Picks b.dictionary x) (length x)
     (matches-lie b x) (omega arith) (omega arith)
     ∙ ap (λ t. replaced_from 0 t replacements (items_of Picks b.dictionary x)) (take_all (length x) x (omega arith))
 
@@ -452,7 +459,7 @@ pub replaced-front : {Z : Type 0} {h : Handling Z} (b : Built) (replacements : L
     → IsFront b.dictionary (replaced_in b replacements) x (text_between (replacing replacements) Picks x 0 done cut)
 replaced-front b replacements x cut done some came =
     let n = length b.dictionary.patterns in
-    let lies = came.lies refl in
+    let lies = came.lies tt in
     let within = came.within in
     let left = came.later [] in
     let all = ap (matches_in b) (sym (append-nil x)) ∙ left.1 in
@@ -460,7 +467,33 @@ replaced-front b replacements x cut done some came =
       cut = cut;
       is_cut = matches-cut b x cut n done left.0 within all lies left.2;
       near = came.near;
-      front = replaced-text x replacements n 0 done cut lies (omega arith) within
+      front = replaced-text Picks tt x replacements n 0 done cut lies (omega arith) within
           ∙ ap (replaced_from 0 (take cut x) replacements)
           (sym (matches-front b x cut n done left.0 some within all lies left.2));
     }
+
+-- ---- replacement of whole words
+
+-- all of the text, with its words replaced
+pub words-whole : (b : Built) (replacements : List (List ℕ)) (x : List ℕ)
+    → text_between (replacing replacements) Words x 0 (items_of Words b.dictionary x) (length x)
+    ≡ words_replaced_in b.dictionary replacements x
+words-whole b replacements x =
+    replaced-text Words tt x replacements (length b.dictionary.patterns) 0 (items_of Words b.dictionary x) (length x)
+    (words-lie b.dictionary x) (omega arith) (omega arith)
+    ∙ ap (λ t. replaced_from 0 t replacements (items_of Words b.dictionary x)) (take_all (length x) x (omega arith))
+
+-- the words that are decided, replaced
+pub words-front : {Z : Type 0} {h : Handling Z} (b : Built) (replacements : List (List ℕ)) (x : List ℕ) (cut : ℕ)
+    (done : List Occurrence) {z last : Z} → HasComeToCut h Words b x cut done z last
+    → IsWordFront b.dictionary replacements x (text_between (replacing replacements) Words x 0 done cut)
+words-front b replacements x cut done came = record {
+  cut = cut;
+  done = done;
+  decides = came.decides;
+  later = came.later;
+  within = came.within;
+  near = came.near;
+  front = replaced-text Words tt x replacements (length b.dictionary.patterns) 0 done cut (came.lies tt) (omega arith)
+      came.within;
+}

@@ -20,7 +20,8 @@ use Rattle.ac_input.proofs.lemmas.ShiftLemmas.{back_by, occurs-back_by}
 use Rattle.ac_input.proofs.lemmas.UnusedLemmas.{occurs-some}
 use Rattle.ac_input.proofs.lemmas.WordLemmas.{occurs-reach, word-stays}
 use Rattle.ac_automaton.specs.InMemory.Find.Cursor.{read_to}
-use Rattle.ac_automaton.specs.Words.{IsFinalWord, IsWindowOf, IsWordPlace, WordsBefore, text_from}
+use Rattle.ac_automaton.specs.Words.{IsDecidedBy, IsFinalWord, IsQuietPlace, IsOpen, IsWindowOf, IsWordPlace, WordsBefore, text_from}
+use Rattle.ac_automaton.specs.declared.automaton.Automaton.{Ghosts}
 use Rattle.ac_automaton.specs.declared.words.Window.{Window}
 use Rattle.ac_automaton.specs.declared.words.WordPlace.{WordPlace}
 use Rattle.ac_automaton.proofs.words.WindowLemmas.{earlier-preferred, ends-preferred}
@@ -39,7 +40,7 @@ module _ (m : Dictionary) (x more : List ℕ) (last : ℕ) (q : Occurrence) wher
       occurs-longer {s = text_from m x last} more (omega arith) (let e = length-append x more in omega arith) occurs
 
   -- so is a word that ends before the end of the text, or where nothing follows
-  front-word : q.end ≤ length x → (q.end < length x) ⊎ (more ≡ []) → OccursWhole (text_from m (x ++ more) last) q
+  pub front-word : q.end ≤ length x → (q.end < length x) ⊎ (more ≡ []) → OccursWhole (text_from m (x ++ more) last) q
       → OccursWhole (text_from m x last) q
   front-word ends known word = (
     front-occurs ends word.0,
@@ -49,7 +50,7 @@ module _ (m : Dictionary) (x more : List ℕ) (last : ℕ) (q : Occurrence) wher
         known,
   )
 
-  word-on : (q.end < length x) ⊎ (more ≡ []) → OccursWhole (text_from m x last) q
+  pub word-on : (q.end < length x) ⊎ (more ≡ []) → OccursWhole (text_from m x last) q
       → OccursWhole (text_from m (x ++ more) last) q
   word-on known word = (
     occurs-on word.0,
@@ -62,7 +63,7 @@ module _ (m : Dictionary) (x more : List ℕ) (last : ℕ) (q : Occurrence) wher
 -- ---- where nothing is live
 
 -- where no pattern matches and nothing is live, what ends where the search stands or later begins there or later
-past-live : (m : Dictionary) (x more : List ℕ) (last at : ℕ) (q : Occurrence) → m.kind ≡ Standard → last ≤ at
+pub past-live : (m : Dictionary) (x more : List ℕ) (last at : ℕ) (q : Occurrence) → m.kind ≡ Standard → last ≤ at
     → at ≤ length x → Tells m No (read_to (text_from m x last) at) []
     → IsLive m false (read_to (text_from m x last) at) (Some (length (read_to (text_from m x last) at)))
     → Occurs (text_from m (x ++ more) last) q → at ≤ q.end → (at < q.end) × (at ≤ q.start)
@@ -169,8 +170,22 @@ place-best is r =
     record {
       start = is.start;
       before = is.before;
-      held = is.held;
       order = is.order;
       within = is.within;
       reads = is.reads;
     }
+
+-- ---- when it is decided
+
+-- a word that is open isn't decided
+pub open-decided : {S : Type 0} (A : Ghosts S) (a : S) {p : WordPlace} {text : List ℕ} {o : Occurrence}
+    → A.Reaches a No text p.sid → IsOpen A a p false false o → ¬ IsDecidedBy A a p false false o
+open-decided A a {p} {text} reads is decided =
+    ⊎_elim
+    (λ (over : false ≡ true). false≢true over)
+    (λ rest. ⊎_elim
+    (λ (standard : p.kind ≡ Standard). is.leftmost standard)
+    (λ rest. ⊎_elim
+    (λ far. let near = is.needed in omega arith)
+    (λ (idle : IsQuietPlace A a p). is.busy idle.0 text reads (idle.1 text reads))
+    rest) rest) decided

@@ -24,42 +24,49 @@ use Rattle.ac_automaton.proofs.lemmas.CursorLemmas.{part-front}
 
 -- ---- reading on
 
--- the looks at some bytes are paid for by them
+-- the looks at some bytes of a text are paid for by them
+pub bytes-pay : (b : Built) (Reaches : Anchored → List ℕ → StateID → Type 0) (x : List ℕ) (last at end taken : ℕ) {sid : StateID}
+    {before after : Steps} → last ≤ at → at ≤ end → end ≤ length x → taken ≤ end - at
+    → Reaches No (slice_range x last at) sid → IsReadCost b Reaches No sid (take taken (slice_range x at end)) before after
+    → PaysForWords b x last at (at + taken) before after
+bytes-pay b Reaches x last at end taken {sid} {before} {after} order le inside fits reads cost =
+    let m = b.dictionary in
+    let text = slice_range x last at in
+    let left = slice_range x at end in
+    let bytes = take taken left in
+    let long = slice_range-length x at le inside in
+    let size : length bytes ≡ at + taken - at =
+    length-take-le taken left (omega arith) ∙ (let e : taken ≡ at + taken - at = omega arith in e) in
+    let joined : text ++ bytes ≡ slice_range x last (at + taken) = part-front x last at end taken order fits in
+    let looks : (live live_after : Option ℕ) → IsLive m false text live
+    → IsLive m false (slice_range x last (at + taken)) live_after
+    → IsLookups b.deterministic (at + taken - at) (live_len text live)
+    (live_len (slice_range x last (at + taken)) live_after) before after =
+    λ live live_after g h.
+    subst (λ n. IsLookups b.deterministic n (live_len text live)
+    (live_len (slice_range x last (at + taken)) live_after) before after) size
+    (subst (λ l. IsLookups b.deterministic (length bytes) (live_len text live) (live_len l live_after) before after) joined
+    (cost text live live_after reads g (subst (λ l. IsLive m false l live_after) (sym joined) h))) in
+    let alive = live-some in
+    let alive_then = live-some in
+    let done = looks alive.0 alive_then.0 alive.1 alive_then.1 in
+    let some = done.some in
+    record {
+      paid = λ looked more paid e.
+          paid-on m b.deterministic (text_from m x last) last at (at + taken) looked more before after (omega arith)
+          order (omega arith) looks e paid;
+      only = record { rose = omega arith; scanned = done.scanned; moved = done.moved };
+      some = omega arith;
+    }
+
+-- so are those that a search for whole words makes
 pub read-pays : (b : Built) (Reaches : Anchored → List ℕ → StateID → Type 0) {from : ℕ} {x : List ℕ} {p : WordPlace}
     → IsWordPlace b.dictionary (Reaches No) from x p → (end taken : ℕ) {before after : Steps} → p.at ≤ end
     → end ≤ length x → taken ≤ end - p.at
     → IsReadCost b Reaches No p.sid (take taken (slice_range x p.at end)) before after
     → PaysForWords b x p.last p.at (p.at + taken) before after
-read-pays b Reaches {from} {x} {p} is end taken {before} {after} le inside fits cost =
-    let m = b.dictionary in
-    let text = slice_range x p.last p.at in
-    let left = slice_range x p.at end in
-    let bytes = take taken left in
-    let order = is.order in
-    let long = slice_range-length x p.at le inside in
-    let size : length bytes ≡ p.at + taken - p.at =
-    length-take-le taken left (omega arith) ∙ (let e : taken ≡ p.at + taken - p.at = omega arith in e) in
-    let joined : text ++ bytes ≡ slice_range x p.last (p.at + taken) = part-front x p.last p.at end taken order fits in
-    let looks : (live live_after : Option ℕ) → IsLive m false text live
-    → IsLive m false (slice_range x p.last (p.at + taken)) live_after
-    → IsLookups b.deterministic (p.at + taken - p.at) (live_len text live)
-    (live_len (slice_range x p.last (p.at + taken)) live_after) before after =
-    λ live live_after g h.
-    subst (λ n. IsLookups b.deterministic n (live_len text live)
-    (live_len (slice_range x p.last (p.at + taken)) live_after) before after) size
-    (subst (λ l. IsLookups b.deterministic (length bytes) (live_len text live) (live_len l live_after) before after) joined
-    (cost text live live_after is.reads g (subst (λ l. IsLive m false l live_after) (sym joined) h))) in
-    let first = live-some in
-    let last = live-some in
-    let done = looks first.0 last.0 first.1 last.1 in
-    let some = done.some in
-    record {
-      paid = λ looked more paid e.
-          paid-on m b.deterministic (text_from m x p.last) p.last p.at (p.at + taken) looked more before after (omega arith)
-          order (omega arith) looks e paid;
-      only = record { rose = omega arith; scanned = done.scanned; moved = done.moved };
-      some = omega arith;
-    }
+read-pays b Reaches {from} {x} {p} is end taken le inside fits cost =
+    bytes-pay b Reaches x p.last p.at end taken is.order le inside fits is.reads cost
 
 -- what was paid on the way to a place, and from there on, is paid in all
 pub pays-then : {b : Built} {x : List ℕ} {last p q r : ℕ} {s t u : Steps} → p ≤ q → q ≤ r

@@ -23,7 +23,7 @@ use Rattle.ac_input.proofs.lemmas.OrderLemmas.{preference-itself, preference-tra
 use Rattle.ac_automaton.specs.Automaton.{AdvancesToMatch}
 use Rattle.ac_automaton.specs.declared.automaton.Advance.{Advance}
 use Rattle.ac_automaton.specs.InMemory.Find.Cursor.{counted, counts, read_to}
-use Rattle.ac_automaton.specs.Words.{BetterOf, HasSeen, IsWindowOf, StandsForWords, WordsBefore, text_from, word_reach}
+use Rattle.ac_automaton.specs.Words.{BetterOf, HasSeen, IsWindowOf, IsWordPlace, StandsForWords, WordsBefore, text_from, word_reach}
 use Rattle.ac_automaton.specs.declared.words.Window.{Window}
 use Rattle.ac_automaton.specs.declared.words.WordPlace.{WordPlace}
 use Rattle.ac_automaton.proofs.in_memory.overlapping.OverlappingLemmas.{IsPlace, entry-lies, told-lists}
@@ -237,6 +237,16 @@ module _ (m : Dictionary) (x : List ℕ) (last at : ℕ) (order : last ≤ at) (
 
 -- ---- reading on
 
+-- the bytes from where a search stands on are held
+pub held-at : {m : Dictionary} {Reaches : List ℕ → StateID → Type 0} {from : ℕ} {x : List ℕ} {p : WordPlace}
+    → IsWordPlace m Reaches from x p → from ≤ p.at
+held-at {from} {p} is =
+    let order = is.order in
+    ⊎_elim
+    (λ (some : 0 < from). let before = is.before some in omega arith)
+    (λ (none : from ≤ 0). omega arith)
+    (cases_lt 0 from)
+
 -- the part of a text that a window shows
 pub window-part : {w : Window} {x : List ℕ} → IsWindowOf w x → (at end : ℕ) → w.from ≤ at → at ≤ end
     → slice_range w.bytes.now (at - w.from) (end - w.from) ≡ slice_range x at end
@@ -277,8 +287,7 @@ read-stands m Reaches matches {w} {x} {p} standard tells is seen end more inside
     record {
       place = record {
         start = was.start;
-        before = was.before;
-        held = was.held;
+        before = λ some. let b = was.before some in omega arith;
         order = omega arith;
         within = omega arith;
         reads = subst (λ l. Reaches l stop.sid) (part-front x last at end stop.taken order (omega arith))

@@ -1,4 +1,5 @@
 -- A walk over the whole words of a text: where it stands, what is left of it, and what it costs.
+pub mod Overlapping
 use Rattle.std.specs.Prelude.{◌≡◌, ◌⊎◌, ℕ, ◌+◌, ◌-◌, ◌*◌, ◌≤◌, List, [], length, Option, None, Some, Result, Ok, Err, false}
 use Rattle.ac_input.specs.Number.{StateID}
 use Rattle.ac_input.specs.declared.search.Anchored.{Anchored}
@@ -65,14 +66,26 @@ pub record StandsInText (b : Built) (Reaches : List ℕ → StateID → Type 0) 
   pub filled : 1 ≤ shortest b.dictionary.patterns
   pub stands : StandsForWords b.dictionary Reaches 0 haystack p
 
--- a walk over the words was made, which has not begun; or why not: there is no start, the kind isn't the standard one, or a pattern
--- is empty, in this order
-abbrev pub AnswersWords : Built → (Anchored → Type 0) → MatchKind → List ℕ → Result WordWalk MatchErrorKind → Type 0
-AnswersWords b supports kind haystack (Ok w) =
-    supports No × (b.dictionary.kind ≡ Standard) × (1 ≤ shortest b.dictionary.patterns) × (w ≡ fresh_words b kind haystack)
-AnswersWords b supports kind haystack (Err error) =
+-- whole words can be searched for: there is a start, the kind is the standard one, and no pattern is empty
+abbrev pub CanFindWords : Built → (Anchored → Type 0) → Type 0
+CanFindWords b supports = supports No × (b.dictionary.kind ≡ Standard) × (1 ≤ shortest b.dictionary.patterns)
+
+-- the error says why not: there is no start, the kind isn't the standard one, or a pattern is empty, in this order
+abbrev pub IsWordsRefusal : Built → (Anchored → Type 0) → MatchErrorKind → Type 0
+IsWordsRefusal b supports error =
     IsOverlappingRefusal b supports (whole_of []) error
     ⊎ (supports No × (b.dictionary.kind ≡ Standard) × (shortest b.dictionary.patterns ≡ 0) × (error ≡ UnsupportedEmpty))
+
+-- a walk over the words was made, which stands at a place; or the error says why not
+abbrev pub AnswersWordsFrom : Built → (Anchored → Type 0) → MatchKind → List ℕ → ℕ → Result WordWalk MatchErrorKind → Type 0
+AnswersWordsFrom b supports kind haystack at (Ok w) =
+    supports No × (b.dictionary.kind ≡ Standard) × (1 ≤ shortest b.dictionary.patterns)
+    × (w ≡ record (fresh_words b kind haystack) { at = at })
+AnswersWordsFrom b supports kind haystack at (Err error) = IsWordsRefusal b supports error
+
+-- a walk over the words that has not begun was made; or the error says why not
+abbrev pub AnswersWords : Built → (Anchored → Type 0) → MatchKind → List ℕ → Result WordWalk MatchErrorKind → Type 0
+AnswersWords b supports kind haystack r = AnswersWordsFrom b supports kind haystack 0 r
 
 -- a walk after its next word: it stands at the word's end
 abbrev pub word_walk_after : WordWalk → Option Occurrence → WordWalk

@@ -1,16 +1,15 @@
 -- What an iterator over the items of a stream returns and reads.
-use Rattle.std.specs.Prelude.{◌≡◌, ◌≢◌, ◌⊎◌, ℕ, ◌+◌, ◌-◌, ◌*◌, ◌<◌, ◌≤◌, Bool, false, true, drop, nat_le, if◌then◌else◌, List, [], ◌∷◌, ◌++◌, length, Option, None, Some, Result, Ok, Err}
+use Rattle.std.specs.Prelude.{◌≡◌, ◌≢◌, ◌⊎◌, ℕ, ◌+◌, ◌-◌, ◌*◌, ◌<◌, ◌≤◌, Bool, false, true, nat_le, if◌then◌else◌, List, [], ◌∷◌, ◌++◌, length, Option, None, Some, Result, Ok, Err}
 use Rattle.std.specs.Borrow.{Fml, GName, MutBor, RattleType, RestsIfErr}
 use Rattle.std.specs.Io.KnownBytes.{IsAtEnd}
 use Rattle.std.specs.List.{concat}
 use Rattle.ac_input.specs.Number.{usize_max}
 use Rattle.ac_input.specs.declared.search.Anchored.{Anchored}
 use Rattle.ac_input.specs.declared.search.MatchKind.TheVariants.{Standard}
-use Rattle.ac_input.specs.Dictionary.{IsLive}
 use Rattle.ac_input.specs.Occurrence.{Occurrence}
 use Rattle.ac_automaton.specs.Automaton.{Built}
 use Rattle.ac_automaton.specs.Stream.Devices.Moved.{AllFit, AreFilled, AreWhole, HasGiven, but_last}
-use Rattle.ac_automaton.specs.Stream.{AreAllGiven, EachIsDecided, CanBeCounted, CanStream, FindsHeld, HasRead, IsStreamRefusal, Occurrences, Picks, ReadsNothing, Sequence, StreamProgress, closed_by, end_of, fresh_progress, items_of, place_of, read_by, room_of}
+use Rattle.ac_automaton.specs.Stream.{AllWords, AreAllGiven, EachIsDecided, CanBeCounted, CanStream, FindsHeld, HasRead, IsPrompt, IsStreamRefusal, Occurrences, Picks, ReadsNothing, Sequence, StaysOpen, StreamProgress, Words, closed_by, fresh_progress, items_of, place_of, read_by, room_of}
 use Rattle.ac_automaton.specs.Stream.Overlapping.{IsListingRefusal}
 use Rattle.ac_automaton.specs.contracts.stream.devices.watched.Watched.{the_row}
 use Rattle.ac_automaton.specs.declared.error.StreamError.{StreamError}
@@ -41,23 +40,23 @@ IsStopped s reader = (((reader.ended ≡ true) ⊎ (s.closed ≡ true)) × AreAl
 abbrev pub read_before : {q : Sequence} → StreamProgress q → List ℕ
 read_before s = concat (but_last s.pieces)
 
--- Under standard all items of what was read before the last piece had been returned.
+-- Where each item is decided with its last byte, all of what was read before the last piece had been returned.
 abbrev pub HadGiven : {q : Sequence} → StreamProgress q → StreamProgress q → Type 0
-HadGiven {q} s t = s.built.dictionary.kind ≡ Standard → s.given ≡ items_of q s.built.dictionary (read_before t)
+HadGiven {q} s t = IsPrompt q s.built.dictionary → s.given ≡ items_of q s.built.dictionary (read_before t)
 
 -- An item that is returned after reads is due to the last piece, since nothing is read while a decided one is left.
--- Under standard it ends in that piece. The bytes before that piece, from the last item on, weren't dead.
+-- One that is decided with its last byte ends in that piece. What followed the bytes before that piece could still change it.
 pub record IsDueToLastPiece {q : Sequence} (s t : StreamProgress q) (o : Occurrence) : Type 0 where
   pub all : HadGiven s t
-  pub ends : s.built.dictionary.kind ≡ Standard → length (read_before t) < o.end
-  pub open_ : ¬ IsLive s.built.dictionary false (drop (end_of s.given) (read_before t)) None
+  pub ends : IsPrompt q s.built.dictionary → length (read_before t) < o.end
+  pub open_ : StaysOpen q s.built.dictionary (read_before t) s.given
 
--- What was read for an item: pieces that aren't empty; under a leftmost kind the last one may be empty, and say that no
+-- What was read for an item: pieces that aren't empty; where an item may wait the last one may be empty, and say that no
 -- more comes.
 abbrev pub IsReadForItem : {q : Sequence} → StreamProgress q → StreamProgress q → List (List ℕ) → Type 0
-IsReadForItem s t gained =
+IsReadForItem {q} s t gained =
     (AreFilled gained × (t.closed ≡ s.closed))
-    ⊎ ((t.built.dictionary.kind ≢ Standard) × AreWhole gained × (t.closed ≡ true))
+    ⊎ (¬ IsPrompt q t.built.dictionary × AreWhole gained × (t.closed ≡ true))
 
 -- The next item was returned, one of what was read by then. Under standard the automaton had not read the last byte of
 -- a match before.
@@ -162,7 +161,7 @@ matches_left read last ended =
     then (if ended then read - last else usize_max - last + 1)
     else 0
 
--- How many occurrences are left at most after `read` bytes were read, which have `listed` of them, of which `given`
+-- How many items of a listing are left at most after `read` bytes were read, which have `listed` of them, of which `given`
 -- were returned. If the reader has ended, the others are left. Otherwise up to `most` in all may be returned, and an
 -- error may follow. None is left once places can't be counted.
 abbrev pub occurrences_left : ℕ → ℕ → ℕ → ℕ → Bool → ℕ
@@ -171,13 +170,18 @@ occurrences_left read listed given most ended =
     then (if ended then listed - given else most - given + 1)
     else 0
 
+-- how many items of a listing are left at most
+abbrev pub listed_left : {q : Sequence} → StreamProgress q → Bool → ℕ
+listed_left {q} s ended =
+    occurrences_left (length (read_by s)) (length (items_of q s.built.dictionary (read_by s))) (length s.given)
+    ((length s.built.dictionary.patterns) * 18446744073709551616) ended
+
 -- how many items are left at most
 abbrev pub items_left : (q : Sequence) → StreamProgress q → Bool → ℕ
 items_left Picks s ended = matches_left (length (read_by s)) s.last ended
-items_left Occurrences s ended =
-    occurrences_left (length (read_by s)) (length (items_of Occurrences s.built.dictionary (read_by s)))
-    (length s.given)
-    ((length s.built.dictionary.patterns) * 18446744073709551616) ended
+items_left Words s ended = matches_left (length (read_by s)) s.last ended
+items_left Occurrences s ended = listed_left s ended
+items_left AllWords s ended = listed_left s ended
 
 -- ---- the iterator
 

@@ -16,12 +16,12 @@ use Rattle.ac_automaton.specs.Stream.{CanBeCounted, CanStream, NothingIsLive, Pi
 use Rattle.ac_automaton.specs.Stream.Answer.{WritesStream}
 use Rattle.ac_automaton.specs.Stream.Devices.Buffer.{Held, IsRollPaid}
 use Rattle.ac_automaton.specs.Stream.Devices.Moved.{AllFit, HasGiven, NoneTouched}
-use Rattle.ac_automaton.specs.Stream.Overlapping.{IsListingConfigRefusal, IsListingRefusal}
+use Rattle.ac_automaton.specs.Stream.Overlapping.{IsListingRefusal}
 use Rattle.ac_automaton.specs.Stream.Push.{as_piece}
 use Rattle.ac_automaton.specs.Stream.Replace.{IsBegun}
 use Rattle.ac_automaton.specs.declared.automaton.Automaton.{Ghosts}
 use Rattle.ac_automaton.specs.declared.error.StreamError.{StreamError}
-use Rattle.ac_automaton.specs.declared.error.StreamError.TheVariants.{Config, Position, Read}
+use Rattle.ac_automaton.specs.declared.error.StreamError.TheVariants.{Position, Read}
 use Rattle.ac_automaton.specs.declared.stream.StreamKinds.TheVariants.{OnlyStandard}
 use Rattle.ac_automaton.specs.declared.stream.devices.watched.Watched.{Watched}
 
@@ -274,11 +274,6 @@ abbrev pub MasksStream : {R W : Type 0} → (R → Option (List ℕ)) → (W →
 MasksStream remaining contents b mask reader_before reader_after writer_before writer_after result =
     WritesMasked remaining contents b mask reader_before reader_after writer_before writer_after result
     × IfErr result (λ error. IsBegun error ⊎ NoneTouched reader_before reader_after writer_before writer_after)
-
--- an error of the search says why the stream can't be masked; any other result means that it can be
-abbrev pub AcceptsMask : Built → (Anchored → Type 0) → Result (Unit {0}) StreamError → Type 0
-AcceptsMask b supports (Err (Config error)) = IsListingConfigRefusal b supports error
-AcceptsMask b supports result = CanStream OnlyStandard b supports
 
 -- What it costs, by the bytes that were read: at most one look for each, or two if the automaton isn't deterministic, and
 -- a seventh of them moved. If it reached the end, it looked at each byte. An error before the first read cost nothing.

@@ -33,3 +33,8 @@ IsListingRefusal b supports other = ⊥
 abbrev pub AnswersNewListing : Built → (Anchored → Type 0) → Result (StreamProgress Occurrences) StreamError → Type 0
 AnswersNewListing b supports (Ok s) = CanStream OnlyStandard b supports × (s ≡ fresh_progress b) × IsOnCourse s
 AnswersNewListing b supports (Err error) = IsListingRefusal b supports error
+
+-- an error of the search says why the stream can't be searched for every occurrence; any other result means that it can be
+abbrev pub AcceptsListing : Built → (Anchored → Type 0) → Result (Unit {0}) StreamError → Type 0
+AcceptsListing b supports (Err (Config error)) = IsListingConfigRefusal b supports error
+AcceptsListing b supports result = CanStream OnlyStandard b supports

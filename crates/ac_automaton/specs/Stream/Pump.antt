@@ -8,9 +8,9 @@ use Rattle.ac_input.specs.Occurrence.{Occurrence}
 use Rattle.ac_automaton.specs.Automaton.{Built}
 use Rattle.ac_automaton.specs.Stream.Devices.Moved.{AllFit, AreWhole, HasGiven, but_last}
 use Rattle.ac_automaton.specs.InMemory.Replace.{LieInOrder}
-use Rattle.ac_automaton.specs.Stream.{CanBeCounted, CanStream, Decides, IsNear, IsStreamRefusal, Occurrences, Picks, ReadsNothing, Sequence, StreamProgress, items_of, place_of, read_by, room_of}
+use Rattle.ac_automaton.specs.Stream.{AllWords, CanBeCounted, CanStream, Decides, IsNear, IsStreamRefusal, LieApart, Occurrences, Picks, ReadsNothing, Sequence, StreamProgress, Words, items_of, place_of, read_by, room_of}
 use Rattle.ac_automaton.specs.Stream.Overlapping.{IsListingRefusal}
-use Rattle.ac_automaton.specs.Stream.Replace.{IsAtCut, IsPlaced, CostsSearch}
+use Rattle.ac_automaton.specs.Stream.Replace.{CostsItems, IsAtCut, IsPlaced}
 use Rattle.ac_automaton.specs.declared.error.StreamError.{StreamError}
 use Rattle.ac_automaton.specs.declared.error.StreamError.TheVariants.{Read, Position}
 use Rattle.ac_automaton.specs.declared.stream.StreamKinds.{StreamKinds}
@@ -21,6 +21,8 @@ use Rattle.ac_automaton.specs.declared.stream.devices.watched.Watched.{Watched}
 abbrev pub bytes_between : Sequence → List ℕ → ℕ → ℕ → List ℕ
 bytes_between Picks x start end = slice_range x start end
 bytes_between Occurrences x start end = []
+bytes_between Words x start end = slice_range x start end
+bytes_between AllWords x start end = []
 
 -- the bytes between two places are held
 pub record LiesHeld {q : Sequence} (s : StreamProgress q) (start end : ℕ) : Type 0 where
@@ -70,8 +72,8 @@ module _ {Z : Type 0} (h : Handling Z) where
       pub within : cut ≤ length x
       pub later : (more : List ℕ) → (rest : List Occurrence) × (items_of q b.dictionary (x ++ more) ≡ done ++ rest)
           × All (λ o. cut ≤ place_of q o) rest
-      pub near : IsNear b.dictionary x cut
-      pub lies : q ≡ Picks → LieInOrder (length b.dictionary.patterns) cut 0 done
+      pub near : IsNear q b.dictionary x cut
+      pub lies : LieApart q → LieInOrder (length b.dictionary.patterns) cut 0 done
       pub chain : IsSinkChain x 0 done cut z last
       pub settled : h.settled last
 
@@ -89,7 +91,7 @@ module _ {Z : Type 0} (h : Handling Z) where
       pub found : Occurrence
       pub others : List Occurrence
       pub first : rest ≡ found ∷ others
-      pub order : q ≡ Picks → at ≤ found.start
+      pub order : LieApart q → at ≤ found.start
       pub refused : h.refuses z (bytes_between q x at found.start) found (bytes_between q x found.start found.end) error
           last
 
@@ -101,7 +103,7 @@ module _ {Z : Type 0} (h : Handling Z) where
       pub all : items_of q b.dictionary x ≡ done ++ (more ++ rest)
       pub at : ℕ
       pub on : from ≤ at
-      pub lies : q ≡ Picks → LieInOrder (length b.dictionary.patterns) at from more
+      pub lies : LieApart q → LieInOrder (length b.dictionary.patterns) at from more
       pub there : Z
       pub chain : IsSinkChain x from more at z there
       pub stop : StopsAtBytes x at rest there error last ⊎ StopsAtItem x at rest there error last
@@ -151,7 +153,7 @@ module _ {Z : Type 0} (h : Handling Z) where
     abbrev pub PumpsAt : {R : Type 0} → (R → Option (List ℕ)) → Built → Watched R → Watched R → Z → Z → Steps → Steps
         → Result (Unit {0}) StreamError → Type 0
     PumpsAt remaining b before after z last steps counted result =
-        Pumps remaining b before after z last result × CostsSearch b before after steps counted result
+        Pumps remaining b before after z last result × CostsItems q b before after steps counted result
 
   -- nothing happened
   abbrev pub IsUntouched : {R : Type 0} → Watched R → Watched R → Z → Z → Steps → Steps → Type 0
@@ -186,7 +188,7 @@ module _ {Z : Type 0} (h : Handling Z) where
       pub on : from ≤ to
       pub more : List Occurrence
       pub given : t.given ≡ s.given ++ more
-      pub lies : q ≡ Picks → LieInOrder (length s.built.dictionary.patterns) to from more
+      pub lies : LieApart q → LieInOrder (length s.built.dictionary.patterns) to from more
       pub chain : IsSinkChain q (read_by s) from more to z last
       pub ready : StaysReady z last
 

@@ -8,7 +8,7 @@ use Rattle.ac_input.specs.Work.{lookups_per_byte}
 use Rattle.ac_automaton.specs.Automaton.{Built}
 use Rattle.ac_automaton.specs.Stream.Devices.Moved.{NoneTouched}
 use Rattle.ac_automaton.specs.InMemory.Replace.{LieInOrder, matches_in}
-use Rattle.ac_automaton.specs.Stream.{AreAllGiven, CanBeCounted, CanStream, IsConfigRefusal, IsFront, IsOnCourse, IsSearched, StreamCounts, StreamProgress, cut_of, read_again, read_by, room_of, Picks, Sequence}
+use Rattle.ac_automaton.specs.Stream.{AreAllGiven, CanBeCounted, CanStream, IsConfigRefusal, IsFront, IsOnCourse, IsSearched, LieApart, StreamCounts, StreamProgress, cut_of, items_of, read_again, read_by, room_of, Picks, Sequence}
 use Rattle.ac_automaton.specs.Stream.Answer.{WritesStream}
 use Rattle.ac_automaton.specs.declared.error.StreamError.{StreamError}
 use Rattle.ac_automaton.specs.declared.error.StreamError.TheVariants.{Config, Memory}
@@ -43,7 +43,7 @@ AcceptsStream kinds b supports result = CanStream kinds b supports
 
 -- ---- what a replacement costs
 
--- What a search of this many bytes of a stream, with so many matches, may cost. Under standard no byte is looked at
+-- What a search of this many bytes of a stream, with so many items, may cost. Under standard no byte is looked at
 -- again.
 pub record IsStreamCost (b : Built) (n matches : ℕ) (before after : Steps) : Type 0 where
   pub looked : after.looked.value
@@ -51,13 +51,18 @@ pub record IsStreamCost (b : Built) (n matches : ℕ) (before after : Steps) : T
   pub scanned : after.scanned.value ≡ before.scanned.value
   pub moved : 7 * after.moved.value ≤ 7 * before.moved.value + n
 
--- What the search of a stream costs, by the bytes that were read and by their matches. If it reached the end, it looked at
+-- What the search of a stream costs, by the bytes that were read and by their items. If it reached the end, it looked at
 -- each byte.
-abbrev pub CostsSearch : {R E : Type 0} → Built → Watched R → Watched R → Steps → Steps → Result (Unit {0}) E → Type 0
-CostsSearch b reader_before reader_after before after result =
+abbrev pub CostsItems : {R E : Type 0} → Sequence → Built → Watched R → Watched R → Steps → Steps → Result (Unit {0}) E
+    → Type 0
+CostsItems q b reader_before reader_after before after result =
     (pieces : List (List ℕ)) × (reader_after.pieces.items ≡ reader_before.pieces.items ++ pieces)
-    × IsStreamCost b (length (concat pieces)) (length (matches_in b (concat pieces))) before after
+    × IsStreamCost b (length (concat pieces)) (length (items_of q b.dictionary (concat pieces))) before after
     × OnOk result (before.looked.value + length (concat pieces) ≤ after.looked.value)
+
+-- what the search for its matches costs
+abbrev pub CostsSearch : {R E : Type 0} → Built → Watched R → Watched R → Steps → Steps → Result (Unit {0}) E → Type 0
+CostsSearch b reader_before reader_after before after result = CostsItems Picks b reader_before reader_after before after result
 
 -- the cost of a replacement: an error before the first read cost nothing
 abbrev pub CostsStream : {R : Type 0} → Built → Watched R → Watched R → Steps → Steps → Result (Unit {0}) StreamError
@@ -75,7 +80,7 @@ pub record IsPlaced {q : Sequence} (s : StreamProgress q) (at : ℕ) : Type 0 wh
   pub countable : CanBeCounted (read_by s)
   pub held : s.from ≤ at
   pub cut : at ≤ cut_of s
-  pub lies : q ≡ Picks → LieInOrder (length s.built.dictionary.patterns) at 0 s.given
+  pub lies : LieApart q → LieInOrder (length s.built.dictionary.patterns) at 0 s.given
 
 -- Every decided item was returned, and this place is the cut.
 pub record IsAtCut {q : Sequence} (s : StreamProgress q) (at : ℕ) : Type 0 where

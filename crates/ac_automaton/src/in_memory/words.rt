@@ -2,16 +2,21 @@
 //!
 //! An occurrence counts only where no word byte stands beside it: see [`words`](crate::words). Of those that count a walk takes the match
 //! under a kind, goes on where it ends, and so on to the end of the text. The automaton is of the standard kind, whatever kind is
-//! asked for, since it meets every occurrence. An empty pattern is an error.
-ghost use Rattle.std.specs.Prelude.{◌≤◌};
+//! asked for, since it meets every occurrence. An empty pattern is an error. All words, overlapping ones too, are in [`overlapping`].
+ghost use Rattle.std.specs.Prelude.{◌≡◌, ◌≤◌, [], length, IfErr, IfOk, OnOk};
 ghost use Rattle.std.specs.Iterator.{YieldsFirst, item_count};
+ghost use Rattle.ac_input.specs.declared.search.Anchored.TheVariants.{No};
 ghost use Rattle.ac_input.specs.Work.{shortest};
-ghost use Rattle.ac_automaton.specs.InMemory.Words.{AnswersWords, CostsNextWord, GivesWord, words_left};
+ghost use Rattle.ac_automaton.specs.InMemory.Words.{AnswersWords, AnswersWordsFrom, CanFindWords, CostsNextWord, GivesWord, IsWordsRefusal, words_left};
 
+pub mod overlapping;
+
+use crate::automaton::Automaton;
 use crate::error::MatchError;
 use crate::in_memory::overlapping::unanchored_start;
 use crate::search::Search;
 use crate::words::{Window, WordPlace, next_word};
+use ac_input::primitives::StateID;
 use ac_input::search::{Match, MatchKind};
 use ac_input::steps::Steps;
 use std::marker::Model;
@@ -38,6 +43,19 @@ impl<'a, 'h, A: Search> Model for FindWordIter<'a, 'h, A> {
     ghost invariant = { λ i. StandsInText (A.built i.automaton.now) (A.Reaches i.automaton.now No) i.haystack.now i.place };
 }
 
+/// The start state of a search for whole words, where the automaton can make one.
+fn start_for_words<A: Automaton>(automaton: &A) -> Result<StateID, MatchError>
+    ensures start { IfOk result (λ sid. A.Reaches automaton.now No [] sid) }
+    ensures can { OnOk result (CanFindWords (A.built automaton.now) (A.supports automaton.now)) }
+    ensures error { IfErr result (IsWordsRefusal (A.built automaton.now) (A.supports automaton.now)) }
+{
+    let start = unanchored_start(automaton)?;
+    if automaton.min_pattern_len() == 0 {
+        return Err(MatchError::unsupported_empty());
+    }
+    Ok(start)
+}
+
 /// The whole words of a text under a kind.
 pub(crate) fn find_word_iter<'a, 'h, A: Search>(
     automaton: &'a A,
@@ -46,14 +64,24 @@ pub(crate) fn find_word_iter<'a, 'h, A: Search>(
 ) -> Result<FindWordIter<'a, 'h, A>, MatchError>
     ensures { AnswersWords (A.built automaton.now) (A.supports automaton.now) kind haystack.entry.now result }
 {
-    let start = unanchored_start(automaton)?;
-    if automaton.min_pattern_len() == 0 {
-        return Err(MatchError::unsupported_empty());
-    }
+    find_word_iter_from(automaton, kind, haystack, 0)
+}
+
+/// The same, of a walk that stands at a place.
+pub(crate) fn find_word_iter_from<'a, 'h, A: Search>(
+    automaton: &'a A,
+    kind: MatchKind,
+    haystack: &'h [u8],
+    at: usize,
+) -> Result<FindWordIter<'a, 'h, A>, MatchError>
+    requires within { at ≤ length haystack.now }
+    ensures { AnswersWordsFrom (A.built automaton.now) (A.supports automaton.now) kind haystack.entry.now at result }
+{
+    let start = start_for_words(automaton)?;
     Ok(FindWordIter {
         automaton,
         haystack,
-        place: WordPlace::new(kind, start),
+        place: WordPlace::new_at(kind, start, at),
         sums: Steps::new(),
     })
 }
@@ -75,6 +103,15 @@ impl<'a, 'h, A: Search> FindWordIter<'a, 'h, A> {
         steps.add(&taken);
         self.sums.add(&taken);
         found
+    }
+
+    /// Where the walk stands: at the end of the last word, or where the walk began if there was none.
+    /// [`try_find_word_iter_from`](crate::search::Search::try_find_word_iter_from) goes on from there.
+    pub fn place(&self) -> usize
+        ensures value { result ≡ self.now.at }
+        ensures within { result ≤ length self.now.haystack }
+    {
+        self.place.last()
     }
 }
 

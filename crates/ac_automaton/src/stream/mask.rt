@@ -10,9 +10,11 @@
 //! prefilter is used.
 //!
 //! [`mask_stream`] masks a stream from a reader into a writer. A [`StreamMask`] owns neither: its pieces are pushed when they come.
+//! [`words`] masks whole words alone.
 ghost use Rattle.std.specs.Prelude.{◌≡◌, false, IfErr};
 ghost use Rattle.ac_automaton.specs.Stream.{CanBeCounted};
-ghost use Rattle.ac_automaton.specs.Stream.Mask.{AcceptsMask, AnswersNewMask, CostsMaskStream, IsOnMask, MaskCounts, MasksPushed, MasksStream, WritesMasked, finished_mask, fresh_mask, passed_to, ready_of};
+ghost use Rattle.ac_automaton.specs.Stream.Mask.{AnswersNewMask, CostsMaskStream, IsOnMask, MaskCounts, MasksPushed, MasksStream, WritesMasked, finished_mask, fresh_mask, passed_to, ready_of};
+ghost use Rattle.ac_automaton.specs.Stream.Overlapping.{AcceptsListing};
 ghost use Rattle.ac_automaton.specs.Stream.Replace.{IsBegun};
 
 use crate::error::StreamError;
@@ -24,6 +26,7 @@ use std::io::{Read, Write};
 use std::marker::Model;
 
 mod masker;
+pub(crate) mod words;
 
 use masker::Masker;
 
@@ -160,7 +163,7 @@ pub(crate) fn mask_stream<A: Search, R: Read, W: Write>(
     requires open { reader.old.ended ≡ false }
     ensures masked { MasksStream R.remaining W.contents (A.built automaton.now) mask reader.old reader.new
         writer.old writer.new result }
-    ensures accepted { AcceptsMask (A.built automaton.now) (A.supports automaton.now) result }
+    ensures accepted { AcceptsListing (A.built automaton.now) (A.supports automaton.now) result }
     ensures cost { CostsMaskStream (A.built automaton.now) reader.old reader.new steps.old steps.new result }
 {
     let mut stream = Masker::new(automaton, mask, alloc)?;

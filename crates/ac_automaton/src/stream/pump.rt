@@ -9,14 +9,16 @@ ghost use Rattle.std.specs.Prelude.{◌≡◌, false, length};
 ghost use Rattle.ac_automaton.specs.Stream.{GoesOn, IsOnCourse, fresh_progress};
 ghost use Rattle.ac_automaton.specs.Stream.Pump.{PassesDecided, Pumps, PumpsMatches, PumpsOccurrences};
 ghost use Rattle.ac_automaton.specs.Stream.Replace.{HasSearched, IsPlaced};
+ghost use Rattle.ac_automaton.specs.Stream.WholeWords.{PumpsAllWords, PumpsWords};
 
 use super::overlapping::ListingSearch;
 use super::search::StreamSearch;
 use super::sink::Sink;
-use super::{ItemSearch, StreamKinds};
+use super::{ItemSearch, OverlappingWordSearch, StreamKinds, WordSearch};
 use crate::error::StreamError;
 use crate::search::Search;
 use crate::stream::devices::watched::Watched;
+use ac_input::search::MatchKind;
 use ac_input::steps::Steps;
 use std::alloc::Global;
 use std::io::Read;
@@ -114,5 +116,46 @@ pub(crate) fn pump_occurrences<A: Search, R: Read, W, K: Sink<W>>(
         reader.old reader.new (sink.old, writer.old) (sink.new, writer.new) steps.old steps.new result }
 {
     let mut stream = ListingSearch::new(automaton, alloc)?;
+    pump(&mut stream, reader, writer, sink, steps)
+}
+
+/// Passes the whole words of a stream under a kind to a sink; counts what it does.
+pub(crate) fn pump_words<A: Search, R: Read, W, K: Sink<W>>(
+    automaton: &A,
+    kind: MatchKind,
+    alloc: Global,
+    reader: &mut Watched<R>,
+    writer: &mut Watched<W>,
+    sink: &mut K,
+    steps: &mut Steps,
+) -> Result<(), StreamError>
+    requires open { reader.old.ended ≡ false }
+    requires ready { K.handling.ready (length (A.built automaton.now).dictionary.patterns)
+        (sink.old, writer.old) }
+    requires settled { K.handling.settled (sink.old, writer.old) }
+    ensures { PumpsWords K.handling R.remaining kind (A.built automaton.now) (A.supports automaton.now)
+        reader.old reader.new (sink.old, writer.old) (sink.new, writer.new) steps.old steps.new result }
+{
+    let mut stream = WordSearch::new(automaton, kind, alloc)?;
+    pump(&mut stream, reader, writer, sink, steps)
+}
+
+/// Passes all whole words of a stream to a sink; counts what it does.
+pub(crate) fn pump_all_words<A: Search, R: Read, W, K: Sink<W>>(
+    automaton: &A,
+    alloc: Global,
+    reader: &mut Watched<R>,
+    writer: &mut Watched<W>,
+    sink: &mut K,
+    steps: &mut Steps,
+) -> Result<(), StreamError>
+    requires open { reader.old.ended ≡ false }
+    requires ready { K.handling.ready (length (A.built automaton.now).dictionary.patterns)
+        (sink.old, writer.old) }
+    requires settled { K.handling.settled (sink.old, writer.old) }
+    ensures { PumpsAllWords K.handling R.remaining (A.built automaton.now) (A.supports automaton.now)
+        reader.old reader.new (sink.old, writer.old) (sink.new, writer.new) steps.old steps.new result }
+{
+    let mut stream = OverlappingWordSearch::new(automaton, alloc)?;
     pump(&mut stream, reader, writer, sink, steps)
 }

@@ -5,9 +5,12 @@
 //!
 //! Nothing is tried again, and nothing is flushed. Both buffers are allocated before the first read, and no memory after that.
 ghost use Rattle.std.specs.Prelude.{◌≡◌, false, length, map};
+ghost use Rattle.ac_automaton.specs.Stream.Overlapping.{AcceptsListing};
 ghost use Rattle.ac_automaton.specs.Stream.Replace.{AcceptsStream, CostsStream, ReplacesStream};
+ghost use Rattle.ac_automaton.specs.Stream.WholeWords.{CostsWordStream, ReplacesWords, asked_for};
 
-use super::pump::pump_matches;
+use super::overlapping;
+use super::pump::{pump_matches, pump_words};
 use super::search::configured;
 use super::sink::Sink;
 use crate::error::StreamError;
@@ -15,7 +18,7 @@ use crate::search::Search;
 use crate::stream::StreamKinds;
 use crate::stream::devices::output::Output;
 use crate::stream::devices::watched::Watched;
-use ac_input::search::Match;
+use ac_input::search::{Match, MatchKind};
 use ac_input::steps::Steps;
 use std::alloc::Global;
 use std::io::{Read, Write};
@@ -83,4 +86,32 @@ pub fn replace_all_counted<A: Search, R: Read, W: Write>(
         output,
     };
     pump_matches(automaton, kinds, alloc, reader, writer, &mut sink, steps)
+}
+
+/// Writes the input with each of its whole words under a kind replaced by the replacement of its pattern, and counts what it does.
+pub fn replace_words_counted<A: Search, R: Read, W: Write>(
+    automaton: &A,
+    kind: MatchKind,
+    alloc: Global,
+    reader: &mut Watched<R>,
+    writer: &mut Watched<W>,
+    replacements: &[&[u8]],
+    steps: &mut Steps,
+) -> Result<(), StreamError>
+    requires open { reader.old.ended ≡ false }
+    requires one_each { length replacements.now
+        ≡ length (A.built automaton.now).dictionary.patterns }
+    ensures replaced { ReplacesWords R.remaining W.contents (asked_for kind (A.built automaton.now))
+        (map (λ r. r.now) replacements.now) reader.old reader.new writer.old writer.new result }
+    ensures accepted { AcceptsListing (A.built automaton.now) (A.supports automaton.now) result }
+    ensures cost { CostsWordStream (asked_for kind (A.built automaton.now)) reader.old reader.new
+        steps.old steps.new result }
+{
+    overlapping::configured(automaton)?;
+    let output = Output::new(alloc)?;
+    let mut sink = Replacements {
+        replacements,
+        output,
+    };
+    pump_words(automaton, kind, alloc, reader, writer, &mut sink, steps)
 }

@@ -10,8 +10,8 @@ use ac_input::search::Match;
 
 /// It is passed the items of a stream, one after another, with the text between them, and makes of them what a writer takes.
 ///
-/// It is passed the same writer each time. Under a search for every occurrence it is passed items alone: these may overlap, so
-/// there is no text between them.
+/// It is passed the same writer each time. Of every occurrence, or of all whole words, it is passed items alone: these may overlap,
+/// so there is no text between them.
 pub trait Sink<W> {
     ghost use Rattle.std.specs.Prelude.{ℕ, ◌<◌, List, [], ◌++◌};
     ghost use Rattle.ac_input.specs.Occurrence.{Occurrence};

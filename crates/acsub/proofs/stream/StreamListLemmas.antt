@@ -2,6 +2,7 @@
 use Rattle.std.proofs.Common.{◌≡◌, inl, inr, ℕ, ◌≤◌, List, [], ◌∷◌, ◌++◌, length, Option, Result, Ok, Err, refl, sym, ap, ◌∙◌, subst, arith}
 use Rattle.std.specs.Prelude.{IfErr}
 use Rattle.ac_input.specs.declared.search.Anchored.{Anchored}
+use Rattle.ac_input.specs.declared.search.MatchKind.{MatchKind}
 use Rattle.ac_input.specs.declared.search.MatchKind.TheVariants.{Standard}
 use Rattle.ac_input.specs.declared.steps.Steps.{Steps}
 use Rattle.ac_input.specs.Occurrence.{Occurrence}
@@ -9,11 +10,12 @@ use Rattle.ac_input.specs.Text.{line, listed}
 use Rattle.ac_input.specs.Work.{shortest}
 use Rattle.ac_automaton.specs.Automaton.{Built}
 use Rattle.ac_automaton.specs.Stream.Devices.Moved.{NoneTouched}
-use Rattle.ac_automaton.specs.Stream.{CanStream, Occurrences, Picks, Sequence, items_of, room_of}
+use Rattle.ac_automaton.specs.Stream.{AllWords, CanStream, Occurrences, Picks, Sequence, Words, items_of, room_of}
 use Rattle.ac_automaton.specs.Stream.Overlapping.{IsListingConfigRefusal, IsListingRefusal}
 use Rattle.ac_automaton.specs.Stream.Pump.{HasComeToCut, IsUntouched, PumpsAt, PumpsMatches, PumpsOccurrences}
-use Rattle.ac_automaton.specs.Stream.Replace.{CostsSearch, IsBegun}
+use Rattle.ac_automaton.specs.Stream.Replace.{CostsItems, IsBegun}
 use Rattle.ac_automaton.specs.Stream.Texts.{sending, text_between}
+use Rattle.ac_automaton.specs.Stream.WholeWords.{PumpsAllWords, PumpsWords, asked_for}
 use Rattle.ac_automaton.specs.declared.error.MatchErrorKind.{MatchErrorKind}
 use Rattle.ac_automaton.specs.declared.error.StreamError.{StreamError}
 use Rattle.ac_automaton.specs.declared.error.StreamError.TheVariants as reads
@@ -84,7 +86,7 @@ pub record HasListed {R W : Type 0} (q : Sequence) (remaining : R → Option (Li
     (b : Built) (old new : Watched R × Watched W) (before after : Steps)
     (result : Result (Unit {0}) StreamError) : Type 0 where
   pub lists : ListsStream q remaining contents b old new result
-  pub costs : CostsSearch b old.0 new.0 before after result
+  pub costs : CostsItems q b old.0 new.0 before after result
   pub memory : IfStreamMemory result (NoneTouched old.0 new.0 old.1 new.1)
   pub accepted : IfErr result IsNoRefusal
 
@@ -110,7 +112,7 @@ module _ {K W : Type 0} (contents : W → Option (List ℕ)) (output : K → Lis
       (subst (λ s. HasListed q remaining contents b (r0, z.1) (r0, z.1) before s (Err reads.Memory)) (sym same.2)
       (record {
         lists = lists-nothing q remaining contents b (r0, z.1);
-        costs = cost-nothing b r0 before reads.Memory;
+        costs = cost-nothing q b r0 before reads.Memory;
         memory = λ e. (refl, refl);
         accepted = λ refusal e. let apart : reads.Memory ≡ reads.Config refusal = e in cc;
       }))))
@@ -154,28 +156,61 @@ module _ {K W : Type 0} (contents : W → Option (List ℕ)) (output : K → Lis
       unlisted Occurrences error (refused-every b supports error can none.0) none.1
   occurrences-listed can (Err error) (inr pumps) = listed-stream Occurrences (Err error) pumps.1
 
+  -- every whole word was pumped
+  pub all_words-listed : CanStream OnlyStandard b supports → (result : Result (Unit {0}) StreamError)
+      → PumpsAllWords (sending contents output (λ k. listing_lines) accepts) remaining b supports r0 r1 z last before
+      after result → HasListed AllWords remaining contents b (r0, z.1) (r1, last.1) before after result
+  all_words-listed can (Ok done) pumps = listed-stream AllWords (Ok done) pumps.1
+  all_words-listed can (Err error) (inl none) =
+      unlisted AllWords error (refused-every b supports error can none.0) none.1
+  all_words-listed can (Err error) (inr pumps) = listed-stream AllWords (Err error) pumps.1
+
+module _ {K W : Type 0} (contents : W → Option (List ℕ)) (output : K → List ℕ) (accepts : ℕ → K → Type 0)
+    (z : K × Watched W) (empty : output z.0 ≡ []) {R : Type 0} (remaining : R → Option (List ℕ)) (kind : MatchKind)
+    (b : Built) (supports : Anchored → Type 0) (r0 r1 : Watched R) (last : K × Watched W) (before after : Steps) where
+  -- the words under a kind were pumped
+  pub words-listed : CanStream OnlyStandard b supports → (result : Result (Unit {0}) StreamError)
+      → PumpsWords (sending contents output (λ k. listing_lines) accepts) remaining kind b supports r0 r1 z last before
+      after result
+      → HasListed Words remaining contents (asked_for kind b) (r0, z.1) (r1, last.1) before after result
+  words-listed can (Ok done) pumps =
+      listed-stream contents output accepts z empty remaining (asked_for kind b) supports r0 r1 last before after Words
+      (Ok done) pumps.1
+  words-listed can (Err error) (inl none) =
+      unlisted contents output accepts z empty remaining (asked_for kind b) supports r0 r1 last before after Words error
+      (refused-every b supports error can none.0) none.1
+  words-listed can (Err error) (inr pumps) =
+      listed-stream contents output accepts z empty remaining (asked_for kind b) supports r0 r1 last before after Words
+      (Err error) pumps.1
+
 -- ---- what settings and rules say
 
--- the mode that lists the items of a sequence
-abbrev pub mode_of : Sequence → Mode
-mode_of Picks = modes.List
-mode_of Occurrences = modes.Overlap
+-- the mode lists the items of a sequence; none lists whole words
+abbrev pub IsModeOf : Sequence → Mode → Type 0
+IsModeOf Picks mode = mode ≡ modes.List
+IsModeOf Occurrences mode = mode ≡ modes.Overlap
+IsModeOf Words mode = ⊥
+IsModeOf AllWords mode = ⊥
 
 module _ (plan : Plan) (b : Built) (built : b.dictionary ≡ dictionary_for plan.settings plan.rules) where
   -- the lines of an input's items are the text of the plan
-  lines-output : (q : Sequence) → plan.settings.mode ≡ mode_of q → (x : List ℕ)
+  lines-output : (q : Sequence) → IsModeOf q plan.settings.mode → (x : List ℕ)
       → lines_of q b.dictionary x ≡ output_of plan.settings plan.rules x
   lines-output Picks mode x = ap (λ m. lines_of Picks m x) built ∙ output-in plan x modes.List mode
   lines-output Occurrences mode x = ap (λ m. lines_of Occurrences m x) built ∙ output-in plan x modes.Overlap mode
+  lines-output Words mode x = absurd mode
+  lines-output AllWords mode x = absurd mode
 
   -- the buffer has the room that the plan says
-  lines-room : (q : Sequence) → plan.settings.mode ≡ mode_of q
+  lines-room : (q : Sequence) → IsModeOf q plan.settings.mode
       → room_of q b ≡ room_in plan.settings.mode plan.rules
   lines-room Picks mode = room-in plan b modes.List built mode refl
   lines-room Occurrences mode = ap (λ asked. room_in asked plan.rules) (sym mode)
+  lines-room Words mode = absurd mode
+  lines-room AllWords mode = absurd mode
 
   -- a line for each decided item is all that can be written so far
-  lines-front : (q : Sequence) → plan.settings.mode ≡ mode_of q → (q ≡ Occurrences → b.dictionary.kind ≡ Standard)
+  lines-front : (q : Sequence) → IsModeOf q plan.settings.mode → (q ≡ Occurrences → b.dictionary.kind ≡ Standard)
       → (x text : List ℕ) → IsDecidedList q b.dictionary x text → IsOutputFront plan.settings plan.rules x text
   lines-front Picks mode standard x text front = record {
     replaced = λ other. let apart : modes.List ≡ modes.Replace = sym mode ∙ other in absurd (cc);
@@ -187,9 +222,11 @@ module _ (plan : Plan) (b : Built) (built : b.dictionary ≡ dictionary_for plan
     listed = λ other. let apart : modes.Overlap ≡ modes.List = sym mode ∙ other in absurd (cc);
     overlapping = λ _. front.2 ∙ ap listed (front.1.all (standard refl)) ∙ lines-output Occurrences mode x;
   }
+  lines-front Words mode standard x text front = absurd mode
+  lines-front AllWords mode standard x text front = absurd mode
 
   -- a list of the items is the text of the plan
-  pub list-plan : {R W : Type 0} (q : Sequence) → plan.settings.mode ≡ mode_of q
+  pub list-plan : {R W : Type 0} (q : Sequence) → IsModeOf q plan.settings.mode
       → (q ≡ Occurrences → b.dictionary.kind ≡ Standard)
       → (remaining : R → Option (List ℕ)) (contents : W → Option (List ℕ)) (old new : Watched R × Watched W)
       (result : Result (Unit {0}) StreamError)

@@ -16,10 +16,9 @@ use Rattle.ac_automaton.specs.Automaton.{Built}
 use Rattle.ac_automaton.specs.Stream.Devices.Buffer.{room_for}
 use Rattle.std.specs.Prelude.{IfErr, OnOk, max}
 use Rattle.ac_automaton.specs.Stream.Devices.Moved.{AllFit, Failed, Moved, NoneTouched, but_last}
-use Rattle.ac_automaton.specs.Stream.{CanStream, IsConfigRefusal, IsStreamRefusal, IsFront, IsNear, room_of, Picks}
+use Rattle.ac_automaton.specs.Stream.{CanStream, IsConfigRefusal, IsStreamRefusal, IsFront, IsNear, Picks, Sequence, room_of}
 use Rattle.ac_automaton.specs.Stream.Answer.{AnswersWriting, WritesStream, WroteToFailedWrite}
-use Rattle.ac_automaton.specs.Stream.Replace.{AcceptsStream, CostsSearch, IsBegun, ReplacesStream, replaced_in}
-use Rattle.ac_automaton.proofs.stream.StreamAnswerLemmas.{cost-none}
+use Rattle.ac_automaton.specs.Stream.Replace.{AcceptsStream, CostsItems, CostsSearch, IsBegun, ReplacesStream, replaced_in}
 use Rattle.ac_input.specs.declared.steps.Steps.{Steps}
 use Rattle.ac_automaton.specs.declared.error.MatchErrorKind.{MatchErrorKind}
 use Rattle.ac_automaton.specs.declared.error.StreamError.{StreamError}
@@ -86,14 +85,13 @@ module _ (b : Built) (supports : Anchored → Type 0) (can : CanStream AnyKind b
   replaces-accepted (Err error) accepts =
       λ refusal e. can-config refusal (subst (λ other. AcceptsStream AnyKind b supports (Err other)) e accepts)
 
--- a replacement that is out of memory has touched neither device
-pub replaces-memory : {R W : Type 0} (remaining : R → Option (List ℕ)) (contents : W → Option (List ℕ)) (b : Built)
-    (replacements : List (List ℕ)) (r r' : Watched R) (w w' : Watched W) (result : Result (Unit {0}) StreamError)
-    → ReplacesStream remaining contents b replacements r r' w w' result → IfStreamMemory result (NoneTouched r r' w w')
-replaces-memory remaining contents b replacements r r' w w' (Ok done) replaces = tt
-replaces-memory remaining contents b replacements r r' w w' (Err error) replaces =
-    λ e. elim (subst (λ other. IsBegun other ⊎ NoneTouched r r' w w') e replaces.1) [
-      | inl begun ↦ absurd begun
+-- where memory ran out, no device was touched: all other errors of a stream come later
+pub begun-memory : {R W : Type 0} (r r' : Watched R) (w w' : Watched W) (result : Result (Unit {0}) StreamError)
+    → IfErr result (λ error. IsBegun error ⊎ NoneTouched r r' w w') → IfStreamMemory result (NoneTouched r r' w w')
+begun-memory r r' w w' (Ok done) begun = tt
+begun-memory r r' w w' (Err error) begun =
+    λ e. elim (subst (λ other. IsBegun other ⊎ NoneTouched r r' w w') e begun) [
+      | inl past ↦ absurd past
       | inr same ↦ same
     ]
 
@@ -125,7 +123,7 @@ replaced-front b plan x text is mode f =
       replaced = λ _. record {
         cut = f.cut;
         is_cut = subst (λ m. IsCut m x f.cut) is f.is_cut;
-        near = subst (λ m. IsNear m x f.cut) is f.near;
+        near = subst (λ m. IsNear Picks m x f.cut) is f.near;
         front = f.front ∙ replaced-output b plan (take f.cut x) is mode;
       };
       listed = λ other. let apart : modes.Replace ≡ modes.List = sym mode ∙ other in absurd (cc);
@@ -230,9 +228,10 @@ replace-plan remaining contents b plan old new result is mode replaces =
 -- ---- what it costs
 
 -- if nothing was read, nothing was counted
-pub cost-nothing : {R E : Type 0} (b : Built) (r : Watched R) (steps : Steps) (error : E)
-    → CostsSearch b r r steps steps (Err error)
-cost-nothing b r steps error = let cost = cost-none b r steps stream.Memory in (cost.0.0, cost.0.1, cost.0.2, tt)
+pub cost-nothing : {R E : Type 0} (q : Sequence) (b : Built) (r : Watched R) (steps : Steps) (error : E)
+    → CostsItems q b r r steps steps (Err error)
+cost-nothing q b r steps error =
+    ([], sym (append-nil _), record { looked = omega arith; scanned = refl; moved = omega arith }, tt)
 
 -- ---- the run's result
 

@@ -1,5 +1,5 @@
 -- What the outcome of the program says of the run, the help and the flush.
-use Rattle.std.proofs.Common.{◌≡◌, ◌⊎◌, inl, inr, ℕ, List, Option, Some, None, Result, Ok, Err, refl, sym, ap, ◌∙◌, subst}
+use Rattle.std.proofs.Common.{◌≡◌, ◌⊎◌, inl, inr, ℕ, Bool, true, false, List, Option, Some, None, Result, Ok, Err, refl, sym, ap, ◌∙◌, subst}
 use Rattle.std.specs.Prelude.{IfErr, String, Vec}
 use Rattle.std.specs.declared.alloc.Global.{Global}
 use Rattle.std.specs.declared.io.Error.{Error}
@@ -47,22 +47,29 @@ module _ {W : Type 0} (contents : W → Option (List ℕ)) (before between after
 -- no run returns a fault of the words, of the rule file or of the flush
 module _ {R W : Type 0} (remaining : R → Option (List ℕ)) (contents : W → Option (List ℕ)) (asked : Words)
     (old new : Watched R × Watched W) (file : List ℕ) where
-  never-words : (mask : Option ℕ) → ¬ RanAsBy remaining contents mask asked old new file (Err faults.Words)
-  never-words None ran = ran
-  never-words (Some mask) ran = ran
+  never-words : (mask : Option ℕ) (word : Bool)
+      → ¬ RanAsBy remaining contents mask word asked old new file (Err faults.Words)
+  never-words None false ran = ran
+  never-words None true ran = ran
+  never-words (Some mask) word ran = ran
 
-  never-pairs : (mask : Option ℕ) (e : PairingError)
-      → ¬ RanAsBy remaining contents mask asked old new file (Err (faults.Pairs e))
-  never-pairs None e ran = ran
-  never-pairs (Some mask) e ran = ran
+  never-pairs : (mask : Option ℕ) (word : Bool) (e : PairingError)
+      → ¬ RanAsBy remaining contents mask word asked old new file (Err (faults.Pairs e))
+  never-pairs None false e ran = ran
+  never-pairs None true e ran = ran
+  never-pairs (Some mask) word e ran = ran
 
-  never-file : (mask : Option ℕ) → ¬ RanAsBy remaining contents mask asked old new file (Err faults.RuleFile)
-  never-file None ran = ran
-  never-file (Some mask) ran = ran
+  never-file : (mask : Option ℕ) (word : Bool)
+      → ¬ RanAsBy remaining contents mask word asked old new file (Err faults.RuleFile)
+  never-file None false ran = ran
+  never-file None true ran = ran
+  never-file (Some mask) word ran = ran
 
-  never-flush : (mask : Option ℕ) → ¬ RanAsBy remaining contents mask asked old new file (Err faults.Flush)
-  never-flush None ran = ran
-  never-flush (Some mask) ran = ran
+  never-flush : (mask : Option ℕ) (word : Bool)
+      → ¬ RanAsBy remaining contents mask word asked old new file (Err faults.Flush)
+  never-flush None false ran = ran
+  never-flush None true ran = ran
+  never-flush (Some mask) word ran = ran
 
 module _ {F R W : Type 0} (held : F → Option (List ℕ)) (remaining : R → Option (List ℕ))
     (contents : W → Option (List ℕ)) (asked : Words) where
@@ -72,15 +79,15 @@ module _ {F R W : Type 0} (held : F → Option (List ℕ)) (remaining : R → Op
       → Flushes contents between after 0 ⊎ Flushes contents between after 1
       → AnswersFile held remaining contents old (r', after) asked (Err stopped)
   run-stopped old r' between after faults.Words ran flush =
-      absurd (never-words remaining contents asked old (r', between) ran.file asked.mask ran.ran)
+      absurd (never-words remaining contents asked old (r', between) ran.file asked.mask asked.word ran.ran)
   run-stopped old r' between after (faults.Pairs e) ran flush =
-      absurd (never-pairs remaining contents asked old (r', between) ran.file asked.mask e ran.ran)
+      absurd (never-pairs remaining contents asked old (r', between) ran.file asked.mask asked.word e ran.ran)
   run-stopped old r' between after faults.RuleFile ran flush =
-      absurd (never-file remaining contents asked old (r', between) ran.file asked.mask ran.ran)
+      absurd (never-file remaining contents asked old (r', between) ran.file asked.mask asked.word ran.ran)
   run-stopped old r' between after faults.Flush ran flush =
-      absurd (never-flush remaining contents asked old (r', between) ran.file asked.mask ran.ran)
-  run-stopped old r' between after (faults.Mask refusal) ran (inl flush) = inl (between, ran, flush)
-  run-stopped old r' between after (faults.Mask refusal) ran (inr flush) = inr (between, ran, flush)
+      absurd (never-flush remaining contents asked old (r', between) ran.file asked.mask asked.word ran.ran)
+  run-stopped old r' between after (faults.Refused refusal) ran (inl flush) = inl (between, ran, flush)
+  run-stopped old r' between after (faults.Refused refusal) ran (inr flush) = inr (between, ran, flush)
   run-stopped old r' between after (faults.Run e) ran (inl flush) = inl (between, ran, flush)
   run-stopped old r' between after (faults.Run e) ran (inr flush) = inr (inl (between, ran, flush))
 

@@ -95,11 +95,12 @@ command_with lists =
     (with_matching lists.kinds
     (with_rule
     (with_rule
+    (with_rule
     (with_rule (with_rule (with_rule versioned (mode_rule lists.modes)) (placed (codes "rules"))) (flag (codes "text")))
-    (flag (codes "stream"))) (option (codes "with"))))
+    (flag (codes "stream"))) (flag (codes "word"))) (option (codes "with"))))
 
--- acsub MODE RULES [--text] [--stream] [--with HEX] [--kind K] [--fold] [--pairs HEX] [--engine E] [--no-prefilter]
--- [--dense-depth N] [--no-byte-classes]
+-- acsub MODE RULES [--text] [--stream] [--word] [--with HEX] [--kind K] [--fold] [--pairs HEX] [--engine E]
+-- [--no-prefilter] [--dense-depth N] [--no-byte-classes]
 abbrev pub command : App
 command =
     command_with (record { modes = as_names mode_names; kinds = as_names kind_names; engines = as_names engine_names })

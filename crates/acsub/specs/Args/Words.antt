@@ -156,12 +156,14 @@ Misspells hex (Pairing e) = ⊥
 
 -- ---- the result
 
--- the settings, the rule file's path and form, whether to stream, and the mask, are those that the matches give
+-- the settings, the rule file's path and form, whether to stream, whether words alone count, and the mask, are those that
+-- the matches give
 pub record AsksFor (rows : List Row) (w : Words) : Type 0 where
   pub mode : mode_of rows ≡ Some w.settings.mode
   pub rules : rules_path rows ≡ Some w.rules.now
   pub text : w.text ≡ is_given (codes "text") rows
   pub stream : w.stream ≡ is_given (codes "stream") rows
+  pub word : w.word ≡ is_given (codes "word") rows
   pub mask : IsMaskedBy rows w.mask
   pub kind : match_kind_of rows ≡ Some w.settings.kind
   pub pairing : IsPairedBy rows w.settings.pairing

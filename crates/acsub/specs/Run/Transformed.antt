@@ -1,7 +1,7 @@
 -- The text that a run makes of its input, the front of it that is decided early, and when a run may write it early.
-use Rattle.std.specs.Prelude.{◌≡◌, ◌≢◌, ◌⊎◌, ℕ, List, false, true, max}
+use Rattle.std.specs.Prelude.{◌≡◌, ◌≢◌, ◌⊎◌, ℕ, List, None, false, true, max}
 use Rattle.ac_input.specs.declared.search.MatchKind.{MatchKind}
-use Rattle.ac_input.specs.Computed.{walk_of, listing_of}
+use Rattle.ac_input.specs.Computed.{occurrences, walk_among, listing_among}
 use Rattle.ac_input.specs.Dictionary.{Dictionary, whole}
 use Rattle.ac_input.specs.Occurrence.{Occurrence, Search}
 use Rattle.ac_input.specs.Rules.{Rule}
@@ -17,11 +17,16 @@ use Rattle.acsub.specs.Served.{dictionary_for}
 use Rattle.acsub.specs.Args.Settings.{FindsEarly, HasEmptyPattern}
 use Rattle.acsub.specs.Rules.Sides.{rule_patterns, replacements_of}
 
--- the text that a mode makes of a search
+-- the text that a mode makes of a search, where `all` lists the occurrences that count
+abbrev pub text_among : (Search → List Occurrence) → Mode → MatchKind → List (List ℕ) → Search → List ℕ
+text_among all modes.Replace kind replacements s =
+    replaced_from 0 s.haystack replacements (walk_among all kind s s.start None)
+text_among all modes.List kind replacements s = listed (walk_among all kind s s.start None)
+text_among all modes.Overlap kind replacements s = listed (listing_among all s)
+
+-- the same, where every occurrence counts
 abbrev pub text_in : Mode → MatchKind → List (List ℕ) → Search → List ℕ
-text_in modes.Replace kind replacements s = replaced_from 0 s.haystack replacements (walk_of kind s)
-text_in modes.List kind replacements s = listed (walk_of kind s)
-text_in modes.Overlap kind replacements s = listed (listing_of s)
+text_in mode kind replacements s = text_among occurrences mode kind replacements s
 
 -- The text that settings and rules make of an input. It doesn't depend on the engine, the prefilter, the dense depth or
 -- byte classes.

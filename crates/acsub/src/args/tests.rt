@@ -16,6 +16,8 @@ enum Asks {
     Text(Told),
     /// The same, where the text is asked for while the input is read.
     Stream(Told),
+    /// The same, where whole words alone count.
+    Word(Told),
     /// For a mask by this byte, by rules that are of hex.
     Mask(u8),
     /// For nothing: they are bad words.
@@ -26,7 +28,7 @@ enum Asks {
     Help,
 }
 
-use Asks::{Bad, Help, Mask, Run, Stream, Text, Twice};
+use Asks::{Bad, Help, Mask, Run, Stream, Text, Twice, Word};
 
 /// The words after the program's name.
 struct Row(&'static [&'static str], Asks);
@@ -76,6 +78,11 @@ const ROWS: &[Row] = &[
     Row(&["--stream", "list", "rules"], Stream(LISTING)),
     Row(&["list", "rules", "--stream=yes"], Bad),
     Row(&["list", "rules", "--stream", "--stream"], Bad),
+    // Whole words.
+    Row(&["replace", "rules", "--word"], Word(PLAIN)),
+    Row(&["--word", "list", "rules"], Word(LISTING)),
+    Row(&["list", "rules", "--word=yes"], Bad),
+    Row(&["list", "rules", "--word", "--word"], Bad),
     // Each kind.
     Row(&["list", "rules", "--kind", "standard"], Run(LISTING)),
     Row(
@@ -221,13 +228,18 @@ fn asks_for(rt: &impl Abort, alloc: Global, row: &Row) -> Result<(), Fail> {
     let Row(words, asks) = row;
     let line = command_line(alloc, words)?;
     let asked = match (asks, read_words(alloc, line.as_slice())) {
-        (Run(told) | Text(told) | Stream(told), Ok(read)) => {
-            let forms = (matches!(asks, Text(_)), matches!(asks, Stream(_)));
-            let same = (read.text, read.stream) == forms && read.mask.is_none();
+        (Run(told) | Text(told) | Stream(told) | Word(told), Ok(read)) => {
+            let forms = (
+                matches!(asks, Text(_)),
+                matches!(asks, Stream(_)),
+                matches!(asks, Word(_)),
+            );
+            let same = (read.text, read.stream, read.word) == forms && read.mask.is_none();
             read.rules == "rules" && same && read.settings == told.settings()?
         }
         (Mask(byte), Ok(read)) => {
-            read.mask == Some(*byte) && read.settings == OVERLAPPING.settings()?
+            (read.mask, read.word) == (Some(*byte), false)
+                && read.settings == OVERLAPPING.settings()?
         }
         (Bad, Err(WordsFault::Bad)) => true,
         (Twice(byte), Err(WordsFault::Pairing(PairingError::Twice(twice)))) => *byte == twice,

@@ -1,19 +1,20 @@
-//! A list over a stream: of its matches, or of all that overlap.
+//! A list over a stream: of its matches, or of all that overlap; or of its whole words, under a kind or all of them.
 //!
 //! It has no loop of its own. It is a [`Sink`], into which the engine pumps the stream: the sink writes a line for each
 //! item that it is passed, and nothing of the text.
 //!
 //! A line for each match is written as soon as the match is decided. Under the standard kind no later byte can change it, so all
 //! matches of what was read are listed before the next read. Under a leftmost kind a match waits until no byte that follows can
-//! change it, or until the input ends. No later byte can change an occurrence that was met. A reader that waits keeps no decided
-//! line back. The lines are gathered into one buffer, which is written before each read, so that a stream over a file makes about
+//! change it, or until the input ends. No later byte can change an occurrence that was met; whether it is a whole word, the byte after
+//! it says. A reader that waits keeps no decided line back. The lines are gathered into one buffer, which is written before each read, so that a stream over a file makes about
 //! one write a read.
 //!
 //! Both buffers are taken before the first read, and no memory after that. Nothing is tried again, and nothing is flushed.
 ghost use Rattle.std.specs.Prelude.{◌≡◌, false, IfErr};
 ghost use Rattle.ac_automaton.specs.Stream.Devices.Moved.{NoneTouched};
-ghost use Rattle.ac_automaton.specs.Stream.{CanStream, Occurrences, Picks};
-ghost use Rattle.ac_automaton.specs.Stream.Replace.{CostsSearch};
+ghost use Rattle.ac_automaton.specs.Stream.{AllWords, CanStream, Occurrences, Picks, Words};
+ghost use Rattle.ac_automaton.specs.Stream.Replace.{CostsItems, CostsSearch};
+ghost use Rattle.ac_automaton.specs.Stream.WholeWords.{asked_for};
 ghost use Rattle.ac_automaton.specs.declared.stream.StreamKinds.TheVariants.{AnyKind, OnlyStandard};
 ghost use Rattle.aho_corasick.specs.AhoCorasick.{as_built, supported_by};
 ghost use Rattle.acsub.specs.Stream.{IfStreamMemory, IsNoRefusal};
@@ -25,7 +26,7 @@ use ac_automaton::output::Output;
 use ac_automaton::stream::StreamKinds;
 use ac_automaton::stream::sink::Sink;
 use ac_automaton::watched::Watched;
-use ac_input::search::Match;
+use ac_input::search::{Match, MatchKind};
 use ac_input::steps::Steps;
 use aho_corasick::AhoCorasick;
 use std::alloc::Global;
@@ -121,4 +122,51 @@ pub(crate) fn list_every<R: Read, W: Write>(
     let output = Output::new(alloc)?;
     let mut lines = Lines { output };
     engine.try_stream_pump_occurrences(alloc, reader, writer, &mut lines, steps)
+}
+
+/// Takes both buffers, and writes a line for each whole word under a kind in what is read.
+pub(crate) fn list_words<R: Read, W: Write>(
+    alloc: Global,
+    kind: MatchKind,
+    engine: &AhoCorasick,
+    reader: &mut Watched<R>,
+    writer: &mut Watched<W>,
+    steps: &mut Steps,
+) -> Result<(), StreamError>
+    requires open { reader.old.ended ≡ false }
+    requires can { CanStream OnlyStandard (as_built engine.now) (supported_by engine.now) }
+    ensures lists { ListsStream Words R.remaining W.contents (asked_for kind (as_built engine.now))
+        (reader.old, writer.old) (reader.new, writer.new) result }
+    ensures costs { CostsItems Words (asked_for kind (as_built engine.now)) reader.old reader.new
+        steps.old steps.new result }
+    ensures memory { IfStreamMemory result
+        (NoneTouched reader.old reader.new writer.old writer.new) }
+    ensures accepted { IfErr result IsNoRefusal }
+{
+    let output = Output::new(alloc)?;
+    let mut lines = Lines { output };
+    engine.try_stream_pump_words(kind, alloc, reader, writer, &mut lines, steps)
+}
+
+/// Takes both buffers, and writes a line for each whole word in what is read, overlapping ones too.
+pub(crate) fn list_all_words<R: Read, W: Write>(
+    alloc: Global,
+    engine: &AhoCorasick,
+    reader: &mut Watched<R>,
+    writer: &mut Watched<W>,
+    steps: &mut Steps,
+) -> Result<(), StreamError>
+    requires open { reader.old.ended ≡ false }
+    requires can { CanStream OnlyStandard (as_built engine.now) (supported_by engine.now) }
+    ensures lists { ListsStream AllWords R.remaining W.contents (as_built engine.now)
+        (reader.old, writer.old) (reader.new, writer.new) result }
+    ensures costs { CostsItems AllWords (as_built engine.now) reader.old reader.new
+        steps.old steps.new result }
+    ensures memory { IfStreamMemory result
+        (NoneTouched reader.old reader.new writer.old writer.new) }
+    ensures accepted { IfErr result IsNoRefusal }
+{
+    let output = Output::new(alloc)?;
+    let mut lines = Lines { output };
+    engine.try_stream_pump_all_words(alloc, reader, writer, &mut lines, steps)
 }

@@ -13,8 +13,10 @@ use std::rt::Files;
 use std::test::Fail;
 
 mod masks;
+mod words;
 
 use masks::MASKS;
+use words::WORDS;
 
 /// Where the rule file lies while a row is tried.
 const PATH: &str = "out/tool.rules";
@@ -45,6 +47,9 @@ Options:
 
       --stream
           Write while reading under every kind and mode, where that can be
+
+      --word
+          Count only whole words: no letter, digit, '_' or byte from 80 on beside them
 
       --with <HEX>
           Mask with this byte, two hex digits [default: 2a, which is *]
@@ -523,7 +528,7 @@ fn does<F: Abort + Files>(rt: &F, alloc: Global, row: &Row) -> Result<(), AllocE
 #[test]
 fn does_what_the_words_say(rt: HostRuntime) -> Result<(), Fail> {
     fs::create_dir_all(&rt, "out")?;
-    for rows in [ROWS, MASKS] {
+    for rows in [ROWS, MASKS, WORDS] {
         for row in rows {
             fs::write(&rt, PATH, row.rules)?;
             does(&rt, rt.alloc(), row)?;
@@ -539,7 +544,7 @@ const LITTLE: &str = "out/little.rules";
 /// The line of a program that is out of memory.
 const NO_MEMORY: &str = "acsub: out of memory\n";
 
-/// Runs that write while they read, one that masks too; those that hold their input, by an automaton and by packed search; and help.
+/// Runs that write while they read, one for whole words and one that masks too; those that hold their input, by an automaton and by packed search; and help.
 const IN_LITTLE: &[Row] = &[
     Row {
         words: &["replace", LITTLE, "--pairs", "5878"],
@@ -577,6 +582,12 @@ const IN_LITTLE: &[Row] = &[
         text: "0 4 7\n",
         fewest: 6,
         most: 6,
+        ..REPLACED
+    },
+    Row {
+        words: &["replace", LITTLE, "--word"],
+        status: 0,
+        told: "",
         ..REPLACED
     },
     Row {

@@ -7,12 +7,15 @@
 //! It needs the standard kind, as overlapping searches do, and an unanchored start. The Rust crate has no such calls.
 ghost use Rattle.std.specs.Prelude.{◌≡◌, false};
 ghost use Rattle.ac_automaton.specs.Masking.{CostsMask, Masks, masked_in};
-ghost use Rattle.ac_automaton.specs.Stream.Mask.{AcceptsMask, AnswersNewMask, CostsMaskStream, MasksStream};
+ghost use Rattle.ac_automaton.specs.Masking.Words.{CostsMaskWords, MasksWords};
+ghost use Rattle.ac_automaton.specs.Masking.Words.Stream.{CostsMaskWordsStream, MasksWordsStream};
+ghost use Rattle.ac_automaton.specs.Stream.Mask.{AnswersNewMask, CostsMaskStream, MasksStream};
+ghost use Rattle.ac_automaton.specs.Stream.Overlapping.{AcceptsListing};
 ghost use Rattle.ac_input.specs.declared.search.MatchKind.TheVariants.{Standard};
 ghost use Rattle.aho_corasick.specs.AhoCorasick.{as_built, kind_of, supported_by};
 
 use super::AhoCorasick;
-use ac_automaton::error::{MatchError, StreamError};
+use ac_automaton::error::{MatchError, ReplaceError, StreamError};
 use ac_automaton::search::Search;
 use ac_automaton::stream::mask::StreamMask;
 use ac_automaton::watched::Watched;
@@ -81,7 +84,7 @@ impl AhoCorasick {
         requires open { reader.old.ended ≡ false }
         ensures masked { MasksStream R.remaining W.contents (as_built self.now) mask reader.old reader.new
             writer.old writer.new result }
-        ensures accepted { AcceptsMask (as_built self.now) (supported_by self.now) result }
+        ensures accepted { AcceptsListing (as_built self.now) (supported_by self.now) result }
     {
         Search::try_mask_stream(self, alloc, reader, writer, mask)
     }
@@ -98,10 +101,80 @@ impl AhoCorasick {
         requires open { reader.old.ended ≡ false }
         ensures masked { MasksStream R.remaining W.contents (as_built self.now) mask reader.old reader.new
             writer.old writer.new result }
-        ensures accepted { AcceptsMask (as_built self.now) (supported_by self.now) result }
+        ensures accepted { AcceptsListing (as_built self.now) (supported_by self.now) result }
         ensures cost { CostsMaskStream (as_built self.now) reader.old reader.new steps.old steps.new result }
     {
         Search::try_mask_stream_counted(self, alloc, reader, writer, mask, steps)
+    }
+
+    /// Masks the whole words of the text in place: each byte that lies in an occurrence with no word byte beside it becomes `mask`, words
+    /// that overlap included, and every other byte stays. What a word byte is stands at [`AhoCorasick::try_find_word_iter`]. If the mask is
+    /// a word byte that no pattern has, no whole word is left; else one may be left, or may have come about, beside a masked byte.
+    ///
+    /// It takes a copy of the text. Returns an error where [`AhoCorasick::try_mask`] does, and then if there is no memory for the copy; the
+    /// text is then unchanged.
+    pub fn try_mask_words(
+        &self,
+        alloc: Global,
+        text: &mut [u8],
+        mask: u8,
+    ) -> Result<(), ReplaceError>
+        ensures { MasksWords (as_built self.now) (supported_by self.now) mask text.old text.new result }
+    {
+        Search::try_mask_words(self, alloc, text, mask)
+    }
+
+    /// The same; counts what it does, but not the copying: at least one look at a state for each byte, and at most two.
+    pub fn try_mask_words_counted(
+        &self,
+        alloc: Global,
+        text: &mut [u8],
+        mask: u8,
+        steps: &mut Steps,
+    ) -> Result<(), ReplaceError>
+        ensures masked { MasksWords (as_built self.now) (supported_by self.now) mask text.old text.new result }
+        ensures cost { CostsMaskWords (as_built self.now) text.old steps.old steps.new result }
+    {
+        Search::try_mask_words_counted(self, alloc, text, mask, steps)
+    }
+
+    /// Writes the input with its whole words masked, as [`AhoCorasick::try_mask_words`] masks a text. The input ends at its first empty
+    /// read. Before each read it writes everything but the last bytes that may still be covered: at most as many as the longest pattern
+    /// has, and none where nothing is live. The writer isn't flushed.
+    ///
+    /// It requires that the reader has not ended. Returns an error where [`AhoCorasick::try_mask_stream`] does; the reader and the writer
+    /// are then unchanged. It has two buffers of `max(65536, 8 * (longest + 1))` bytes, and allocates nothing after them.
+    pub fn try_mask_words_stream<R: Read, W: Write>(
+        &self,
+        alloc: Global,
+        reader: &mut Watched<R>,
+        writer: &mut Watched<W>,
+        mask: u8,
+    ) -> Result<(), StreamError>
+        requires open { reader.old.ended ≡ false }
+        ensures masked { MasksWordsStream R.remaining W.contents (as_built self.now) mask reader.old reader.new
+            writer.old writer.new result }
+        ensures accepted { AcceptsListing (as_built self.now) (supported_by self.now) result }
+    {
+        Search::try_mask_words_stream(self, alloc, reader, writer, mask)
+    }
+
+    /// The same; counts what it does.
+    pub fn try_mask_words_stream_counted<R: Read, W: Write>(
+        &self,
+        alloc: Global,
+        reader: &mut Watched<R>,
+        writer: &mut Watched<W>,
+        mask: u8,
+        steps: &mut Steps,
+    ) -> Result<(), StreamError>
+        requires open { reader.old.ended ≡ false }
+        ensures masked { MasksWordsStream R.remaining W.contents (as_built self.now) mask reader.old reader.new
+            writer.old writer.new result }
+        ensures accepted { AcceptsListing (as_built self.now) (supported_by self.now) result }
+        ensures cost { CostsMaskWordsStream (as_built self.now) reader.old reader.new steps.old steps.new result }
+    {
+        Search::try_mask_words_stream_counted(self, alloc, reader, writer, mask, steps)
     }
 
     /// A masking of a stream whose pieces come when they come: see [`StreamMask`]. It borrows the automaton; one that owns it is made

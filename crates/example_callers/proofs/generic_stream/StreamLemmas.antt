@@ -3,18 +3,17 @@ use Rattle.std.proofs.Common.{◌≡◌, ℕ, zero, suc, ◌+◌, ◌<◌, List,
 use Rattle.std.specs.Borrow.{Bor}
 use Rattle.std.specs.List.{concat}
 use Rattle.std.proofs.lemmas.List.{append-nil}
-use Rattle.ac_input.specs.declared.search.MatchKind.TheVariants.{Standard}
 use Rattle.ac_automaton.specs.Stream.Devices.Moved.{AreFilled}
 use Rattle.ac_automaton.specs.Stream.Devices.Output.{Sent}
-use Rattle.ac_automaton.specs.Stream.{Sequence, StreamProgress}
+use Rattle.ac_automaton.specs.Stream.{IsPrompt, Sequence, StreamProgress}
 use Rattle.ac_automaton.specs.Stream.Iter.{IsReadForItem}
 use Rattle.ac_automaton.specs.declared.stream.devices.watched.Watched.{Watched}
 
--- under standard no piece that was read for a match is empty
+-- where each item is decided with its last byte, as under standard, no piece that was read for one is empty
 pub filled-standard : {q : Sequence} (s t : StreamProgress q) (gained : List (List ℕ))
-    → t.built.dictionary.kind ≡ Standard → IsReadForItem s t gained → AreFilled gained
-filled-standard s t gained standard (inl (filled, same)) = filled
-filled-standard s t gained standard (inr (leftmost, whole, closed)) = absurd (leftmost standard)
+    → IsPrompt q t.built.dictionary → IsReadForItem s t gained → AreFilled gained
+filled-standard s t gained prompt (inl (filled, same)) = filled
+filled-standard s t gained prompt (inr (waits, whole, closed)) = absurd (waits prompt)
 
 -- the first i + 1 pieces, joined, are the first i with the next one after them
 pub joined-step : (pieces : List (Bor (List ℕ))) (i : ℕ) (d : Bor (List ℕ)) → i < length pieces

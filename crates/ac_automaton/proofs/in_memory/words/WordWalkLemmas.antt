@@ -102,7 +102,7 @@ live-within text None = omega arith
 live-within text (Some from) = omega arith
 
 -- no look is paid for anywhere
-paid-zero : (m : Dictionary) (deterministic : Bool) (x : List ℕ) (last at : ℕ) → last ≤ at → at ≤ length x
+pub paid-zero : (m : Dictionary) (deterministic : Bool) (x : List ℕ) (last at : ℕ) → last ≤ at → at ≤ length x
     → IsPaidAt m deterministic (text_from m x last) last at 0
 paid-zero m deterministic x last at order within live is =
     let long = slice_range-length x last order within in

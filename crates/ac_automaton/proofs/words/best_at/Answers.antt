@@ -1,11 +1,13 @@
 -- The list of a state is looked at, one entry after another.
-use Rattle.std.proofs.Common.{◌≡◌, ◌+◌, ◌-◌, ◌<◌, ◌≤◌, ⊎_elim, length, sym, ap, subst, ◌∙◌, arith}
+use Rattle.std.proofs.Common.{◌≡◌, ℕ, ◌+◌, ◌-◌, ◌<◌, ◌≤◌, max, ⊎_elim, length, sym, ap, subst, ◌∙◌, arith}
 use Rattle.std.proofs.lemmas.Bool.{cases_lt, false≢true}
 use Rattle.ac_input.specs.declared.search.Anchored.TheVariants.{No}
 use Rattle.ac_input.specs.Best.{IsLeast}
 use Rattle.ac_input.specs.Tells.{ending_at}
 use Rattle.ac_input.specs.Word.{is_whole_word}
-use Rattle.ac_automaton.specs.Words.{BetterOf}
+use Rattle.ac_input.specs.Work.{longest}
+use Rattle.ac_input.proofs.lemmas.WordLemmas.{occurs-reach}
+use Rattle.ac_automaton.specs.Words.{BetterOf, text_from}
 use Rattle.ac_automaton.proofs.lemmas.CursorLemmas.{list-none}
 use Rattle.ac_automaton.proofs.words.WordPlaceLemmas.{SeenFirst, entry-occurs, seen-all, seen-more, seen-none, seen-other}
 use Rattle.ac_automaton.proofs.words.best_at.Given.{Over}
@@ -28,8 +30,10 @@ loop-index-init g c x is stands =
     let p = c.args.place.now in
     seen-none (g.A.Automaton.built a).dictionary x p.last p.at (g.A.Automaton.matches a p.sid) p.kind p.best stands.best
 
--- the pattern of an entry is no longer than what was read since the search last began anew
-fits : (g : Over) (c : After-pattern_len g) → c.pattern_len.result ≤ c.args.place.now.at - c.args.place.now.last
+-- the pattern of an entry is no longer than what was read since the search last began anew, and than the longest one
+fits : (g : Over) (c : After-pattern_len g)
+    → (c.pattern_len.result ≤ c.args.place.now.at - c.args.place.now.last)
+    × (c.pattern_len.result ≤ longest (g.A.Automaton.built c.args.automaton.now).dictionary.patterns)
 fits g c =
     let a = c.args.automaton.now in
     let p = c.args.place.now in
@@ -40,25 +44,30 @@ fits g c =
     c.match_pattern-pattern.ensures.value in
     let len = c.pattern_len.ensures in
     let few = lies.0 in
-    omega arith
+    let reach = occurs-reach {s = text_from (g.A.Automaton.built a).dictionary c.requires.stands.0 p.last}
+    (let within = stands.place.within in omega arith) lies.1 in
+    (omega arith, omega arith)
 
 pub overflow_sub-start : goal.overflow_sub-start
 overflow_sub-start g c =
-    let few = fits g (goal.at.overflow_sub-start g c).After-pattern_len in
+    let few = (fits g (goal.at.overflow_sub-start g c).After-pattern_len).0 in
     omega arith
+
+-- the byte before what ends where the search stands is held
+begins-held : (from last at long len : ℕ) {start : ℕ} → (0 < from → from < max last (at - max long 1)) → last ≤ at
+    → (len ≤ at - last) × (len ≤ long) → start ≡ at - len → 0 < start → from < start
+begins-held from last at long len before order short begins some =
+    ⊎_elim
+    (λ (past : 0 < from). let held = before past in omega (arith, held, order, short.0, short.1, begins))
+    (λ (first : from ≤ 0). omega arith)
+    (cases_lt 0 from)
 
 pub is_whole_word-requires-clause-before : goal.is_whole_word-requires-clause-before
 is_whole_word-requires-clause-before g c some =
-    let p = c.args.place.now in
-    let stands = c.requires.stands.2 in
-    let few = fits g (goal.at.is_whole_word-requires-clause-before g c).After-pattern_len in
-    let start : c.new-found.result.start ≡ p.at - c.pattern_len.result = ap (λ o. o.start) c.new-found.ensures in
-    let order = stands.place.order in
-    let from = stands.place.held in
-    ⊎_elim
-    (λ (past : 0 < p.last). let before = stands.place.before past in omega arith)
-    (λ (first : p.last ≤ 0). omega arith)
-    (cases_lt 0 p.last)
+    begins-held c.args.window.from c.args.place.now.last c.args.place.now.at
+    (longest (g.A.Automaton.built c.args.automaton.now).dictionary.patterns) c.pattern_len.result
+    c.requires.stands.2.place.before c.requires.stands.2.place.order
+    (fits g (goal.at.is_whole_word-requires-clause-before g c).After-pattern_len) (ap (λ o. o.start) c.new-found.ensures) some
 
 -- the match of an entry
 found_is : (g : Over) (c : After-new-found g)

@@ -8,9 +8,9 @@ use Rattle.ac_input.specs.Best.{IsLeast}
 use Rattle.ac_input.specs.Dictionary.{Dictionary}
 use Rattle.ac_input.specs.Occurrence.{Occurrence}
 use Rattle.ac_input.specs.Word.{OccursWhole}
-use Rattle.ac_automaton.specs.Words.{HasSeen, IsFinalWord, IsWindowOf, PaysForWords, StandsForWords, WordsBefore, anew_after, text_from, word_reach}
+use Rattle.ac_automaton.specs.Words.{HasSeen, IsBestOpen, IsFinalWord, IsWindowOf, PaysForWords, StandsForWords, WordsBefore, anew_after, text_from, word_reach}
 use Rattle.ac_automaton.specs.declared.words.WordPlace.{WordPlace}
-use Rattle.ac_automaton.proofs.words.FinalLemmas.{final-word, no-word, place-best, window-end}
+use Rattle.ac_automaton.proofs.words.FinalLemmas.{final-word, no-word, open-decided, place-best, window-end}
 use Rattle.ac_automaton.proofs.words.WordCostLemmas.{pays-then, seen-near}
 use Rattle.ac_automaton.proofs.words.next_word.Given.{Over}
 use Rattle.ac_automaton.proofs.words.next_word.Goals as goal
@@ -33,6 +33,15 @@ shown g c =
     elim c.if-place-end.branch [
       | then-place-end w ↦ inl w.if-place-end.true
       | else-place-end+then-window w ↦ inr w.if-window.true
+    ]
+
+-- so it didn't begin at the end of an open window
+goes-on : (g : Over) (c : After-best_at-place g) → c.args.window.closed ≡ false
+    → ¬ (c.args.place.now.at ≡ c.args.window.from + length c.args.window.bytes.now)
+goes-on g c open_ end =
+    elim (shown g c) [
+      | inl inside ↦ let le = c.loop-place.invariant.2 in omega arith
+      | inr closed ↦ false≢true (sym open_ ∙ closed)
     ]
 
 pub returns-in-Some-clause-finds : goal.returns-in-Some-clause-finds
@@ -150,6 +159,7 @@ loop-place-preserved g c =
           pays-then le (omega arith) (c.loop-place.invariant.3 x is stands)
           (subst (λ n. PaysForWords (g.A.Automaton.built c.args.automaton.now) x n c.loop-place.place.at new.at
           c.loop-place.steps c.read_on.new.steps) last (ran.cost x is (seen g before x is stands))),
+      λ open_ end. absurd (goes-on g before open_ end),
     )
 
 pub returns-in-Some-clause-cost : goal.returns-in-Some-clause-cost
@@ -188,3 +198,23 @@ returns-clause-cost g c x is stands =
       there.place.within,
       c.loop-place.invariant.3 x is stands,
     )
+
+pub returns-in-Some-clause-waits : goal.returns-in-Some-clause-waits
+returns-in-Some-clause-waits g c = record {
+  open_ = λ none. absurd (let e : Some c.in-Some.found ≡ None = none in cc);
+  rests = λ open_ end best.
+      absurd (goes-on g (goal.at.returns-in-Some-clause-waits g c).After-best_at-place open_ end);
+}
+
+pub returns-clause-waits : goal.returns-clause-waits
+returns-clause-waits g c = record {
+  open_ = λ none. absurd (let e : Some c.in_ok-found.found ≡ None = none in cc);
+  rests = λ open_ end best.
+      let a = c.args.automaton.now in
+      let now = c.loop-place.place in
+      let same : now ≡ c.args.place.now = c.loop-place.invariant.4 open_ end in
+      let stands = c.loop-place.invariant.0 c.requires.stands.0 c.requires.stands.1 c.requires.stands.2 in
+      let decided = c.in_ok-found.ensures in
+      let open_best : IsBestOpen g.A.Automaton a now = subst (IsBestOpen g.A.Automaton a) (sym same) best in
+      absurd (open-decided g.A.Automaton a stands.place.reads (open_best c.in_ok-found.found decided.0) decided.1);
+}

@@ -6,7 +6,7 @@ use Rattle.ac_automaton.specs.Automaton.{AdvancesToMatch, IsReadCost}
 use Rattle.ac_automaton.specs.Words.{HasSeen, IsWindowOf}
 use Rattle.ac_automaton.proofs.words.FinalLemmas.{window-end}
 use Rattle.ac_automaton.proofs.words.WordCostLemmas.{read-pays}
-use Rattle.ac_automaton.proofs.words.WordPlaceLemmas.{read-stands, window-part}
+use Rattle.ac_automaton.proofs.words.WordPlaceLemmas.{held-at, read-stands, window-part}
 use Rattle.ac_automaton.proofs.words.read_on.Given.{Over}
 use Rattle.ac_automaton.proofs.words.read_on.Goals as goal
 use Rattle.ac_automaton.proofs.words.read_on.Goals.{After-limit-end}
@@ -22,7 +22,7 @@ shows : (g : Over) (c : After-limit-end g) (x : List ℕ) → IsWindowOf c.args.
 shows g c x is seen =
     let further = c.limit-end.ensures.order in
     let size = window-end is in
-    let held = seen.place.held in
+    let held = held-at seen.place in
     let order = seen.place.order in
     (omega arith, window-part is c.args.place.now.at c.limit-end.result (omega arith) (omega arith))
 

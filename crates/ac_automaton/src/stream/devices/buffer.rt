@@ -11,13 +11,17 @@ ghost use Rattle.ac_input.specs.declared.search.Anchored.TheVariants.{No};
 ghost use Rattle.ac_input.specs.declared.search.MatchKind.TheVariants.{Standard};
 ghost use Rattle.ac_input.specs.Steps.{Done};
 ghost use Rattle.ac_automaton.specs.Automaton.{IsReached, IsReadCost};
+ghost use Rattle.ac_input.specs.Number.{usize_max};
 ghost use Rattle.ac_automaton.specs.Masking.{MasksFrom};
+ghost use Rattle.ac_automaton.specs.Masking.Words.{CostsWindow, HoldsWords, MasksWindow, MayMaskWords};
 ghost use Rattle.ac_automaton.specs.Stream.Devices.Buffer.{Fills, IsRollPaid, MasksHeld, nothing_held, rolled, taken_into};
 
-use crate::automaton::Advance;
+use crate::automaton::{Advance, Automaton};
+use crate::masking::words::{MaskPlace, mask_words_from};
 use crate::search::Search;
 use crate::stream::LEAST_ROOM;
 use crate::stream::devices::watched::Watched;
+use crate::words::Window;
 use ac_input::history::Count;
 use ac_input::primitives::StateID;
 use ac_input::steps::Steps;
@@ -157,6 +161,28 @@ impl Buffer {
         }
     }
 
+    /// Masks the whole words that become known, where a window shows the same bytes as they were read: see [`mask_words_from`].
+    pub fn mask_words<A: Automaton>(
+        &mut self,
+        automaton: &A,
+        window: Window<'_>,
+        place: &mut MaskPlace,
+        mask: u8,
+        steps: &mut Steps,
+    )
+        requires standard { (A.built automaton.now).dictionary.kind ≡ Standard }
+        requires fits { window.from + length window.bytes.now ≤ usize_max }
+        requires near { HoldsWords (A.built automaton.now) window.from place.old.at }
+        requires may { MayMaskWords A.Automaton automaton.now mask window place.old self.old.bytes }
+        ensures masks { MasksWindow A.Automaton automaton.now mask window.entry place.old self.old.bytes
+            place.new self.new.bytes }
+        ensures same { self.new ≡ record self.old { bytes = self.new.bytes } }
+        ensures cost { CostsWindow A.Automaton automaton.now window.entry place.old place.new steps.old steps.new }
+    {
+        let bytes = self.bytes.as_mut_slice();
+        mask_words_front(automaton, window, place, bytes, self.filled, mask, steps);
+    }
+
     /// Moves the held bytes from a place on to the front, if there is no room after them.
     pub fn roll(&mut self, from: usize, steps: &mut Steps)
         requires full { length self.old.bytes ≡ self.old.room }
@@ -193,6 +219,29 @@ fn mask_front<A: Search>(
         steps.old steps.new }
 {
     automaton.mask_from(sid, &mut bytes[..len], from, mask, steps)
+}
+
+/// Masks the whole words that become known in the first `len` bytes.
+fn mask_words_front<A: Automaton>(
+    automaton: &A,
+    window: Window<'_>,
+    place: &mut MaskPlace,
+    bytes: &mut [u8],
+    len: usize,
+    mask: u8,
+    steps: &mut Steps,
+)
+    requires standard { (A.built automaton.now).dictionary.kind ≡ Standard }
+    requires fits { window.from + length window.bytes.now ≤ usize_max }
+    requires near { HoldsWords (A.built automaton.now) window.from place.old.at }
+    requires within { len ≤ length bytes.old }
+    requires may { MayMaskWords A.Automaton automaton.now mask window place.old (take len bytes.old) }
+    ensures masks { MasksWindow A.Automaton automaton.now mask window.entry place.old (take len bytes.old)
+        place.new (take len bytes.new) }
+    ensures len { length bytes.new ≡ length bytes.old }
+    ensures cost { CostsWindow A.Automaton automaton.now window.entry place.old place.new steps.old steps.new }
+{
+    mask_words_from(automaton, window, place, &mut bytes[..len], mask, steps);
 }
 
 /// Moves the bytes between two places to the front, and counts each of them. Nothing else moves bytes of a stream.

@@ -1,14 +1,13 @@
 //! What a masking of a stream keeps, and its steps: room is made, bytes come, and they are masked.
 //!
 //! Between two of its steps there may be bytes that aren't masked yet. A [`StreamMask`](super::StreamMask) never has any.
-ghost use Rattle.std.specs.Prelude.{◌≡◌, ◌≢◌, ◌+◌, ◌<◌, ◌≤◌, [], false, true, length, max, IfErr, IfOk, OnOk, IsTrue};
+ghost use Rattle.std.specs.Prelude.{◌≡◌, ◌≢◌, ◌+◌, ◌<◌, ◌≤◌, [], false, true, length, max, IfErr, IfOk};
 ghost use Rattle.ac_input.specs.declared.search.Anchored.TheVariants.{No};
 ghost use Rattle.ac_input.specs.declared.search.MatchKind.TheVariants.{Standard};
 ghost use Rattle.ac_input.specs.Work.{shortest};
 ghost use Rattle.ac_automaton.specs.Automaton.{IsReached};
 ghost use Rattle.ac_automaton.specs.Stream.{CanBeCounted, CanStream, IsOutOfMemory, Picks, room_of};
-ghost use Rattle.ac_automaton.specs.Stream.Mask.{AcceptsMask, AnswersNewMask, AppendsFront, CostsMaskStream, CutsAfter, FillsMask, HasMadeRoom, HasMaskedAll, IsAllMasked, IsOnMask, IsOpenFor, MaskCounts, MasksPushed, MasksRead, MasksStream, WritesMasked, finished_mask, fresh_mask, passed_to, ready_of};
-ghost use Rattle.ac_automaton.specs.Stream.Replace.{IsBegun};
+ghost use Rattle.ac_automaton.specs.Stream.Mask.{AnswersNewMask, AppendsFront, CutsAfter, FillsMask, HasMadeRoom, HasMaskedAll, IsAllMasked, IsOnMask, IsOpenFor, MaskCounts, MasksPushed, MasksRead, finished_mask, fresh_mask, passed_to, ready_of};
 ghost use Rattle.ac_automaton.specs.declared.stream.StreamKinds.TheVariants.{OnlyStandard};
 
 use crate::automaton::Automaton;
@@ -61,7 +60,7 @@ impl<A: Search> Model for Masker<A> {
 
 /// The place before which all is final, of a text that ends at a place and leads to a state: the end itself in a start where no
 /// pattern matches, since nothing is live there; else fewer bytes than `keep` before it, or where it was before.
-fn cut_after<A: Automaton>(
+pub(super) fn cut_after<A: Automaton>(
     automaton: &A,
     sid: StateID,
     cut: usize,

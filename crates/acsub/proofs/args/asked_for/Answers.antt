@@ -28,6 +28,7 @@ returns c =
       rules = search rules;
       text = search rules;
       stream = search rules;
+      word = search rules;
       kind = search rules;
       engine = search rules;
       dense_depth =

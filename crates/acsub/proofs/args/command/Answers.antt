@@ -25,12 +25,14 @@ returns c =
     ∙ ap₂ with_rule two c.flag.ensures.rule in
     let four : app_of c.in_ok-arg-4.field-0 ≡ _ = c.in_ok-arg-4.ensures.shape c.flag-2.ensures.own
     ∙ ap₂ with_rule three c.flag-2.ensures.rule in
-    let five : app_of c.in_ok-command.command ≡ _ = c.in_ok-command.ensures.shape c.option.ensures.own
-    ∙ ap₂ with_rule four c.option.ensures.rule in
+    let five : app_of c.in_ok-arg-5.field-0 ≡ _ = c.in_ok-arg-5.ensures.shape c.flag-3.ensures.own
+    ∙ ap₂ with_rule four c.flag-3.ensures.rule in
+    let six : app_of c.in_ok-command.command ≡ _ = c.in_ok-command.ensures.shape c.option.ensures.own
+    ∙ ap₂ with_rule five c.option.ensures.rule in
     let matching = c.in_ok-with_matching.ensures in
     IfOk-weaker c.with_engine.result _ _
     (λ r added. (
       record { modes = modes; kinds = matching.0; engines = added.0 },
       record { modes = ap texts c.as_slice.ensures; kinds = matching.1; engines = added.1 },
-      added.2 ∙ ap (with_engine added.0) (matching.2 ∙ ap (with_matching matching.0) five),
+      added.2 ∙ ap (with_engine added.0) (matching.2 ∙ ap (with_matching matching.0) six),
     )) c.with_engine.ensures

@@ -6,4 +6,5 @@ pub returns-clause-clean : goal.returns-clause-clean
 returns-clause-clean g c =
     let ran = c.run_mask_counted in
     leaves-none g.R.Read.remaining g.W.Write.contents (c.args.reader.now, c.args.writer.now)
-    (ran.new.reader, ran.new.writer) c.args.settings.now c.args.rules.now c.args.mask ran.result ran.ensures.answered
+    (ran.new.reader, ran.new.writer) c.args.settings.now c.args.rules.now c.args.mask.byte c.args.mask.word ran.result
+    ran.ensures.answered

@@ -12,7 +12,7 @@ use Rattle.acsub.proofs.run.CountLemmas.{nothing_cost}
 use Rattle.acsub.proofs.prepared.ServedLemmas.{finder-buildable}
 use Rattle.acsub.proofs.run.RunLemmas.{memory_ran}
 use Rattle.acsub.proofs.stream.StreamListLemmas.{every-can, list-plan}
-use Rattle.acsub.proofs.stream.StreamedLemmas.{replace-plan, replaces-accepted, replaces-memory, streamed-can, streamed_answer, streamed_cost}
+use Rattle.acsub.proofs.stream.StreamedLemmas.{begun-memory, replace-plan, replaces-accepted, streamed-can, streamed_answer, streamed_cost}
 use Rattle.acsub.proofs.stream.stream_text.Goals as goal
 
 -- ---- the matches are replaced
@@ -50,8 +50,8 @@ returns-in_ok-replacements-in-Replace-clause-ran g c =
     replaced.new.writer replaced.result c.told.result c.requires.accepted
     (finder-buildable plan.settings plan.rules (finders.Automaton c.args.engine.now) c.requires.serves)
     c.requires.streamed c.told.ensures
-    (replaces-memory g.R.Read.remaining g.W.Write.contents (as_built c.args.engine.now) _ c.args.reader.now
-    replaced.new.reader c.args.writer.now replaced.new.writer replaced.result replaced.ensures.moved)
+    (begun-memory c.args.reader.now replaced.new.reader c.args.writer.now replaced.new.writer replaced.result
+    replaced.ensures.moved.1)
     (replace-plan g.R.Read.remaining g.W.Write.contents (as_built c.args.engine.now) plan
     (c.args.reader.now, c.args.writer.now) (replaced.new.reader, replaced.new.writer) replaced.result
     c.requires.serves.built.dictionary (sym c.mode.ensures ∙ c.in-Replace.is) moved)

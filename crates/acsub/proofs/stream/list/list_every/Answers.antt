@@ -1,6 +1,7 @@
 -- The buffer of the lines is taken first; then every occurrence is pumped into it.
 use Rattle.std.proofs.lemmas.Result.{err_from_is_err_and}
 use Rattle.ac_automaton.specs.Stream.{Occurrences}
+use Rattle.ac_automaton.proofs.stream.PumpCostLemmas.{costs-standard}
 use Rattle.aho_corasick.specs.AhoCorasick.{as_built, supported_by}
 use Rattle.acsub.proofs.stream.StreamListLemmas.{lists-nothing, occurrences-listed}
 use Rattle.acsub.proofs.stream.list.list_every.Goals as goal
@@ -24,6 +25,8 @@ returns-clause-lists g c =
 pub returns-clause-costs : goal.returns-clause-costs
 returns-clause-costs g c =
     let pumped = c.try_stream_pump_occurrences in
+    costs-standard Occurrences (as_built c.args.engine.now) c.args.reader.now pumped.new.reader c.args.steps.now
+    pumped.new.steps pumped.result c.requires.can.1
     (occurrences-listed g.W.Write.contents (λ k. k.output) _
     (record { output = c.in_ok-output.output }, c.args.writer.now) c.in_ok-output.ensures g.R.Read.remaining
     (as_built c.args.engine.now) (supported_by c.args.engine.now) c.args.reader.now pumped.new.reader

@@ -1,0 +1,167 @@
+/* Whole words: rows, batches of each size, texts beside a loop that compares each pattern at each place, and each status. */
+#include "check.h"
+
+static const uint32_t KINDS[] = {DADO_STANDARD, DADO_LEFTMOST_FIRST, DADO_LEFTMOST_LONGEST};
+static const dado_bytes CAT[] = {WORD("cat")}, NEW[] = {WORD("new"), WORD("new york")};
+
+static int is_word_byte(uint8_t byte) {
+    return (byte >= '0' && byte <= '9') || (byte >= 'A' && byte <= 'Z') || (byte >= 'a' && byte <= 'z') || byte == '_' || byte >= 0x80;
+}
+
+/* Whether the kind prefers the first of two matches. */
+static int is_before(uint32_t kind, const dado_match *a, const dado_match *b) {
+    if (kind == DADO_STANDARD && a->end != b->end) return a->end < b->end;
+    if (a->start != b->start) return a->start < b->start;
+    if (kind == DADO_LEFTMOST_LONGEST && a->end != b->end) return a->end > b->end;
+    return a->pattern < b->pattern;
+}
+
+/* What the next word is: the best of the whole words that begin at `from` or later. */
+static int next_word(uint32_t kind, const dado_bytes *patterns, uint32_t count, const uint8_t *at, size_t len, size_t from, dado_match *best) {
+    int found = 0;
+    size_t start;
+    uint32_t n;
+    for (start = from; start < len; start++)
+        for (n = 0; n < count; n++) {
+            dado_match it;
+            it.start = start, it.end = start + patterns[n].len, it.pattern = n;
+            if (patterns[n].len > len - start || memcmp(at + start, patterns[n].at, patterns[n].len) != 0) continue;
+            if ((start > 0 && is_word_byte(at[start - 1])) || (it.end < len && is_word_byte(at[it.end]))) continue;
+            if (!found || is_before(kind, &it, best)) *best = it;
+            found = 1;
+        }
+    return found;
+}
+
+/* The words of a text in batches of a size, beside that loop. */
+static void alike(const dado_automaton *ac, uint32_t kind, const dado_bytes *patterns, uint32_t count, const uint8_t *at, size_t len,
+                  size_t room) {
+    static dado_match many[64];
+    size_t from = 0, place = 0, given = 7, i;
+    dado_match wanted = {0, 0, 0};
+    dado_status status;
+    while ((status = dado_words_some(ac, kind, at, len, &from, many, room, &given)) == DADO_OK) {
+        CHECK(given >= 1 && given <= room);
+        for (i = 0; i < given; i++) {
+            CHECK(next_word(kind, patterns, count, at, len, place, &wanted));
+            CHECK(is(&many[i], wanted.pattern, wanted.start, wanted.end));
+            place = wanted.end;
+        }
+        CHECK(from == place);
+    }
+    CHECK(status == DADO_NONE && given == 0 && from == place);
+    CHECK(!next_word(kind, patterns, count, at, len, place, &wanted));
+}
+
+/* `cat` within a word, at both ends, beside `_`, beside a character beyond ASCII; `new york` and what begins it. */
+static void rows(void) {
+    static const struct {
+        const dado_bytes *patterns;
+        uint32_t count;
+        const char *text;
+        size_t words[3]; /* how many under each kind */
+        size_t last[3];  /* where the last of them ends */
+    } rows[] = {
+        {CAT, 1, "concatenate", {0, 0, 0}, {0, 0, 0}},
+        {CAT, 1, "cat", {1, 1, 1}, {3, 3, 3}},
+        {CAT, 1, "cat, a cat", {2, 2, 2}, {10, 10, 10}},
+        {CAT, 1, "cat_ _cat cat.", {1, 1, 1}, {13, 13, 13}},
+        {CAT, 1, "\xc3\xbc" "cat cat\xc3\xbc -cat-", {1, 1, 1}, {16, 16, 16}},
+        {CAT, 1, "cat9 9cat Cat", {0, 0, 0}, {0, 0, 0}},
+        {CAT, 1, "", {0, 0, 0}, {0, 0, 0}},
+        {NEW, 2, "new yorker, new york", {2, 2, 2}, {15, 15, 20}},
+        {NEW, 2, "new york", {1, 1, 1}, {3, 3, 8}},
+        {NEW, 2, "new yorks", {1, 1, 1}, {3, 3, 3}},
+        {NULL, 0, "cat", {0, 0, 0}, {0, 0, 0}},
+    };
+    size_t i, k, room;
+    for (i = 0; i < sizeof rows / sizeof rows[0]; i++) {
+        const uint8_t *at = (const uint8_t *)rows[i].text;
+        size_t len = strlen(rows[i].text);
+        dado_automaton *ac = NULL;
+        CHECK(dado_build(rows[i].patterns, rows[i].count, NULL, &ac, NULL) == DADO_OK);
+        for (k = 0; k < 3; k++) {
+            dado_match many[8];
+            size_t from = 0, count = 7;
+            dado_status wanted = rows[i].words[k] == 0 ? DADO_NONE : DADO_OK;
+            CHECK(dado_words_some(ac, KINDS[k], at, len, &from, many, 8, &count) == wanted);
+            CHECK(count == rows[i].words[k] && from == rows[i].last[k]);
+            CHECK(count == 0 || many[count - 1].end == from);
+            for (room = 1; room <= 3; room++) alike(ac, KINDS[k], rows[i].patterns, rows[i].count, at, len, room);
+        }
+        dado_free(&ac);
+    }
+}
+
+/* A longer text, by each engine. */
+static void texts(void) {
+    static const dado_bytes words[] = {WORD("app"), WORD("append"), WORD("the app"), WORD("to"), WORD(" the "), WORD("e a")};
+    static const char parts[][12] = {"append", "app", "the", " ", " ", "to", "_", "appendage", "\xc3\xbc", "e", ", "};
+    static uint8_t at[600];
+    uint32_t engine;
+    size_t len = 0, k, n = 1;
+    while (len < 580) {
+        const char *part;
+        n = n * 1103515245 + 12345;
+        part = parts[(n >> 16) % (sizeof parts / sizeof parts[0])];
+        memcpy(at + len, part, strlen(part));
+        len += strlen(part);
+    }
+    for (engine = DADO_AUTO; engine <= DADO_DFA; engine++) {
+        dado_automaton *ac = NULL;
+        dado_settings s = dado_settings_default();
+        s.engine = engine;
+        CHECK(dado_build(words, 6, &s, &ac, NULL) == DADO_OK);
+        for (k = 0; k < 3; k++) {
+            alike(ac, KINDS[k], words, 6, at, len, 1);
+            alike(ac, KINDS[k], words, 6, at, len, 7);
+            alike(ac, KINDS[k], words, 6, at, len, 64);
+        }
+        dado_free(&ac);
+    }
+}
+
+/* Each status, in the order in which they are tested. */
+static void statuses(void) {
+    static const dado_bytes empty[] = {WORD("a"), {NULL, 0}};
+    dado_automaton *ac = NULL, *leftmost = NULL, *anchored = NULL, *with_empty = NULL;
+    dado_settings s = dado_settings_default();
+    dado_match many[2];
+    size_t from = 0, count = 7;
+    CHECK(dado_build(CAT, 1, &s, &ac, NULL) == DADO_OK && dado_build(empty, 2, &s, &with_empty, NULL) == DADO_OK);
+    s.kind = DADO_LEFTMOST_LONGEST;
+    CHECK(dado_build(CAT, 1, &s, &leftmost, NULL) == DADO_OK);
+    s.start_kind = DADO_ANCHORED;
+    CHECK(dado_build(CAT, 1, &s, &anchored, NULL) == DADO_OK);
+    CHECK(dado_words_some(NULL, 0, BYTES("cat"), &from, many, 2, &count) == DADO_NO_AUTOMATON && count == 0);
+    CHECK(dado_words_some(ac, 0, BYTES("cat"), NULL, many, 2, &count) == DADO_BAD_ARGUMENT);
+    CHECK(dado_words_some(ac, 0, BYTES("cat"), &from, NULL, 2, &count) == DADO_BAD_ARGUMENT);
+    CHECK(dado_words_some(ac, 0, BYTES("cat"), &from, many, 2, NULL) == DADO_BAD_ARGUMENT);
+    CHECK(dado_words_some(ac, 0, NULL, 3, &from, many, 2, &count) == DADO_BAD_ARGUMENT);
+    CHECK(dado_words_some(ac, 0, NULL, 0, &from, many, 2, &count) == DADO_NONE && from == 0);
+    CHECK(dado_words_some(ac, 0, BYTES("cat"), &from, NULL, 0, &count) == DADO_OK && count == 0 && from == 0);
+    from = 4;
+    CHECK(dado_words_some(anchored, 3, BYTES("cat"), &from, many, 2, &count) == DADO_BAD_KIND && count == 0 && from == 4);
+    CHECK(dado_words_some(anchored, 2, BYTES("cat"), &from, many, 2, &count) == DADO_BAD_CURSOR && count == 0 && from == 4);
+    from = SIZE_MAX;
+    CHECK(dado_words_some(ac, 2, BYTES("cat"), &from, many, 2, &count) == DADO_BAD_CURSOR && from == SIZE_MAX);
+    from = 3;
+    CHECK(dado_words_some(anchored, 2, BYTES("cat"), &from, many, 2, &count) == DADO_NOT_UNANCHORED && count == 0 && from == 3);
+    CHECK(dado_words_some(leftmost, 2, BYTES("cat"), &from, many, 2, &count) == DADO_NOT_STANDARD && count == 0 && from == 3);
+    CHECK(dado_words_some(with_empty, 2, BYTES("cat"), &from, many, 2, &count) == DADO_EMPTY_PATTERN && count == 0 && from == 3);
+    CHECK(dado_words_some(ac, 2, BYTES("cat"), &from, many, 2, &count) == DADO_NONE && count == 0 && from == 3);
+    /* what stands before the place counts beside a word */
+    from = 1;
+    CHECK(dado_words_some(ac, 2, BYTES("xcat cat"), &from, many, 2, &count) == DADO_OK && count == 1 && is(&many[0], 0, 5, 8));
+    dado_free(&ac);
+    dado_free(&leftmost);
+    dado_free(&anchored);
+    dado_free(&with_empty);
+}
+
+int main(void) {
+    rows();
+    texts();
+    statuses();
+    return done("words");
+}

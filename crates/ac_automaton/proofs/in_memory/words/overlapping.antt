@@ -1,0 +1,2 @@
+-- Lemmas of the run through all whole words.
+pub mod WordRunLemmas

@@ -1,0 +1,3 @@
+-- Lemmas of masking whole words.
+pub mod CostLemmas
+pub mod WordMaskLemmas

@@ -1,0 +1,5 @@
+-- Lemmas of masking the whole words of a stream.
+pub mod WordEndLemmas
+pub mod WordMaskerLemmas
+pub mod WordReadLemmas
+pub mod WritingLemmas

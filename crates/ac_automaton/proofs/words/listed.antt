@@ -1,0 +1,2 @@
+-- Lemmas of searches for all whole words.
+pub mod ListedWordLemmas

@@ -1,0 +1,294 @@
+//! The search of a stream for whole words: the buffer, and the automaton of the standard kind that reads on over it.
+//!
+//! An occurrence counts only where no word byte stands beside it: see [`words`](crate::words). So a word isn't decided before the byte
+//! after it was read, or nothing more comes. Under a leftmost kind a better word may follow that begins as early. So a word waits until
+//! one byte more than the longest pattern has was read from its start on, or nothing of what was read is live. After the word the
+//! automaton reads again what it has read past it.
+//!
+//! A [`WordSearch`] returns the next word of what was read, without a read, and makes one read, as an [`ItemSearch`]. Up to its
+//! [`cut`](WordSearch::cut) everything is decided: a word still to be found begins there or later. The byte before a word counts, too,
+//! so one byte more is held than in a search for matches.
+ghost use Rattle.std.specs.Prelude.{◌≡◌, ◌+◌, ◌<◌, [], false, true, length, IfErr, IfOk, drop};
+ghost use Rattle.std.specs.Borrow.{sem};
+ghost use Rattle.ac_input.specs.declared.search.Anchored.TheVariants.{No};
+ghost use Rattle.ac_automaton.specs.Stream.{CanStream, CountsNothing, FindsHeld, IsOnCourse, IsOutOfMemory, IsRolled, IsSearched, ReadsMore, StreamCounts, Words, closed_by, cut_of, fresh_progress, read_by, room_of};
+ghost use Rattle.ac_automaton.specs.Stream.Iter.{RestsIfRefused};
+ghost use Rattle.ac_automaton.specs.Stream.WholeWords.{AnswersNewWords, FindsStreamWords, asked_for};
+ghost use Rattle.ac_automaton.specs.declared.stream.StreamKinds.TheVariants.{OnlyStandard};
+
+pub mod overlapping;
+
+use crate::error::StreamError;
+use crate::search::Search;
+use crate::stream::devices::buffer::Buffer;
+use crate::stream::devices::watched::Watched;
+use crate::stream::overlapping::configured;
+use crate::stream::search::given_then;
+use crate::stream::{ItemSearch, StreamIter};
+use crate::words::{Window, WordPlace, begin_if_idle, next_word};
+use ac_input::history::{Count, Pieces};
+use ac_input::primitives::StateID;
+use ac_input::search::{Match, MatchKind};
+use ac_input::steps::Steps;
+use std::alloc::Global;
+use std::io::Read;
+use std::marker::Model;
+
+/// How far a search of a stream for whole words has come. It owns its automaton, or borrows it as a reference.
+#[derive(Drop)]
+pub struct WordSearch<A: Search> {
+    automaton: A,
+    buffer: Buffer,
+    place: WordPlace,
+    /// The place of the first byte that is held.
+    from: usize,
+    /// Whether it was told that nothing more comes.
+    closed: bool,
+    /// Whether there are more bytes than places.
+    over: bool,
+    given: Count,
+    pieces: Pieces,
+    sums: Steps,
+}
+
+impl<A: Search> Model for WordSearch<A> {
+    ghost use Rattle.ac_automaton.specs.Stream.{IsOnCourse, StreamProgress, Words};
+    ghost use Rattle.ac_automaton.specs.Stream.WholeWords.Search.{IsWordSearch, words_come};
+
+    ghost Value = { StreamProgress Words };
+
+    ghost view = { λ i. words_come (A.built i.automaton) i.pieces.items i.given.value i.closed i.from i.place i.buffer i.sums };
+
+    ghost invariant = { λ i.
+        IsOnCourse (words_come (A.built i.automaton) i.pieces.items i.given.value i.closed i.from i.place i.buffer i.sums)
+        × IsWordSearch A.Automaton i.automaton
+        (words_come (A.built i.automaton) i.pieces.items i.given.value i.closed i.from i.place i.buffer i.sums)
+        i.place i.given.value i.buffer i.over };
+}
+
+impl<A: Search + Drop> WordSearch<A> {
+    /// A search by this kind of match that begins in this start state, and has read nothing yet. Returns an error if there is no
+    /// memory for the buffer; it takes no memory after that.
+    fn beginning(
+        automaton: A,
+        kind: MatchKind,
+        start: StateID,
+        alloc: Global,
+    ) -> Result<WordSearch<A>, StreamError>
+        requires starts { A.Reaches automaton No [] start }
+        requires can { CanStream OnlyStandard (A.built automaton) (A.supports automaton) }
+        ensures fresh { IfOk result (λ s. s ≡ fresh_progress (asked_for kind (A.built automaton))) }
+        ensures kept { IfOk result IsOnCourse }
+        ensures error { IfErr result IsOutOfMemory }
+    {
+        let Some(keep) = automaton.max_pattern_len().max(1).checked_add(1) else {
+            return Err(StreamError::Memory);
+        };
+        let buffer = Buffer::new(alloc, keep)?;
+        Ok(WordSearch {
+            automaton,
+            buffer,
+            place: WordPlace::new(kind, start),
+            from: 0,
+            closed: false,
+            over: false,
+            given: Count::zero(),
+            pieces: Pieces::empty(),
+            sums: Steps::new(),
+        })
+    }
+
+    /// A search for the whole words under a kind, by an automaton of the standard kind. It takes one buffer of
+    /// `max(65536, 8 * (max(1, longest) + 1))` bytes. Returns an error if the automaton can't make one, and otherwise if there is
+    /// no memory for the buffer.
+    pub fn new(automaton: A, kind: MatchKind, alloc: Global) -> Result<WordSearch<A>, StreamError>
+        ensures { AnswersNewWords kind (A.built automaton) (A.supports automaton) result }
+    {
+        let start = configured(&automaton)?;
+        WordSearch::beginning(automaton, kind, start, alloc)
+    }
+}
+
+impl<A: Search> WordSearch<A> {
+    /// The held bytes: the last ones of those that were read. A word that was returned is among them until the next read.
+    pub fn held(&self) -> &[u8]
+        ensures held { result.now ≡ drop self.now.from (read_by self.now) }
+        ensures kept { IsOnCourse self.now }
+    {
+        self.buffer.held()
+    }
+
+    /// The place of the first byte that is held.
+    pub fn from(&self) -> usize
+        ensures from { result ≡ self.now.from }
+        ensures kept { IsOnCourse self.now }
+    {
+        self.from
+    }
+
+    /// The place up to which everything is decided: every remaining word begins there or later.
+    pub fn cut(&self) -> usize
+        ensures cut { result ≡ cut_of self.now }
+        ensures kept { IsOnCourse self.now }
+    {
+        self.place.cut(self.automaton.max_pattern_len())
+    }
+
+    /// The next word of the bytes that were read, once no byte that follows can change it; counts what it does. None means that
+    /// all of these were returned. After more bytes were read than there are places it is always none.
+    pub fn next_counted(&mut self, steps: &mut Steps) -> Option<Match>
+        ensures finds { FindsHeld self.old result self.new }
+        ensures counts { StreamCounts self.old self.new steps.old steps.new }
+        ensures kept { IsOnCourse self.new }
+    {
+        if self.over {
+            return None;
+        }
+        let window = Window {
+            bytes: self.buffer.held(),
+            from: self.from,
+            closed: self.closed,
+        };
+        let mut taken = Steps::new();
+        let found = next_word(&self.automaton, window, &mut self.place, &mut taken);
+        begin_if_idle(&self.automaton, &mut self.place);
+        steps.add(&taken);
+        self.sums.add(&taken);
+        self.given = given_then(&self.given, &found);
+        found
+    }
+
+    /// Tells the search that nothing more comes, so that the words that wait are decided.
+    pub fn finish(&mut self)
+        ensures closed { self.new ≡ closed_by self.old }
+        ensures kept { IsOnCourse self.new }
+    {
+        self.closed = true;
+    }
+
+    /// Moves the bytes after the cut, and the one before it, to the front of the buffer, if no room is left.
+    fn make_room(&mut self, steps: &mut Steps)
+        requires { IsSearched self.old }
+        ensures room { length (read_by self.new) < self.new.from + room_of Words self.new.built }
+        ensures same { IsRolled self.old self.new }
+        ensures counts { StreamCounts self.old self.new steps.old steps.new }
+        ensures kept { IsOnCourse self.new }
+    {
+        if self.buffer.is_full() {
+            let before = self.cut().saturating_sub(1);
+            self.buffer.roll(before - self.from, steps);
+            self.from = before;
+        }
+    }
+
+    /// One read, into all the free room; if there is none, what has to be held is moved to the front first. Everything that was
+    /// read before must have been searched.
+    ///
+    /// Returns how many bytes it read: none at the end of the input. An error is `Read`, or `Position` if there are now more bytes
+    /// than places; nothing may be read after either.
+    pub(crate) fn read_more<R: Read>(
+        &mut self,
+        reader: &mut Watched<R>,
+        steps: &mut Steps,
+    ) -> Result<usize, StreamError>
+        requires open { reader.old.ended ≡ false }
+        requires unclosed { self.old.closed ≡ false }
+        requires searched { IsSearched self.old }
+        ensures read { ReadsMore R.remaining self.old self.new reader.old reader.new result }
+        ensures counts { StreamCounts self.old self.new steps.old steps.new }
+        ensures kept { IsOnCourse self.new }
+    {
+        self.make_room(steps);
+        self.fill(reader)
+    }
+
+    /// One read; there is room.
+    fn fill<R: Read>(&mut self, reader: &mut Watched<R>) -> Result<usize, StreamError>
+        requires open { reader.old.ended ≡ false }
+        requires unclosed { self.old.closed ≡ false }
+        requires room { length (read_by self.old) < self.old.from + room_of Words self.old.built }
+        ensures read { ReadsMore R.remaining self.old self.new reader.old reader.new result }
+        ensures steps { CountsNothing self.old self.new }
+        ensures from { self.new.from ≡ self.old.from }
+        ensures kept { IsOnCourse self.new }
+    {
+        let n = match self.buffer.fill(reader) {
+            Ok(n) => n,
+            Err(error) => {
+                self.pieces = self.pieces.and(&[]);
+                return Err(StreamError::Read(error));
+            }
+        };
+        let held = self.buffer.held();
+        self.pieces = self.pieces.and(&held[held.len() - n..]);
+        self.over = held.len() > usize::MAX - self.from;
+        if self.over {
+            return Err(StreamError::Position);
+        }
+        Ok(n)
+    }
+}
+
+impl<A: Search> ItemSearch for WordSearch<A> {
+    ghost use Rattle.ac_automaton.specs.Stream.{Words};
+
+    ghost sequence = { Words };
+
+    ghost progress = { λ s. s };
+
+    fn next_held(&mut self, steps: &mut Steps) -> Option<Match> {
+        self.next_counted(steps)
+    }
+
+    fn between(&self, start: usize, end: usize) -> &[u8] {
+        &self.buffer.held()[start - self.from..end - self.from]
+    }
+
+    fn cut(&self) -> usize {
+        WordSearch::cut(self)
+    }
+
+    fn end(&self) -> usize {
+        self.from + self.buffer.held().len()
+    }
+
+    fn is_past_places(&self) -> bool {
+        self.over
+    }
+
+    fn has_closed(&self) -> bool {
+        self.closed
+    }
+
+    fn read_on<R: Read>(
+        &mut self,
+        reader: &mut Watched<R>,
+        steps: &mut Steps,
+    ) -> Result<usize, StreamError> {
+        self.read_more(reader, steps)
+    }
+
+    fn close(&mut self) {
+        self.finish();
+    }
+}
+
+/// The remaining whole words of a stream. From [`Search::try_stream_find_word_iter`].
+pub type StreamFindWordIter<'a, A, R> = StreamIter<'a, WordSearch<&'a A>, R>;
+
+/// The whole words of a stream under a kind, one after another: as [`Search::try_stream_find_word_iter`], but the reader is the first
+/// parameter. Call this one where your own contract speaks of the reader: it says that the reader is unchanged if the search returns
+/// an error. A contract can say what becomes of a borrowed value only for the first parameter.
+pub fn stream_find_word_iter<'a, A: Search, R>(
+    reader: &'a mut Watched<R>,
+    automaton: &'a A,
+    kind: MatchKind,
+    alloc: Global,
+) -> Result<StreamFindWordIter<'a, A, R>, StreamError>
+    requires { reader.old.ended ≡ false }
+    ensures* rests { sem 𝓛 (RestsIfRefused R.row reader.entry result) }
+    ensures answer { FindsStreamWords kind (A.built automaton.now) (A.supports automaton.now) reader.entry result }
+{
+    let stream = WordSearch::new(automaton, kind, alloc)?;
+    Ok(StreamIter { stream, reader })
+}

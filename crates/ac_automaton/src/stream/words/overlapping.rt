@@ -1,0 +1,289 @@
+//! The search of a stream for all whole words, overlapping ones too, by end, start and number.
+//!
+//! One walk over the stream meets each occurrence once, at the state where it ends, and returns those with no word byte beside them:
+//! see [`listed`](crate::words::listed). So a word waits only for the byte after it, or until nothing more comes. The walk never begins
+//! anew, and no byte is looked at twice.
+//!
+//! An [`OverlappingWordSearch`] returns the next word of what was read, without a read, and makes one read, as an [`ItemSearch`]. Up to
+//! its [`cut`](OverlappingWordSearch::cut) everything is decided: a word still to be found ends there or later. It holds the bytes of
+//! each such word, and the byte before it.
+ghost use Rattle.std.specs.Prelude.{◌≡◌, ◌+◌, ◌<◌, [], false, true, length, IfErr, IfOk, drop};
+ghost use Rattle.std.specs.Borrow.{sem};
+ghost use Rattle.ac_input.specs.declared.search.Anchored.TheVariants.{No};
+ghost use Rattle.ac_automaton.specs.Stream.{AllWords, CanStream, CountsNothing, FindsHeld, IsOnCourse, IsOutOfMemory, IsRolled, IsSearched, ReadsMore, StreamCounts, closed_by, cut_of, fresh_progress, read_by, room_of};
+ghost use Rattle.ac_automaton.specs.Stream.Iter.{RestsIfRefused};
+ghost use Rattle.ac_automaton.specs.Stream.WholeWords.{AnswersNewAllWords, FindsStreamAllWords};
+ghost use Rattle.ac_automaton.specs.declared.stream.StreamKinds.TheVariants.{OnlyStandard};
+
+use crate::error::StreamError;
+use crate::search::Search;
+use crate::stream::devices::buffer::Buffer;
+use crate::stream::devices::watched::Watched;
+use crate::stream::overlapping::configured;
+use crate::stream::search::given_then;
+use crate::stream::{ItemSearch, StreamIter};
+use crate::words::Window;
+use crate::words::listed::{ListedPlace, next_listed_word};
+use ac_input::history::{Count, Pieces};
+use ac_input::primitives::StateID;
+use ac_input::search::Match;
+use ac_input::steps::Steps;
+use std::alloc::Global;
+use std::io::Read;
+use std::marker::Model;
+
+/// How far a search of a stream for all whole words has come. It owns its automaton, or borrows it as a reference.
+#[derive(Drop)]
+pub struct OverlappingWordSearch<A: Search> {
+    automaton: A,
+    buffer: Buffer,
+    place: ListedPlace,
+    /// The place of the first byte that is held.
+    from: usize,
+    /// Whether it was told that nothing more comes.
+    closed: bool,
+    /// Whether there are more bytes than places.
+    over: bool,
+    given: Count,
+    pieces: Pieces,
+    sums: Steps,
+}
+
+impl<A: Search> Model for OverlappingWordSearch<A> {
+    ghost use Rattle.ac_automaton.specs.Stream.{AllWords, IsOnCourse, StreamProgress};
+    ghost use Rattle.ac_automaton.specs.Stream.WholeWords.Overlapping.{IsAllWordsSearch, all_words_come};
+
+    ghost Value = { StreamProgress AllWords };
+
+    ghost view = { λ i. all_words_come (A.built i.automaton) i.pieces.items i.given.value i.closed i.from i.place i.buffer i.sums };
+
+    ghost invariant = { λ i.
+        IsOnCourse (all_words_come (A.built i.automaton) i.pieces.items i.given.value i.closed i.from i.place i.buffer i.sums)
+        × IsAllWordsSearch A.Automaton i.automaton
+        (all_words_come (A.built i.automaton) i.pieces.items i.given.value i.closed i.from i.place i.buffer i.sums)
+        i.place i.given.value i.buffer i.over };
+}
+
+impl<A: Search + Drop> OverlappingWordSearch<A> {
+    /// A search that begins in this start state, and has read nothing yet. Returns an error if there is no memory for the buffer; it
+    /// takes no memory after that.
+    fn beginning(
+        automaton: A,
+        start: StateID,
+        alloc: Global,
+    ) -> Result<OverlappingWordSearch<A>, StreamError>
+        requires starts { A.Reaches automaton No [] start }
+        requires can { CanStream OnlyStandard (A.built automaton) (A.supports automaton) }
+        ensures fresh { IfOk result (λ s. s ≡ fresh_progress (A.built automaton)) }
+        ensures kept { IfOk result IsOnCourse }
+        ensures error { IfErr result IsOutOfMemory }
+    {
+        let Some(keep) = automaton.max_pattern_len().max(1).checked_add(1) else {
+            return Err(StreamError::Memory);
+        };
+        let buffer = Buffer::new(alloc, keep)?;
+        Ok(OverlappingWordSearch {
+            automaton,
+            buffer,
+            place: ListedPlace::new(start),
+            from: 0,
+            closed: false,
+            over: false,
+            given: Count::zero(),
+            pieces: Pieces::empty(),
+            sums: Steps::new(),
+        })
+    }
+
+    /// A search for all whole words, by an automaton of the standard kind. It takes one buffer of
+    /// `max(65536, 8 * (max(1, longest) + 1))` bytes. Returns an error if the automaton can't make one, and otherwise if there is
+    /// no memory for the buffer.
+    pub fn new(automaton: A, alloc: Global) -> Result<OverlappingWordSearch<A>, StreamError>
+        ensures { AnswersNewAllWords (A.built automaton) (A.supports automaton) result }
+    {
+        let start = configured(&automaton)?;
+        OverlappingWordSearch::beginning(automaton, start, alloc)
+    }
+}
+
+impl<A: Search> OverlappingWordSearch<A> {
+    /// The held bytes: the last ones of those that were read. A word that was returned is among them until the next read.
+    pub fn held(&self) -> &[u8]
+        ensures held { result.now ≡ drop self.now.from (read_by self.now) }
+        ensures kept { IsOnCourse self.now }
+    {
+        self.buffer.held()
+    }
+
+    /// The place of the first byte that is held.
+    pub fn from(&self) -> usize
+        ensures from { result ≡ self.now.from }
+        ensures kept { IsOnCourse self.now }
+    {
+        self.from
+    }
+
+    /// The place up to which everything is decided: every remaining word ends there or later.
+    pub fn cut(&self) -> usize
+        ensures cut { result ≡ cut_of self.now }
+        ensures kept { IsOnCourse self.now }
+    {
+        self.place.at()
+    }
+
+    /// The next word of the bytes that were read, once the byte after it is known; counts what it does. None means that all of these
+    /// were returned. After more bytes were read than there are places it is always none.
+    pub fn next_counted(&mut self, steps: &mut Steps) -> Option<Match>
+        ensures finds { FindsHeld self.old result self.new }
+        ensures counts { StreamCounts self.old self.new steps.old steps.new }
+        ensures kept { IsOnCourse self.new }
+    {
+        if self.over {
+            return None;
+        }
+        let window = Window {
+            bytes: self.buffer.held(),
+            from: self.from,
+            closed: self.closed,
+        };
+        let mut taken = Steps::new();
+        let found = next_listed_word(&self.automaton, window, &mut self.place, &mut taken);
+        steps.add(&taken);
+        self.sums.add(&taken);
+        self.given = given_then(&self.given, &found);
+        found
+    }
+
+    /// Tells the search that nothing more comes, so that the words that wait are decided.
+    pub fn finish(&mut self)
+        ensures closed { self.new ≡ closed_by self.old }
+        ensures kept { IsOnCourse self.new }
+    {
+        self.closed = true;
+    }
+
+    /// Moves the bytes of each word that may still be found, and the byte before it, to the front of the buffer, if no room is left.
+    fn make_room(&mut self, steps: &mut Steps)
+        requires { IsSearched self.old }
+        ensures room { length (read_by self.new) < self.new.from + room_of AllWords self.new.built }
+        ensures same { IsRolled self.old self.new }
+        ensures counts { StreamCounts self.old self.new steps.old steps.new }
+        ensures kept { IsOnCourse self.new }
+    {
+        if self.buffer.is_full() {
+            let before = self.place.needed(self.automaton.max_pattern_len());
+            self.buffer.roll(before - self.from, steps);
+            self.from = before;
+        }
+    }
+
+    /// One read, into all the free room; if there is none, what has to be held is moved to the front first. Everything that was
+    /// read before must have been searched.
+    ///
+    /// Returns how many bytes it read: none at the end of the input. An error is `Read`, or `Position` if there are now more bytes
+    /// than places; nothing may be read after either.
+    pub(crate) fn read_more<R: Read>(
+        &mut self,
+        reader: &mut Watched<R>,
+        steps: &mut Steps,
+    ) -> Result<usize, StreamError>
+        requires open { reader.old.ended ≡ false }
+        requires unclosed { self.old.closed ≡ false }
+        requires searched { IsSearched self.old }
+        ensures read { ReadsMore R.remaining self.old self.new reader.old reader.new result }
+        ensures counts { StreamCounts self.old self.new steps.old steps.new }
+        ensures kept { IsOnCourse self.new }
+    {
+        self.make_room(steps);
+        self.fill(reader)
+    }
+
+    /// One read; there is room.
+    fn fill<R: Read>(&mut self, reader: &mut Watched<R>) -> Result<usize, StreamError>
+        requires open { reader.old.ended ≡ false }
+        requires unclosed { self.old.closed ≡ false }
+        requires room { length (read_by self.old) < self.old.from + room_of AllWords self.old.built }
+        ensures read { ReadsMore R.remaining self.old self.new reader.old reader.new result }
+        ensures steps { CountsNothing self.old self.new }
+        ensures from { self.new.from ≡ self.old.from }
+        ensures kept { IsOnCourse self.new }
+    {
+        let n = match self.buffer.fill(reader) {
+            Ok(n) => n,
+            Err(error) => {
+                self.pieces = self.pieces.and(&[]);
+                return Err(StreamError::Read(error));
+            }
+        };
+        let held = self.buffer.held();
+        self.pieces = self.pieces.and(&held[held.len() - n..]);
+        self.over = held.len() > usize::MAX - self.from;
+        if self.over {
+            return Err(StreamError::Position);
+        }
+        Ok(n)
+    }
+}
+
+impl<A: Search> ItemSearch for OverlappingWordSearch<A> {
+    ghost use Rattle.ac_automaton.specs.Stream.{AllWords};
+
+    ghost sequence = { AllWords };
+
+    ghost progress = { λ s. s };
+
+    fn next_held(&mut self, steps: &mut Steps) -> Option<Match> {
+        self.next_counted(steps)
+    }
+
+    fn between(&self, start: usize, end: usize) -> &[u8] {
+        &self.buffer.held()[..0]
+    }
+
+    fn cut(&self) -> usize {
+        OverlappingWordSearch::cut(self)
+    }
+
+    fn end(&self) -> usize {
+        self.from + self.buffer.held().len()
+    }
+
+    fn is_past_places(&self) -> bool {
+        self.over
+    }
+
+    fn has_closed(&self) -> bool {
+        self.closed
+    }
+
+    fn read_on<R: Read>(
+        &mut self,
+        reader: &mut Watched<R>,
+        steps: &mut Steps,
+    ) -> Result<usize, StreamError> {
+        self.read_more(reader, steps)
+    }
+
+    fn close(&mut self) {
+        self.finish();
+    }
+}
+
+/// The remaining words of all whole words of a stream. From [`Search::try_stream_find_overlapping_word_iter`].
+pub type StreamFindOverlappingWordIter<'a, A, R> = StreamIter<'a, OverlappingWordSearch<&'a A>, R>;
+
+/// All whole words of a stream, one after another: as [`Search::try_stream_find_overlapping_word_iter`], but the reader is the first
+/// parameter. Call this one where your own contract speaks of the reader: it says that the reader is unchanged if the search returns
+/// an error. A contract can say what becomes of a borrowed value only for the first parameter.
+pub fn stream_find_overlapping_word_iter<'a, A: Search, R>(
+    reader: &'a mut Watched<R>,
+    automaton: &'a A,
+    alloc: Global,
+) -> Result<StreamFindOverlappingWordIter<'a, A, R>, StreamError>
+    requires { reader.old.ended ≡ false }
+    ensures* rests { sem 𝓛 (RestsIfRefused R.row reader.entry result) }
+    ensures answer { FindsStreamAllWords (A.built automaton.now) (A.supports automaton.now) reader.entry result }
+{
+    let stream = OverlappingWordSearch::new(automaton, alloc)?;
+    Ok(StreamIter { stream, reader })
+}

@@ -1,0 +1,2 @@
+pub mod EarlyFileLemmas
+pub mod EarlyLemmas

@@ -1,0 +1,113 @@
+//! A run for whole words: an occurrence counts only where neither the byte before it nor the one after it is a word byte.
+//!
+//! A word byte is an ASCII letter, a digit, `_`, or any byte that isn't ASCII. The ends of the input are none. Of the occurrences
+//! that count the run makes what its mode says: it replaces the matches of the kind, lists them, or lists all that overlap.
+//!
+//! It always writes while it reads. Whether an occurrence is a whole word isn't known before the next byte is read, so before each read
+//! it has written everything but the last bytes in which a word may still begin: no more than the longest pattern has, or one. It takes
+//! memory for what is built of the rules, and for two buffers.
+ghost use Rattle.std.specs.Prelude.{◌≡◌, ◌↔◌, ℕ, IfErr, OnOk, Err, false};
+ghost use Rattle.acsub.specs.Rules.File.{grammar_of};
+ghost use Rattle.acsub.specs.WordRun.{AnswersWordRun, AnswersWordRunIn, CostsWordRun, IsSearchable, NotSearchable, for_words};
+ghost use Rattle.acsub.specs.declared.early.EarlyError.TheVariants.{Run};
+ghost use Rattle.acsub.specs.declared.error.RunError.TheVariants.{Rule};
+ghost use Rattle.acsub.specs.declared.rules.RuleError.TheVariants.{Line};
+
+use crate::args::settings::{Engine, Settings, check, has_empty_pattern};
+use crate::early::{EarlyError, Refusal};
+use crate::error::RunError;
+use crate::prepared::automaton_for;
+use crate::rules::{Rules, read_rules};
+use crate::run::{Request, unread};
+use crate::stream::told;
+use crate::stream::words::stream_words;
+use ac_automaton::watched::Watched;
+use ac_input::search::MatchKind;
+use ac_input::steps::Steps;
+use std::alloc::Global;
+use std::io::{Read, Write};
+
+/// Reads the input to its end, and writes the text that settings and rules make of its whole words.
+///
+/// Refusals come before anything is read, in this order: the settings with these rules; packed search; an empty pattern; a limit of
+/// the build. The writer isn't flushed.
+pub fn run_words<R: Read, W: Write>(
+    alloc: Global,
+    settings: &Settings,
+    rules: &Rules,
+    reader: &mut Watched<R>,
+    writer: &mut Watched<W>,
+) -> Result<(), EarlyError>
+    requires { reader.old.ended ≡ false }
+    ensures answered { AnswersWordRun R.remaining W.contents (reader.old, writer.old) (reader.new, writer.new)
+        settings.now rules.now result }
+{
+    let mut steps = Steps::new();
+    run_words_counted(alloc, settings, rules, reader, writer, &mut steps)
+}
+
+/// The same, and counts what it does.
+pub fn run_words_counted<R: Read, W: Write>(
+    alloc: Global,
+    settings: &Settings,
+    rules: &Rules,
+    reader: &mut Watched<R>,
+    writer: &mut Watched<W>,
+    steps: &mut Steps,
+) -> Result<(), EarlyError>
+    requires { reader.old.ended ≡ false }
+    ensures answered { AnswersWordRun R.remaining W.contents (reader.old, writer.old) (reader.new, writer.new)
+        settings.now rules.now result }
+    ensures cost { CostsWordRun settings.now rules.now reader.old reader.new steps.old steps.new result }
+{
+    check_words(settings, rules)?;
+    let automaton = automaton_for(alloc, &for_words(settings), rules)?;
+    let written = stream_words(alloc, settings, rules, &automaton, reader, writer, steps);
+    Ok(told(written)?)
+}
+
+/// The same, by a rule file of plain text or of hex. Which bad line comes first is reported before all else.
+pub fn run_words_in<R: Read, W: Write>(
+    alloc: Global,
+    asked: Request,
+    file: &[u8],
+    reader: &mut Watched<R>,
+    writer: &mut Watched<W>,
+) -> Result<(), EarlyError>
+    requires { reader.old.ended ≡ false }
+    ensures answered { AnswersWordRunIn R.remaining W.contents (reader.old, writer.old) (reader.new, writer.new)
+        ((grammar_of asked.text).holds file.now) asked.settings result }
+    ensures fault { (n : ℕ) → (result ≡ Err (Run (Rule (Line n)))) ↔ (grammar_of asked.text).bad file.now n }
+{
+    match read_rules(alloc, asked.text, file) {
+        Ok(rules) => run_words(alloc, &asked.settings, &rules, reader, writer),
+        Err(error) => Err(EarlyError::Run(unread(error))),
+    }
+}
+
+/// Whether whole words can be searched for, by these settings and rules.
+pub fn check_words(settings: &Settings, rules: &Rules) -> Result<(), EarlyError>
+    ensures accepted { OnOk result (IsSearchable settings.now rules.now) }
+    ensures refused { IfErr result (NotSearchable settings.now rules.now) }
+{
+    if let Err(error) = check(settings, rules) {
+        return Err(EarlyError::Run(RunError::Setting(error)));
+    }
+    if settings.engine == Engine::Packed {
+        return Err(EarlyError::Refused(Refusal::PackedWord));
+    }
+    if has_empty_pattern(rules) {
+        return Err(EarlyError::Refused(Refusal::EmptyWord));
+    }
+    Ok(())
+}
+
+/// The settings by which the automaton is built: of the standard kind.
+fn for_words(settings: &Settings) -> Settings
+    ensures { result ≡ for_words settings.now }
+{
+    Settings {
+        kind: MatchKind::Standard,
+        ..*settings
+    }
+}

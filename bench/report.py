@@ -149,6 +149,19 @@ TABLES = [
         + [Column(f"by list, {engine}", "mask", "speeds", f"mask {engine}", f"list {engine}") for engine in ("auto", "dfa")],
     ),
     (
+        "Whole words",
+        "MB/s of `acsub list --word`, under the standard kind and under leftmost-longest, and of `acsub mask --word`, and the speed of each"
+        " by that of the same run without `--word`, which writes while it reads, too.",
+        [
+            column
+            for heading, label in (("list", "list"), ("leftmost-longest", "leftmost"), ("mask", "mask"))
+            for column in (
+                Column(heading, "word", "speeds", f"{label} words"),
+                Column(f"{heading}, by all", "word", "speeds", f"{label} words", label),
+            )
+        ],
+    ),
+    (
         "Memory of a run",
         "The most MB that a run had touched. Under leftmost-first acsub and the crate hold the input, and Hyperscan holds it always.",
         peaks("list", *PROGRAMS) + peaks("leftmost-list", ("acsub, leftmost", "acsub auto"), ("crate, leftmost", "crate auto")),

@@ -158,6 +158,19 @@ def masked(bench, name):
     return {"speeds": bench.speeds(name, masks + list(make("list")))}
 
 
+def worded(bench, name):
+    """Whole words beside all occurrences, over a stream by `auto`. No other program here has these words."""
+
+    def make(label, mode, *words):
+        return Command(label, [bench.programs["acsub"], mode, bench.rules(name), *words], bench.text(name))
+
+    leftmost = ["--kind", "leftmost-longest", "--stream"]
+    commands = [make("list", "list"), make("list words", "list", "--word")]
+    commands += [make("leftmost", "list", *leftmost), make("leftmost words", "list", *leftmost, "--word")]
+    commands += [make("mask", "mask"), make("mask words", "mask", "--word")]
+    return {"speeds": bench.speeds(name, commands)}
+
+
 def listed_leftmost(bench, name):
     """`list` of an input that is held. The numbers aren't compared: version 0.7.19 of the public crate has wrong ones where a
     pattern begins with an earlier one."""
@@ -209,6 +222,7 @@ MODES = {
     "replace": (TEXT_SETS, replaced),
     "texts": (OTHER_SETS, listed),
     "mask": (TEXT_SETS + OTHER_SETS, masked),
+    "word": (TEXT_SETS + OTHER_SETS, worded),
     "leftmost-list": (TEXT_SETS, listed_leftmost),
     "leftmost-replace": (TEXT_SETS, replaced_leftmost),
     "in-memory": (TEXT_SETS + OTHER_SETS, in_memory("standard", ENGINES)),

@@ -116,7 +116,7 @@ impl MatchError {
         MatchError::new(MatchErrorKind::UnsupportedOverlapping { got })
     }
 
-    /// A search of a stream with an empty pattern.
+    /// A search of a stream, or for whole words, with an empty pattern.
     pub fn unsupported_empty() -> MatchError {
         MatchError::new(MatchErrorKind::UnsupportedEmpty)
     }
@@ -140,7 +140,7 @@ pub enum MatchErrorKind {
         /// The automaton's kind.
         got: MatchKind,
     },
-    /// A search of a stream, with an empty pattern.
+    /// A search of a stream, or for whole words, with an empty pattern.
     UnsupportedEmpty,
 }
 
@@ -155,7 +155,7 @@ impl fmt::Display for MatchError {
             MatchErrorKind::UnsupportedOverlapping { got } => {
                 write!(f, "{}, and this is {got:?}", handle::status_text(sys::DADO_NOT_STANDARD))
             }
-            MatchErrorKind::UnsupportedEmpty => f.write_str("a stream can't be searched for an empty pattern"),
+            MatchErrorKind::UnsupportedEmpty => f.write_str(handle::status_text(sys::DADO_EMPTY_PATTERN)),
         }
     }
 }

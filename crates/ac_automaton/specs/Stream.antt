@@ -187,25 +187,39 @@ StaysOpen Words m x os =
 StaysOpen AllWords m x os =
     (o : Occurrence) → OccursWhole (whole m x false) o → o.end < length x → Contains os o
 
--- The items that a text decides: however it goes on, they are the first ones. Under standard they are all items of the
--- text, but for a word, which waits for the byte after it. What follows may still change the next one.
-pub record Decides (q : Sequence) (m : Dictionary) (x : List ℕ) (os : List Occurrence) : Type 0 where
-  pub first : ((more : List ℕ) → IsBeginning os (items_of q m (x ++ more)))
-  pub all : IsPrompt q m → os ≡ items_of q m x
-  pub open_ : StaysOpen q m x os
+-- The items that a text decides: however it goes on, they are the first ones. Where each is decided with its last byte, they
+-- are all items of the text. What follows may still change the next one.
+pub record DecidesItems (items : List ℕ → List Occurrence) (prompt : Type 0) (stays : List Occurrence → Type 0)
+    (x : List ℕ) (os : List Occurrence) : Type 0 where
+  pub first : ((more : List ℕ) → IsBeginning os (items (x ++ more)))
+  pub all : prompt → os ≡ items x
+  pub open_ : stays os
+
+-- the matches that a text decides: under standard all of them; what follows them isn't dead
+abbrev pub DecidesMatches : Dictionary → List ℕ → List Occurrence → Type 0
+DecidesMatches m x os =
+    DecidesItems (λ y. walk_of m.kind (whole m y false)) (m.kind ≡ Standard)
+    (λ l. ¬ IsLive m false (drop (end_of l) x) None) x os
+
+-- the items of a sequence that a text decides
+abbrev pub Decides : Sequence → Dictionary → List ℕ → List Occurrence → Type 0
+Decides q m x os = DecidesItems (λ y. items_of q m y) (IsPrompt q m) (λ l. StaysOpen q m x l) x os
 
 -- After a place, a text has at most as many bytes left as the longest pattern has, or one byte; and none, if all of it
--- is decided.
-pub record IsNear (q : Sequence) (m : Dictionary) (x : List ℕ) (place : ℕ) : Type 0 where
+-- is decided: nothing of what follows the decided items is live.
+pub record LeavesFew (decides : List Occurrence → Type 0) (m made : Dictionary) (x : List ℕ) (place : ℕ) : Type 0 where
   pub kept : length x ≤ place + max (longest m.patterns) 1
-  pub all : ((os : List Occurrence) → Decides q m x os → NothingIsLive (made_from q m) (drop (end_of os) x))
-      → length x ≤ place
+  pub all : ((os : List Occurrence) → decides os → NothingIsLive made (drop (end_of os) x)) → length x ≤ place
+
+-- the same of the items of a sequence
+abbrev pub IsNear : Sequence → Dictionary → List ℕ → ℕ → Type 0
+IsNear q m x place = LeavesFew (λ os. Decides q m x os) m (made_from q m) x place
 
 -- the front of a text up to a cut, as far as it can be written
 pub record IsFront (m : Dictionary) (output : List ℕ → List ℕ) (x text : List ℕ) : Type 0 where
   pub cut : ℕ
   pub is_cut : IsCut m x cut
-  pub near : IsNear Picks m x cut
+  pub near : LeavesFew (λ os. DecidesMatches m x os) m m x cut
   pub front : text ≡ output (take cut x)
 
 -- ---- whether a stream can be searched

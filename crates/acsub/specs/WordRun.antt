@@ -9,7 +9,7 @@ use Rattle.ac_input.specs.declared.steps.Steps.{Steps}
 use Rattle.ac_automaton.specs.Stream.Answer.{WritesStream}
 use Rattle.ac_automaton.specs.Stream.Devices.Buffer.{room_for}
 use Rattle.ac_automaton.specs.Stream.WholeWords.{IsWordFront}
-use Rattle.ac_automaton.specs.Stream.{AllWords, Sequence, Words, items_of, read_again}
+use Rattle.ac_automaton.specs.Stream.{AllWords, Decides, Sequence, Words, items_of, read_again}
 use Rattle.ac_automaton.specs.declared.error.StreamError.{StreamError}
 use Rattle.ac_automaton.specs.declared.stream.devices.watched.Watched.{Watched}
 use Rattle.acsub.specs.declared.args.settings.Engine.TheVariants.{Packed}
@@ -77,8 +77,10 @@ word_room rules = room_for (max (longest (rule_patterns rules)) 1 + 1)
 abbrev pub IsWordOutputFront : Mode → Settings → List Rule → List ℕ → List ℕ → Type 0
 IsWordOutputFront modes.Replace settings rules x text =
     IsWordFront (dictionary_for settings rules) (replacements_of rules) x text
-IsWordOutputFront modes.List settings rules x text = IsDecidedList Words (dictionary_for settings rules) x text
-IsWordOutputFront modes.Overlap settings rules x text = IsDecidedList AllWords (dictionary_for settings rules) x text
+IsWordOutputFront modes.List settings rules x text =
+    IsDecidedList (Decides Words (dictionary_for settings rules) x) text
+IsWordOutputFront modes.Overlap settings rules x text =
+    IsDecidedList (Decides AllWords (dictionary_for settings rules) x) text
 
 -- ---- what its results mean
 

@@ -246,7 +246,7 @@ module _ {S : Type 0} (A : Ghosts S) (i : Inside S) (r : Searched) (number : Cou
     (fresh taken more : Steps) (held : List ℕ)
     (kept : IsKept A i) (open_ : i.over ≡ false) (bytes : held ≡ i.buffer.bytes)
     (walk : IsPaid i.ahead ahead taken (λ paid. WalksOn A i.automaton i.start i.progress held r fresh paid))
-    (notes : IsAheadBy A i.automaton i.start held r.progress ahead) (once : StaysReadOnce held i.ahead ahead)
+    (notes : IsAheadBy A i.automaton i.start held r.progress ahead × StaysReadOnce held i.ahead ahead)
     (none : AreNone fresh) (added : Added taken i.sums more)
     (numbered : number.value ≡ i.given.value + length (some_of r.found)) where
   -- what the search keeps then
@@ -273,13 +273,13 @@ module _ {S : Type 0} (A : Ghosts S) (i : Inside S) (r : Searched) (number : Cou
       let from = on.from in
       let long = ap length bytes in
       let was : IsReadOnce i.progress.from held i.ahead = omega (arith, kept.3, long) in
-      let is : IsReadOnce i.progress.from held ahead = once i.progress.from was in
+      let is : IsReadOnce i.progress.from held ahead = notes.1 i.progress.from was in
       kept-from A then
       (subst (λ t. IsStreamSearch (A.Reaches i.automaton No) t i.start r.progress.sid r.progress.best number.value
       i.buffer i.over) (sym view)
       (next-stream number.value kept.1 on numbered))
       (subst (λ l. IsAheadOf A i.automaton (Some i.start) l (r.progress.at - r.progress.from) r.progress.sid ahead)
-      bytes notes)
+      bytes notes.0)
       (omega (arith, is, from, long)) pays.1
 
   -- it found the next match

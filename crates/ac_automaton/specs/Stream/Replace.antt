@@ -1,14 +1,16 @@
 -- Replacement over streams: what each result means for what was read and written, and what a replacement costs.
-use Rattle.std.specs.Prelude.{◌≡◌, ◌⊎◌, ℕ, ◌+◌, ◌*◌, ◌≤◌, List, ◌++◌, length, Option, Result, Err, IfErr, OnOk}
+use Rattle.std.specs.Prelude.{◌≡◌, ◌⊎◌, ℕ, ◌+◌, ◌*◌, ◌≤◌, max, List, ◌++◌, length, Option, Result, Err, IfErr, OnOk}
 use Rattle.std.specs.List.{concat}
 use Rattle.ac_input.specs.declared.search.Anchored.{Anchored}
 use Rattle.ac_input.specs.declared.steps.Steps.{Steps}
+use Rattle.ac_input.specs.Occurrence.{Occurrence}
 use Rattle.ac_input.specs.Text.{replaced_from}
-use Rattle.ac_input.specs.Work.{lookups_per_byte}
+use Rattle.ac_input.specs.Work.{longest, lookups_per_byte}
 use Rattle.ac_automaton.specs.Automaton.{Built}
+use Rattle.ac_automaton.specs.Stream.Devices.Buffer.{room_for}
 use Rattle.ac_automaton.specs.Stream.Devices.Moved.{NoneTouched}
 use Rattle.ac_automaton.specs.InMemory.Replace.{LieInOrder, matches_in}
-use Rattle.ac_automaton.specs.Stream.{AreAllGiven, CanBeCounted, CanStream, IsConfigRefusal, IsFront, IsOnCourse, IsSearched, LieApart, StreamCounts, StreamProgress, cut_of, items_of, read_again, read_by, room_of, Picks, Sequence}
+use Rattle.ac_automaton.specs.Stream.{AreAllGiven, CanBeCounted, CanStream, IsConfigRefusal, IsFront, IsOnCourse, IsSearched, LieApart, StreamCounts, StreamProgress, cut_of, items_of, read_again, read_by, Sequence}
 use Rattle.ac_automaton.specs.Stream.Answer.{WritesStream}
 use Rattle.ac_automaton.specs.declared.error.StreamError.{StreamError}
 use Rattle.ac_automaton.specs.declared.error.StreamError.TheVariants.{Config, Memory}
@@ -32,7 +34,7 @@ IsBegun other = Unit {0}
 abbrev pub ReplacesStream : {R W : Type 0} → (R → Option (List ℕ)) → (W → Option (List ℕ)) → Built → List (List ℕ)
     → Watched R → Watched R → Watched W → Watched W → Result (Unit {0}) StreamError → Type 0
 ReplacesStream remaining contents b replacements reader_before reader_after writer_before writer_after result =
-    WritesStream remaining contents (room_of Picks b) (replaced_in b replacements)
+    WritesStream remaining contents (room_for (max (longest b.dictionary.patterns) 1)) (replaced_in b replacements)
     (IsFront b.dictionary (replaced_in b replacements)) reader_before reader_after writer_before writer_after result
     × IfErr result (λ error. IsBegun error ⊎ NoneTouched reader_before reader_after writer_before writer_after)
 
@@ -51,18 +53,25 @@ pub record IsStreamCost (b : Built) (n matches : ℕ) (before after : Steps) : T
   pub scanned : after.scanned.value ≡ before.scanned.value
   pub moved : 7 * after.moved.value ≤ 7 * before.moved.value + n
 
--- What the search of a stream costs, by the bytes that were read and by their items. If it reached the end, it looked at
--- each byte.
+-- What the search of a stream costs, by the bytes that were read and by what it lists of them. If it reached the end, it
+-- looked at each byte.
+abbrev pub CostsListing : {R E : Type 0} → (List ℕ → List Occurrence) → Built → Watched R → Watched R → Steps → Steps
+    → Result (Unit {0}) E → Type 0
+CostsListing items b reader_before reader_after before after result =
+    (pieces : List (List ℕ)) × (reader_after.pieces.items ≡ reader_before.pieces.items ++ pieces)
+    × IsStreamCost b (length (concat pieces)) (length (items (concat pieces))) before after
+    × OnOk result (before.looked.value + length (concat pieces) ≤ after.looked.value)
+
+-- what the search for the items of a sequence costs
 abbrev pub CostsItems : {R E : Type 0} → Sequence → Built → Watched R → Watched R → Steps → Steps → Result (Unit {0}) E
     → Type 0
 CostsItems q b reader_before reader_after before after result =
-    (pieces : List (List ℕ)) × (reader_after.pieces.items ≡ reader_before.pieces.items ++ pieces)
-    × IsStreamCost b (length (concat pieces)) (length (items_of q b.dictionary (concat pieces))) before after
-    × OnOk result (before.looked.value + length (concat pieces) ≤ after.looked.value)
+    CostsListing (λ x. items_of q b.dictionary x) b reader_before reader_after before after result
 
--- what the search for its matches costs
+-- what the search for matches costs
 abbrev pub CostsSearch : {R E : Type 0} → Built → Watched R → Watched R → Steps → Steps → Result (Unit {0}) E → Type 0
-CostsSearch b reader_before reader_after before after result = CostsItems Picks b reader_before reader_after before after result
+CostsSearch b reader_before reader_after before after result =
+    CostsListing (λ x. matches_in b x) b reader_before reader_after before after result
 
 -- the cost of a replacement: an error before the first read cost nothing
 abbrev pub CostsStream : {R : Type 0} → Built → Watched R → Watched R → Steps → Steps → Result (Unit {0}) StreamError

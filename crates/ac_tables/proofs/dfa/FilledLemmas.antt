@@ -208,27 +208,28 @@ right-now p Yes sid u v old new serves here f =
 
 -- the rows of one more state, or of the two starts, are filled
 pub rows-more : (p : RowPlan) (start low high more further u v : ℕ) (old new : List ℕ)
-    → start ≡ (special_in p.nfa).start_unanchored_id → IsFit p → (¬ IsDone start low high u)
-    → (¬ IsDone start low high v) → IsDone start more further u → IsDone start more further v
+    → start ≡ (special_in p.nfa).start_unanchored_id → IsFit p
+    → (¬ IsDone start low high u) × (¬ IsDone start low high v)
+    → IsDone start more further u × IsDone start more further v
     → ((sid : ℕ) → IsDone start low high sid → IsDone start more further sid)
     → ((a : Anchored) (sid : ℕ) → MayBeMet p.nfa a sid → IsDone start more further sid
     → IsDone start low high sid ⊎ ((a ≡ No → sid ≡ u) × (a ≡ Yes → sid ≡ v))) → AreRowsUpTo p low high old
     → AreRowsFilled p u v old new → AreRowsUpTo p more further new
-rows-more p start low high more further u v old new is fit fresh_u fresh_v now_u now_v grows only h f = record {
+rows-more p start low high more further u v old new is fit fresh now grows only h f = record {
   len = f.len ∙ h.len;
   right = λ a sid serves met done.
       ⊎_elim
       (λ (before : IsDone start low high sid). right-kept p a sid old new fit
-      (λ x within. f.others a sid x serves met (λ _ e. fresh_u (subst (IsDone start low high) e before))
-      (λ _ e. fresh_v (subst (IsDone start low high) e before)) within)
+      (λ x within. f.others a sid x serves met (λ _ e. fresh.0 (subst (IsDone start low high) e before))
+      (λ _ e. fresh.1 (subst (IsDone start low high) e before)) within)
       (h.right a sid serves met (subst (λ n. IsDone n low high sid) is before)))
       (λ (here : (a ≡ No → sid ≡ u) × (a ≡ Yes → sid ≡ v)). right-now p a sid u v old new serves here f)
       (only a sid met (subst (λ n. IsDone n more further sid) (sym is) done));
   blank = λ a sid serves met free x within.
       let still : ¬ IsDone start more further sid =
       λ done. free (subst (λ n. IsDone n more further sid) is done) in
-      f.others a sid x serves met (λ _ e. still (subst (IsDone start more further) (sym e) now_u))
-      (λ _ e. still (subst (IsDone start more further) (sym e) now_v)) within
+      f.others a sid x serves met (λ _ e. still (subst (IsDone start more further) (sym e) now.0))
+      (λ _ e. still (subst (IsDone start more further) (sym e) now.1)) within
       ∙ h.blank a sid serves met (λ before. still
       (grows sid (subst (λ n. IsDone n low high sid) (sym is) before))) x within;
 }
@@ -254,10 +255,10 @@ rows-starts p old new fit h f =
     let past = fit.source.starts.0 in
     rows-more p start 2 start 2 (start + 2) start (start + 1) old new refl fit
     (λ done. ⊎_elim (λ (l : start < 2). omega (arith, l, past))
-    (λ (r : (start ≤ start) × (start < start)). omega (arith, r.1)) done)
-    (λ done. ⊎_elim (λ (l : start + 1 < 2). omega (arith, l, past))
+    (λ (r : (start ≤ start) × (start < start)). omega (arith, r.1)) done,
+    λ done. ⊎_elim (λ (l : start + 1 < 2). omega (arith, l, past))
     (λ (r : (start ≤ start + 1) × (start + 1 < start)). omega (arith, r.1)) done)
-    (inr (omega arith, omega arith)) (inr (omega arith, omega arith))
+    (inr (omega arith, omega arith), inr (omega arith, omega arith))
     (λ sid done. ⊎_elim (λ (l : sid < 2). inl l) (λ (r : (start ≤ sid) × (sid < start)). inr (r.0, omega (arith, r.1)))
     done)
     by h f
@@ -282,8 +283,8 @@ pub rows-low : (p : RowPlan) (low high : ℕ) (old new : List ℕ) → IsFit p �
 rows-low p low high old new fit within h f =
     let start = (special_in p.nfa).start_unanchored_id in
     let fresh = fresh-low start low high within in
-    rows-more p start low high (low + 1) high low low old new refl fit fresh fresh (inl (omega arith))
-    (inl (omega arith))
+    rows-more p start low high (low + 1) high low low old new refl fit (fresh, fresh)
+    (inl (omega arith), inl (omega arith))
     (λ sid done. ⊎_elim (λ (l : sid < low). inl (omega (arith, l))) (λ (r : (start ≤ sid) × (sid < high)). inr r) done)
     (λ a sid met done. ⊎_elim (λ (l : sid < low + 1). ⊎_elim (λ (before : sid < low). inl (inl before))
     (λ (last : low ≤ sid). inr (λ _. omega (arith, l, last), λ _. omega (arith, l, last))) (cases_lt sid low))
@@ -297,8 +298,8 @@ pub rows-high : (p : RowPlan) (low high : ℕ) (old new : List ℕ) → IsFit p 
 rows-high p low high old new fit within past h f =
     let start = (special_in p.nfa).start_unanchored_id in
     let fresh = fresh-high start low high within past in
-    rows-more p start low high low (high + 1) high high old new refl fit fresh fresh
-    (inr (omega (arith, past), omega arith)) (inr (omega (arith, past), omega arith))
+    rows-more p start low high low (high + 1) high high old new refl fit (fresh, fresh)
+    (inr (omega (arith, past), omega arith), inr (omega (arith, past), omega arith))
     (λ sid done. ⊎_elim (λ (l : sid < low). inl l) (λ (r : (start ≤ sid) × (sid < high)). inr (r.0, omega (arith, r.1)))
     done)
     (λ a sid met done. ⊎_elim (λ (l : sid < low). inl (inl l))

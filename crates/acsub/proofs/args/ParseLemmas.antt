@@ -193,13 +193,14 @@ module _ (old : Command) (lists : Lists) (names : HasNames lists) (is : app_of o
   -- a value that is one of the names names something
   choice : {X : Type 0} (what : Text → Option X) (k : ℕ) (d : Arg) (id : Text) (ns : Names) (list : List Text)
       → IsOwn old k (slice_index_or (args_of old) k d)
-      → (slice_index_or (args_of old) k d).id.now ≡ id
-      → (slice_index_or (args_of old) k d).value_parser ≡ Some (parser.Names ns)
-      → (slice_index_or (args_of old) k d).ignore_case ≡ false → texts ns.now ≡ list
+      → ((slice_index_or (args_of old) k d).id.now ≡ id)
+      × ((slice_index_or (args_of old) k d).value_parser ≡ Some (parser.Names ns))
+      × ((slice_index_or (args_of old) k d).ignore_case ≡ false)
+      → texts ns.now ≡ list
       → list_all (λ n. is_some (what n)) list ≡ true
       → is_some (first_value (found_of m) (slice_index_or (args_of old) k d).id.now) ≡ true
       → is_some (option_and_then what (first_of id (rows_of (found_of m)))) ≡ true
-  choice what k d id ns list own at_id has_parser exact are all has =
+  choice what k d id ns list own (at_id, has_parser, exact) are all has =
       let some = is_some_of (first_value (found_of m) (slice_index_or (args_of old) k d).id.now) has in
       let ok = first_accepted old m p plain local k (slice_index_or (args_of old) k d) own (parser.Names ns) has_parser
       some.0 some.1 in
@@ -221,8 +222,8 @@ module _ (old : Command) (lists : Lists) (names : HasNames lists) (is : app_of o
   mode_typed =
       let r = mode_rule_is in
       let own = own_at old lists is 0 an_arg (lit< tt) refl refl in
-      choice mode_named 0 an_arg (codes "mode") lists.modes mode_names own (ap (λ x. x.id) r) (ap (λ x. x.parser) r)
-      (ap (λ x. x.ignore_case) r) names.modes refl
+      choice mode_named 0 an_arg (codes "mode") lists.modes mode_names own
+      (ap (λ x. x.id) r, ap (λ x. x.parser) r, ap (λ x. x.ignore_case) r) names.modes refl
       (required_value 0 an_arg (lit< tt) own (ap (λ x. x.action) r) (ap (λ x. x.range) r) (ap (λ x. x.required) r))
 
   rules_typed : is_some (rules_path (rows_of (found_of m))) ≡ true
@@ -240,8 +241,8 @@ module _ (old : Command) (lists : Lists) (names : HasNames lists) (is : app_of o
       let r : rule_of (slice_index_or (args_of old) 6 an_arg) ≡ kind_rule lists.kinds =
       rule_at old lists is 6 an_arg (lit< tt) in
       let own = own_at old lists is 6 an_arg (lit< tt) refl refl in
-      choice kind_named 6 an_arg (codes "kind") lists.kinds kind_names own (ap (λ x. x.id) r) (ap (λ x. x.parser) r)
-      (ap (λ x. x.ignore_case) r) names.kinds refl
+      choice kind_named 6 an_arg (codes "kind") lists.kinds kind_names own
+      (ap (λ x. x.id) r, ap (λ x. x.parser) r, ap (λ x. x.ignore_case) r) names.kinds refl
       (default_value 6 an_arg (codes "standard") (lit< tt) own (ap (λ x. x.action) r) (ap (λ x. x.range) r)
       (ap (λ x. x.defaults) r))
 
@@ -250,8 +251,8 @@ module _ (old : Command) (lists : Lists) (names : HasNames lists) (is : app_of o
       let r : rule_of (slice_index_or (args_of old) 9 an_arg) ≡ engine_rule lists.engines =
       rule_at old lists is 9 an_arg (lit< tt) in
       let own = own_at old lists is 9 an_arg (lit< tt) refl refl in
-      choice engine_named 9 an_arg (codes "engine") lists.engines engine_names own (ap (λ x. x.id) r)
-      (ap (λ x. x.parser) r) (ap (λ x. x.ignore_case) r) names.engines refl
+      choice engine_named 9 an_arg (codes "engine") lists.engines engine_names own
+      (ap (λ x. x.id) r, ap (λ x. x.parser) r, ap (λ x. x.ignore_case) r) names.engines refl
       (default_value 9 an_arg (codes "auto") (lit< tt) own (ap (λ x. x.action) r) (ap (λ x. x.range) r)
       (ap (λ x. x.defaults) r))
 

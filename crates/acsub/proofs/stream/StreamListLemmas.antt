@@ -10,7 +10,7 @@ use Rattle.ac_input.specs.Text.{line, listed}
 use Rattle.ac_input.specs.Work.{shortest}
 use Rattle.ac_automaton.specs.Automaton.{Built}
 use Rattle.ac_automaton.specs.Stream.Devices.Moved.{NoneTouched}
-use Rattle.ac_automaton.specs.Stream.{AllWords, CanStream, Occurrences, Picks, Sequence, Words, items_of, room_of}
+use Rattle.ac_automaton.specs.Stream.{AllWords, CanStream, Decides, DecidesMatches, Occurrences, Picks, Sequence, Words, items_of, room_of}
 use Rattle.ac_automaton.specs.Stream.Overlapping.{IsListingConfigRefusal, IsListingRefusal}
 use Rattle.ac_automaton.specs.Stream.Pump.{HasComeToCut, IsUntouched, PumpsAt, PumpsMatches, PumpsOccurrences}
 use Rattle.ac_automaton.specs.Stream.Replace.{CostsItems, IsBegun}
@@ -125,14 +125,16 @@ module _ {K W : Type 0} (contents : W → Option (List ℕ)) (output : K → Lis
       let whole = λ (x : List ℕ). lines-between q x 0 (items_of q b.dictionary x) (length x) in
       let front = λ (x : List ℕ) (cut : ℕ) (done : List Occurrence) (to : K × Watched W)
       (came : HasComeToCut (sending contents output (λ k. listing_lines) accepts) q b x cut done z to).
-      let decided : IsDecidedList q b.dictionary x (text_between listing_lines q x 0 done cut) =
+      let decided : IsDecidedList (Decides q b.dictionary x) (text_between listing_lines q x 0 done cut) =
       (done, came.decides, lines-between q x 0 done cut) in
       decided in
       let begun = pumped-begun contents output (λ k. listing_lines) accepts (λ k. lines-piecewise) q b z empty
-      (lines_of q b.dictionary) (IsDecidedList q b.dictionary) whole front last result pumps.0 in
+      (lines_of q b.dictionary) (λ x text. IsDecidedList (Decides q b.dictionary x) text) whole front last result
+            pumps.0 in
       record {
         lists = pumped-writes contents output (λ k. listing_lines) accepts (λ k. lines-piecewise) q b z empty
-            (lines_of q b.dictionary) (IsDecidedList q b.dictionary) whole front last result pumps.0;
+            (lines_of q b.dictionary) (λ x text. IsDecidedList (Decides q b.dictionary x) text) whole front last result
+            pumps.0;
         costs = pumps.1;
         memory = never-memory _ result begun;
         accepted = begun-accepted result begun;
@@ -211,10 +213,10 @@ module _ (plan : Plan) (b : Built) (built : b.dictionary ≡ dictionary_for plan
 
   -- a line for each decided item is all that can be written so far
   lines-front : (q : Sequence) → IsModeOf q plan.settings.mode → (q ≡ Occurrences → b.dictionary.kind ≡ Standard)
-      → (x text : List ℕ) → IsDecidedList q b.dictionary x text → IsOutputFront plan.settings plan.rules x text
+      → (x text : List ℕ) → IsDecidedList (Decides q b.dictionary x) text → IsOutputFront plan.settings plan.rules x text
   lines-front Picks mode standard x text front = record {
     replaced = λ other. let apart : modes.List ≡ modes.Replace = sym mode ∙ other in absurd (cc);
-    listed = λ _. subst (λ m. IsDecidedList Picks m x text) built front;
+    listed = λ _. subst (λ m. IsDecidedList (DecidesMatches m x) text) built front;
     overlapping = λ other. let apart : modes.List ≡ modes.Overlap = sym mode ∙ other in absurd (cc);
   }
   lines-front Occurrences mode standard x text front = record {
@@ -233,8 +235,8 @@ module _ (plan : Plan) (b : Built) (built : b.dictionary ≡ dictionary_for plan
       → ListsStream q remaining contents b old new result
       → WritesPlan remaining contents old new plan result
   list-plan q mode standard remaining contents old new result lists =
-      writes-plan plan (room_of q b) (lines_of q b.dictionary) (IsDecidedList q b.dictionary) (lines-room q mode)
-      (lines-output q mode) (lines-front q mode standard) remaining contents old new result lists
+      writes-plan plan (room_of q b) (lines_of q b.dictionary)
+      (λ x text. IsDecidedList (Decides q b.dictionary x) text) (lines-room q mode) (lines-output q mode) (lines-front q mode standard) remaining contents old new result lists
 
 -- if the text is written while the input is read, the search of the stream is supported
 pub every-can : (ac : AhoCorasick) (plan : Plan) → IsServing plan.settings plan.rules ac

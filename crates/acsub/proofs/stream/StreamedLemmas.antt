@@ -16,7 +16,7 @@ use Rattle.ac_automaton.specs.Automaton.{Built}
 use Rattle.ac_automaton.specs.Stream.Devices.Buffer.{room_for}
 use Rattle.std.specs.Prelude.{IfErr, OnOk, max}
 use Rattle.ac_automaton.specs.Stream.Devices.Moved.{AllFit, Failed, Moved, NoneTouched, but_last}
-use Rattle.ac_automaton.specs.Stream.{CanStream, IsConfigRefusal, IsStreamRefusal, IsFront, IsNear, Picks, Sequence, room_of}
+use Rattle.ac_automaton.specs.Stream.{CanStream, DecidesMatches, IsConfigRefusal, IsStreamRefusal, IsFront, LeavesFew, Picks, Sequence, room_of}
 use Rattle.ac_automaton.specs.Stream.Answer.{AnswersWriting, WritesStream, WroteToFailedWrite}
 use Rattle.ac_automaton.specs.Stream.Replace.{AcceptsStream, CostsItems, CostsSearch, IsBegun, ReplacesStream, replaced_in}
 use Rattle.ac_input.specs.declared.steps.Steps.{Steps}
@@ -123,7 +123,7 @@ replaced-front b plan x text is mode f =
       replaced = λ _. record {
         cut = f.cut;
         is_cut = subst (λ m. IsCut m x f.cut) is f.is_cut;
-        near = subst (λ m. IsNear Picks m x f.cut) is f.near;
+        near = subst (λ m. LeavesFew (λ os. DecidesMatches m x os) m m x f.cut) is f.near;
         front = f.front ∙ replaced-output b plan (take f.cut x) is mode;
       };
       listed = λ other. let apart : modes.Replace ≡ modes.List = sym mode ∙ other in absurd (cc);

@@ -8,7 +8,7 @@ use Rattle.ac_input.specs.Rules.{Rule}
 use Rattle.ac_input.specs.Word.{whole_occurrences}
 use Rattle.ac_input.specs.Work.{longest, lookups_per_byte, shortest}
 use Rattle.ac_automaton.specs.Automaton.{Built}
-use Rattle.ac_automaton.specs.Stream.{AllWords, CanStream, Words, items_of, read_again}
+use Rattle.ac_automaton.specs.Stream.{AllWords, CanStream, Decides, Words, items_of, read_again}
 use Rattle.ac_automaton.specs.Stream.Answer.{WritesStream}
 use Rattle.ac_automaton.specs.Stream.Devices.Buffer.{room_for}
 use Rattle.ac_automaton.specs.Stream.Devices.Moved.{AllFit}
@@ -106,20 +106,20 @@ module _ {R W : Type 0} (remaining : R → Option (List ℕ)) (contents : W → 
   pub words-lined : settings.mode ≡ modes.List → ListsStream Words remaining contents b old new result
       → WritesWordText remaining contents old new settings rules result
   words-lined mode lists =
-      writes-alike (lines_of Words b.dictionary) (IsDecidedList Words b.dictionary)
+      writes-alike (lines_of Words b.dictionary) (λ x text. IsDecidedList (Decides Words b.dictionary x) text)
       (λ x. ap (λ d. lines_of Words d x) is ∙ words-output settings rules x modes.List mode)
       (λ x text f. subst (λ asked. IsWordOutputFront asked settings rules x text) (sym mode)
-      (subst (λ d. IsDecidedList Words d x text) is f))
+      (subst (λ d. IsDecidedList (Decides Words d x) text) is f))
       lists
 
   -- a list of all words
   pub all_words-lined : settings.mode ≡ modes.Overlap → ListsStream AllWords remaining contents b old new result
       → WritesWordText remaining contents old new settings rules result
   all_words-lined mode lists =
-      writes-alike (lines_of AllWords b.dictionary) (IsDecidedList AllWords b.dictionary)
+      writes-alike (lines_of AllWords b.dictionary) (λ x text. IsDecidedList (Decides AllWords b.dictionary x) text)
       (λ x. ap (λ d. lines_of AllWords d x) is ∙ words-output settings rules x modes.Overlap mode)
       (λ x text f. subst (λ asked. IsWordOutputFront asked settings rules x text) (sym mode)
-      (subst (λ d. IsDecidedList AllWords d x text) is f))
+      (subst (λ d. IsDecidedList (Decides AllWords d x) text) is f))
       lists
 
 -- ---- what it costs

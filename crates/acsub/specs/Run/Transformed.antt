@@ -2,13 +2,13 @@
 use Rattle.std.specs.Prelude.{◌≡◌, ◌≢◌, ◌⊎◌, ℕ, List, None, false, true, max}
 use Rattle.ac_input.specs.declared.search.MatchKind.{MatchKind}
 use Rattle.ac_input.specs.Computed.{occurrences, walk_among, listing_among}
-use Rattle.ac_input.specs.Dictionary.{Dictionary, whole}
+use Rattle.ac_input.specs.Dictionary.{whole}
 use Rattle.ac_input.specs.Occurrence.{Occurrence, Search}
 use Rattle.ac_input.specs.Rules.{Rule}
 use Rattle.ac_input.specs.Text.{replaced_from, listed}
 use Rattle.ac_input.specs.Work.{longest}
 use Rattle.ac_automaton.specs.Stream.Devices.Buffer.{least_room, room_for}
-use Rattle.ac_automaton.specs.Stream.{Decides, IsFront, Picks, Sequence}
+use Rattle.ac_automaton.specs.Stream.{DecidesMatches, IsFront}
 use Rattle.acsub.specs.declared.args.settings.Mode.{Mode}
 use Rattle.acsub.specs.declared.args.settings.Mode.TheVariants as modes
 use Rattle.acsub.specs.declared.args.settings.Settings.{Settings}
@@ -48,14 +48,14 @@ room_in modes.Replace rules = room_for (max (longest (rule_patterns rules)) 1)
 room_in modes.List rules = room_for (max (longest (rule_patterns rules)) 1)
 room_in modes.Overlap rules = least_room
 
--- a line for each item that a text decides: under the standard kind, for all of its items
-abbrev pub IsDecidedList : Sequence → Dictionary → List ℕ → List ℕ → Type 0
-IsDecidedList q m x text = (os : List Occurrence) × Decides q m x os × (text ≡ listed os)
+-- a line for each item that is decided
+abbrev pub IsDecidedList : (List Occurrence → Type 0) → List ℕ → Type 0
+IsDecidedList decides text = (os : List Occurrence) × decides os × (text ≡ listed os)
 
 -- What can be written once this much of the input was read: the text up to a cut, with matches replaced; or a line for
 -- each decided match; or a line for each occurrence, which no later byte can change.
 pub record IsOutputFront (settings : Settings) (rules : List Rule) (x text : List ℕ) : Type 0 where
   pub replaced : settings.mode ≡ modes.Replace
       → IsFront (dictionary_for settings rules) (output_of settings rules) x text
-  pub listed : settings.mode ≡ modes.List → IsDecidedList Picks (dictionary_for settings rules) x text
+  pub listed : settings.mode ≡ modes.List → IsDecidedList (DecidesMatches (dictionary_for settings rules) x) text
   pub overlapping : settings.mode ≡ modes.Overlap → text ≡ output_of settings rules x

@@ -4,7 +4,7 @@ use Rattle.std.proofs.Common.{refl}
 use Rattle.ac_input.specs.Dictionary.{Dictionary}
 use Rattle.ac_input.specs.Text.{line, listed}
 use Rattle.ac_automaton.specs.Automaton.{Built}
-use Rattle.ac_automaton.specs.Stream.{Sequence, items_of, room_of}
+use Rattle.ac_automaton.specs.Stream.{Decides, Sequence, items_of, room_of}
 use Rattle.ac_automaton.specs.Stream.SinkLaws.{IsPiecewise}
 use Rattle.ac_automaton.specs.Stream.Answer.{WritesStream}
 use Rattle.ac_automaton.specs.Stream.Texts.{Texts}
@@ -20,8 +20,8 @@ lines_of q m x = listed (items_of q m x)
 abbrev pub ListsStream : {R W : Type 0} → Sequence → (R → Option (List ℕ)) → (W → Option (List ℕ)) → Built
     → Watched R × Watched W → Watched R × Watched W → Result (Unit {0}) StreamError → Type 0
 ListsStream q remaining contents b old new result =
-    WritesStream remaining contents (room_of q b) (lines_of q b.dictionary) (IsDecidedList q b.dictionary) old.0 new.0
-    old.1 new.1 result
+    WritesStream remaining contents (room_of q b) (lines_of q b.dictionary)
+    (λ x text. IsDecidedList (Decides q b.dictionary x) text) old.0 new.0 old.1 new.1 result
 
 -- a line is made of each item, and nothing of the text
 abbrev pub listing_lines : Texts

@@ -27,7 +27,7 @@ invariant_of-self g c =
     next-kept g.A.Automaton c.self.inside (searched g c) c.given_then-self-inside.result
     c.search_stream-found.new.ahead c.new-taken.result c.search_stream-found.new.steps c.add-2.new.self
     c.held.result.now
-    c.self.invariant c.if-self.false c.held.ensures on.walk on.ahead on.once c.new-taken.ensures c.add-2.ensures
+    c.self.invariant c.if-self.false c.held.ensures on.walk (on.ahead, on.once) c.new-taken.ensures c.add-2.ensures
     c.given_then-self-inside.ensures
 
 pub returns-clause-finds : goal.returns-clause-finds
@@ -40,7 +40,7 @@ returns-clause-finds g c =
     (next-finds g.A.Automaton c.self.inside (searched g c) c.given_then-self-inside.result
     c.search_stream-found.new.ahead c.new-taken.result c.search_stream-found.new.steps c.add-2.new.self
     c.held.result.now
-    c.self.invariant c.if-self.false c.held.ensures on.walk on.ahead on.once c.new-taken.ensures c.add-2.ensures
+    c.self.invariant c.if-self.false c.held.ensures on.walk (on.ahead, on.once) c.new-taken.ensures c.add-2.ensures
     c.given_then-self-inside.ensures)
 
 pub returns-clause-counts : goal.returns-clause-counts
@@ -54,7 +54,7 @@ returns-clause-counts g c =
     (next-counts g.A.Automaton c.self.inside (searched g c) c.given_then-self-inside.result
     c.search_stream-found.new.ahead c.new-taken.result c.search_stream-found.new.steps c.add-2.new.self
     c.held.result.now
-    c.self.invariant c.if-self.false c.held.ensures on.walk on.ahead on.once c.new-taken.ensures c.add-2.ensures
+    c.self.invariant c.if-self.false c.held.ensures on.walk (on.ahead, on.once) c.new-taken.ensures c.add-2.ensures
     c.given_then-self-inside.ensures c.args.steps.now c.add.new.self c.add.ensures)
 
 pub returns-clause-kept : goal.returns-clause-kept

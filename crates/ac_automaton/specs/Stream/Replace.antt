@@ -55,9 +55,9 @@ pub record IsStreamCost (b : Built) (n matches : ℕ) (before after : Steps) : T
 
 -- What the search of a stream costs, by the bytes that were read and by what it lists of them. If it reached the end, it
 -- looked at each byte.
-abbrev pub CostsListing : {R E : Type 0} → (List ℕ → List Occurrence) → Built → Watched R → Watched R → Steps → Steps
+abbrev pub CostsListed : {R E : Type 0} → (List ℕ → List Occurrence) → Built → Watched R → Watched R → Steps → Steps
     → Result (Unit {0}) E → Type 0
-CostsListing items b reader_before reader_after before after result =
+CostsListed items b reader_before reader_after before after result =
     (pieces : List (List ℕ)) × (reader_after.pieces.items ≡ reader_before.pieces.items ++ pieces)
     × IsStreamCost b (length (concat pieces)) (length (items (concat pieces))) before after
     × OnOk result (before.looked.value + length (concat pieces) ≤ after.looked.value)
@@ -66,12 +66,12 @@ CostsListing items b reader_before reader_after before after result =
 abbrev pub CostsItems : {R E : Type 0} → Sequence → Built → Watched R → Watched R → Steps → Steps → Result (Unit {0}) E
     → Type 0
 CostsItems q b reader_before reader_after before after result =
-    CostsListing (λ x. items_of q b.dictionary x) b reader_before reader_after before after result
+    CostsListed (λ x. items_of q b.dictionary x) b reader_before reader_after before after result
 
 -- what the search for matches costs
 abbrev pub CostsSearch : {R E : Type 0} → Built → Watched R → Watched R → Steps → Steps → Result (Unit {0}) E → Type 0
 CostsSearch b reader_before reader_after before after result =
-    CostsListing (λ x. matches_in b x) b reader_before reader_after before after result
+    CostsListed (λ x. matches_in b x) b reader_before reader_after before after result
 
 -- the cost of a replacement: an error before the first read cost nothing
 abbrev pub CostsStream : {R : Type 0} → Built → Watched R → Watched R → Steps → Steps → Result (Unit {0}) StreamError

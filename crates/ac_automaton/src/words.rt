@@ -81,6 +81,13 @@ impl WordPlace {
         self.last
     }
 
+    /// Up to where it has read.
+    pub(crate) fn at(&self) -> usize
+        ensures { result ≡ self.now.at }
+    {
+        self.at
+    }
+
     /// A word that is still to be found begins at this place or later, where no pattern is longer than this.
     pub(crate) fn cut(&self, longest: usize) -> usize
         ensures { result ≡ max self.now.last (self.now.at - max longest 1) }

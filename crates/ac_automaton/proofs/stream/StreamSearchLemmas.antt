@@ -280,11 +280,11 @@ pub record IsGrown (old new : Held) (piece : List ℕ) : Type 0 where
   pub paid : IsRollPaid new
 
 -- how far a search has come after a read
-abbrev pub after_read : StreamProgress Picks → List ℕ → StreamProgress Picks
+abbrev pub after_read : {q : Sequence} → StreamProgress q → List ℕ → StreamProgress q
 after_read s piece = record s { pieces = s.pieces ++ piece ∷ [] }
 
 -- the bytes read after a read are those before it and the piece
-pub read-more : (s : StreamProgress Picks) (piece : List ℕ) → read_by (after_read s piece) ≡ read_by s ++ piece
+pub read-more : {q : Sequence} (s : StreamProgress q) (piece : List ℕ) → read_by (after_read s piece) ≡ read_by s ++ piece
 read-more s piece = concat-append s.pieces (piece ∷ []) ∙ ap (λ l. read_by s ++ l) (append-nil piece)
 
 -- what comes after a read: the piece and what follows it

@@ -10,16 +10,18 @@ use Rattle.ac_input.specs.declared.search.MatchKind.TheVariants.{Standard}
 use Rattle.ac_input.specs.declared.steps.Steps.{Steps}
 use Rattle.ac_input.specs.Steps.{AreNone}
 use Rattle.ac_input.specs.Work.{longest, shortest}
-use Rattle.ac_automaton.specs.Stream.{CanBeCounted, HasRead, IsOnCourse, StreamProgress, Words, cut_of, fresh_progress, room_of}
+use Rattle.ac_automaton.specs.Stream.{CanBeCounted, HasRead, IsOnCourse, IsSearched, StreamProgress, Words, cut_of, fresh_progress, read_by, room_of}
 use Rattle.ac_automaton.specs.Stream.Devices.Buffer.{Filled, Held, IsRollPaid, nothing_held, rolled, room_for}
 use Rattle.ac_automaton.specs.Stream.Devices.Moved.{HasGiven}
+use Rattle.ac_automaton.specs.Stream.Push.{TakesBytes, TakesFront}
 use Rattle.ac_automaton.specs.Stream.WholeWords.{asked_for}
 use Rattle.ac_automaton.specs.Stream.WholeWords.Search.{IsWordSearch, StandsInStream, word_progress, words_come, words_in}
 use Rattle.ac_automaton.specs.declared.automaton.Automaton.{Ghosts}
 use Rattle.ac_automaton.specs.declared.stream.devices.watched.Watched.{Watched}
 use Rattle.ac_automaton.specs.declared.stream.words.WordSearch.TheInside.{Inside}
 use Rattle.ac_automaton.specs.declared.words.WordPlace.{WordPlace}
-use Rattle.ac_automaton.proofs.stream.StreamSearchLemmas.{IsGrown, over-test, piece-behind}
+use Rattle.ac_automaton.proofs.stream.StreamPushLemmas.{HasTaken, front-taken, taken-grown}
+use Rattle.ac_automaton.proofs.stream.StreamSearchLemmas.{IsGrown, after_read, over-test, piece-behind}
 use Rattle.ac_automaton.proofs.stream.words.WordReadLemmas.{first_word_place, fresh-stands, read-on-stands, roll-stands, words-read}
 use Rattle.ac_automaton.proofs.stream.words.WordSearchLemmas.{IsRight, come_by, given-first}
 use Rattle.ac_automaton.proofs.stream.words.WordStandsLemmas.{words-course}
@@ -143,15 +145,22 @@ module _ {S : Type 0} (A : Ghosts S) (i : Inside S) (is : IsRight A i) where
   abbrev pub grown_to : List (List ℕ) → Held → Bool → Inside S
   grown_to all new over = record i { pieces = record i.pieces { items = all }; buffer = new; over = over }
 
-  -- it is right, and the read returned the piece
-  pub filled-by : {R : Type 0} {remaining : R → Option (List ℕ)} {before after : Watched R} (all : List (List ℕ))
-      {new : Held} (over : Bool) (piece : List ℕ) (errors : ℕ) → i.closed ≡ false → IsGrown i.buffer new piece
-      → all ≡ i.pieces.items ++ piece ∷ []
+  -- no piece is longer than the buffer
+  piece-short : {new : Held} {piece : List ℕ} → IsGrown i.buffer new piece → length piece ≤ room_of Words (A.built i.automaton)
+  piece-short {new} {piece} grown =
+      let within = grown.paid.within in
+      let room : new.room ≡ room_of Words (A.built i.automaton) =
+      grown.paid.room ∙ ap room_for (grown.keep ∙ is.1.holds.keep) in
+      let bytes = ap length grown.bytes in
+      let joined = length-append i.buffer.bytes piece in
+      omega (arith, bytes, joined, within, room)
+
+  -- it is right, and the search has come as far as before, but for the piece
+  grown-right : (all : List (List ℕ)) {new : Held} (over : Bool) (piece : List ℕ) → i.closed ≡ false
+      → IsGrown i.buffer new piece → all ≡ i.pieces.items ++ piece ∷ []
       → (over ≡ false → CanBeCounted (text ++ piece)) × (over ≡ true → ¬ CanBeCounted (text ++ piece))
-      → HasGiven remaining before after (piece ∷ []) errors
-      → IsRight A (grown_to all new over)
-      × HasRead remaining (come_by A i) (come_by A (grown_to all new over)) before after piece errors
-  filled-by {remaining = remaining} {before} {after} all {new} over piece errors open_ grown more test gave =
+      → IsRight A (grown_to all new over) × (come_by A (grown_to all new over) ≡ after_read (come_by A i) piece)
+  grown-right all {new} over piece open_ grown more test =
       let a = i.automaton in
       let b = A.built a in
       let given = (come_by A i).given in
@@ -159,11 +168,8 @@ module _ {S : Type 0} (A : Ghosts S) (i : Inside S) (is : IsRight A i) where
       let within = grown.paid.within in
       let holds = is.1.holds in
       let room : new.room ≡ room_of Words b = grown.paid.room ∙ ap room_for (grown.keep ∙ holds.keep) in
-      let bytes = ap length grown.bytes in
-      let joined = length-append i.buffer.bytes piece in
-      let short : length piece ≤ room_of Words b = omega (arith, bytes, joined, within, room) in
       let stands = read-on-stands A a i.pieces.items given i.closed i.from i.place i.buffer.moved i.sums piece is.1.stands open_
-      (omega (arith, long, within, room)) short in
+      (omega (arith, long, within, room)) (piece-short grown) in
       let t = word_progress b (i.pieces.items ++ piece ∷ []) given i.closed i.from i.place i.buffer.moved i.sums in
       let read = words-read i.pieces.items piece in
       let front : take i.given.value (words_in i.place.kind b (concat all)) ≡ given =
@@ -195,7 +201,21 @@ module _ {S : Type 0} (A : Ghosts S) (i : Inside S) (is : IsRight A i) where
         },
       ) in (
         subst (λ (z : StreamProgress Words). IsOnCourse z × IsWordSearch A a z i.place i.given.value new over) (sym view) right,
-        subst (λ z. HasRead remaining (come_by A i) z before after piece errors) (sym view)
+        view,
+      )
+
+  -- it is right, and the read returned the piece
+  pub filled-by : {R : Type 0} {remaining : R → Option (List ℕ)} {before after : Watched R} (all : List (List ℕ))
+      {new : Held} (over : Bool) (piece : List ℕ) (errors : ℕ) → i.closed ≡ false → IsGrown i.buffer new piece
+      → all ≡ i.pieces.items ++ piece ∷ []
+      → (over ≡ false → CanBeCounted (text ++ piece)) × (over ≡ true → ¬ CanBeCounted (text ++ piece))
+      → HasGiven remaining before after (piece ∷ []) errors
+      → IsRight A (grown_to all new over)
+      × HasRead remaining (come_by A i) (come_by A (grown_to all new over)) before after piece errors
+  filled-by {remaining = remaining} {before} {after} all {new} over piece errors open_ grown more test gave =
+      let right = grown-right all over piece open_ grown more test in (
+        right.0,
+        subst (λ z. HasRead remaining (come_by A i) z before after piece errors) (sym right.1)
             (record {
               built = refl;
               pieces = refl;
@@ -204,7 +224,7 @@ module _ {S : Type 0} (A : Ghosts S) (i : Inside S) (is : IsRight A i) where
               at = refl;
               last = refl;
               from = is.0.kept.0;
-              short = short;
+              short = piece-short grown;
               read = gave;
             }),
       )
@@ -251,3 +271,24 @@ module _ {S : Type 0} (A : Ghosts S) (i : Inside S) (is : IsRight A i) where
       (more ∙ ap (λ l. i.pieces.items ++ l ∷ []) last)
       (over-test i.from (length held) (length (text ++ gave.piece)) fits
       (ap (λ l. length l + i.from) holds ∙ held-long grown)) gave.read
+
+  -- ---- after a push
+
+  -- the first bytes of the piece were taken, up to the room in the buffer
+  pub push-gave : (all : List (List ℕ)) {new : Held} {piece : List ℕ} {n : ℕ} (held : List ℕ) → i.closed ≡ false
+      → 0 < length piece → IsSearched (come_by A i)
+      → length (read_by (come_by A i)) < (come_by A i).from + room_of Words (come_by A i).built
+      → HasTaken i.buffer new piece n → held ≡ new.bytes → all ≡ i.pieces.items ++ take n piece ∷ [] → i.from ≤ usize_max
+      → IsRight A (grown_to all new (nat_lt (usize_max - i.from) (length held)))
+      × TakesBytes (come_by A i) (come_by A (grown_to all new (nat_lt (usize_max - i.from) (length held)))) (take n piece)
+      × TakesFront (IsSearched (come_by A i)) (come_by A i)
+      (come_by A (grown_to all new (nat_lt (usize_max - i.from) (length held)))) piece n
+  push-gave all {new} {piece} {n} held open_ some searched room took holds more fits =
+      let grown = taken-grown took in
+      let over : Bool = nat_lt (usize_max - i.from) (length held) in
+      let right = grown-right all over (take n piece) open_ grown more
+      (over-test i.from (length held) (length (text ++ take n piece)) fits
+      (ap (λ l. length l + i.from) holds ∙ held-long grown)) in
+      let front = front-taken (come_by A (grown_to all new over)) is.0 some searched room took is.1.holds.bytes
+      (is.1.holds.paid.room ∙ ap room_for is.1.holds.keep) right.1 in
+      (right.0, front.0, front.1)

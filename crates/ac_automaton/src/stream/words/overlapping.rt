@@ -7,11 +7,12 @@
 //! An [`OverlappingWordSearch`] returns the next word of what was read, without a read, and makes one read, as an [`ItemSearch`]. Up to
 //! its [`cut`](OverlappingWordSearch::cut) everything is decided: a word still to be found ends there or later. It holds the bytes of
 //! each such word, and the byte before it.
-ghost use Rattle.std.specs.Prelude.{◌≡◌, ◌+◌, ◌<◌, [], false, true, length, IfErr, IfOk, drop};
+ghost use Rattle.std.specs.Prelude.{◌≡◌, ◌≢◌, ◌↔◌, ◌+◌, ◌<◌, [], false, true, length, IfErr, IfOk, IsTrue, drop};
 ghost use Rattle.std.specs.Borrow.{sem};
 ghost use Rattle.ac_input.specs.declared.search.Anchored.TheVariants.{No};
-ghost use Rattle.ac_automaton.specs.Stream.{AllWords, CanStream, CountsNothing, FindsHeld, IsOnCourse, IsOutOfMemory, IsRolled, IsSearched, ReadsMore, StreamCounts, closed_by, cut_of, fresh_progress, read_by, room_of};
+ghost use Rattle.ac_automaton.specs.Stream.{AllWords, CanBeCounted, CanStream, CountsNothing, FindsHeld, GoesOn, IsOnCourse, IsOutOfMemory, IsRolled, IsSearched, ReadsMore, StreamCounts, closed_by, cut_of, fresh_progress, read_by, room_of};
 ghost use Rattle.ac_automaton.specs.Stream.Iter.{RestsIfRefused};
+ghost use Rattle.ac_automaton.specs.Stream.Push.{Pushes};
 ghost use Rattle.ac_automaton.specs.Stream.WholeWords.{AnswersNewAllWords, FindsStreamAllWords};
 ghost use Rattle.ac_automaton.specs.declared.stream.StreamKinds.TheVariants.{OnlyStandard};
 
@@ -107,7 +108,7 @@ impl<A: Search + Drop> OverlappingWordSearch<A> {
 }
 
 impl<A: Search> OverlappingWordSearch<A> {
-    /// The held bytes: the last ones of those that were read. A word that was returned is among them until the next read.
+    /// The held bytes: the last ones of those that were read or pushed. A word that was returned is among them until the next push.
     pub fn held(&self) -> &[u8]
         ensures held { result.now ≡ drop self.now.from (read_by self.now) }
         ensures kept { IsOnCourse self.now }
@@ -131,8 +132,30 @@ impl<A: Search> OverlappingWordSearch<A> {
         self.place.at()
     }
 
-    /// The next word of the bytes that were read, once the byte after it is known; counts what it does. None means that all of these
-    /// were returned. After more bytes were read than there are places it is always none.
+    /// Whether there are more bytes than places: then no word is left.
+    pub fn is_over(&self) -> bool
+        ensures over { result ≡ true → ¬ CanBeCounted (read_by self.now) }
+        ensures open { result ≡ false → CanBeCounted (read_by self.now) }
+    {
+        self.over
+    }
+
+    /// The next word of the bytes that were read or pushed, once the byte after it is known. None means that all of these were returned:
+    /// push more bytes, or finish.
+    ///
+    /// The places of a word are counted from the first byte of the stream. No byte is read again, and each costs at most two looks at
+    /// states.
+    ///
+    /// After more bytes than there are places it is always none.
+    pub fn next(&mut self) -> Option<Match>
+        ensures finds { FindsHeld self.old result self.new }
+        ensures kept { IsOnCourse self.new }
+    {
+        let mut steps = Steps::new();
+        self.next_counted(&mut steps)
+    }
+
+    /// The same; counts what it does.
     pub fn next_counted(&mut self, steps: &mut Steps) -> Option<Match>
         ensures finds { FindsHeld self.old result self.new }
         ensures counts { StreamCounts self.old self.new steps.old steps.new }
@@ -154,7 +177,29 @@ impl<A: Search> OverlappingWordSearch<A> {
         found
     }
 
-    /// Tells the search that nothing more comes, so that the words that wait are decided.
+    /// How many patterns the automaton has.
+    pub fn patterns_len(&self) -> usize
+        ensures { result ≡ length self.now.built.dictionary.patterns }
+    {
+        self.automaton.patterns_len()
+    }
+
+    /// Whether all bytes that were pushed were searched. If not, a push takes none.
+    pub fn is_searched(&self) -> bool
+        ensures { IsTrue result ↔ IsSearched self.now }
+    {
+        self.place.at() - self.from == self.buffer.held().len()
+    }
+
+    /// Whether it was told that nothing more comes.
+    pub fn is_closed(&self) -> bool
+        ensures closed { result ≡ self.now.closed }
+        ensures kept { IsOnCourse self.now }
+    {
+        self.closed
+    }
+
+    /// Tells the search that nothing more comes, so that the words that wait are decided: [`OverlappingWordSearch::next`] returns all that are left.
     pub fn finish(&mut self)
         ensures closed { self.new ≡ closed_by self.old }
         ensures kept { IsOnCourse self.new }
@@ -175,6 +220,60 @@ impl<A: Search> OverlappingWordSearch<A> {
             self.buffer.roll(before - self.from, steps);
             self.from = before;
         }
+    }
+
+    /// Takes the first bytes of a piece, as many as there is room for, after all that was pushed before. Returns how many: the piece
+    /// isn't needed any more. None are taken while [`OverlappingWordSearch::next`] may find a word in what was pushed before; else at least one
+    /// is, if there is one.
+    ///
+    /// There is room for `max(65536, 8 * (max(1, longest) + 1))` bytes, so a piece of up to seven eighths of that is mostly taken whole.
+    /// It copies each byte once, allocates nothing, and moves a seventh of the bytes at most within its buffer. The bytes that no word still to be found needs
+    /// are no longer held then.
+    ///
+    /// It requires that the search wasn't finished: see [`OverlappingWordSearch::is_closed`]. Returns the error `Position` if there are more bytes
+    /// than places, and each time after that.
+    pub fn push(&mut self, piece: &[u8]) -> Result<usize, StreamError>
+        requires unclosed { self.old.closed ≡ false }
+        ensures pushes { Pushes (IsSearched self.old) self.old self.new piece.now result }
+        ensures kept { IsOnCourse self.new }
+    {
+        let mut steps = Steps::new();
+        self.push_counted(piece, &mut steps)
+    }
+
+    /// The same; counts the bytes that it moves.
+    pub fn push_counted(&mut self, piece: &[u8], steps: &mut Steps) -> Result<usize, StreamError>
+        requires unclosed { self.old.closed ≡ false }
+        ensures pushes { Pushes (IsSearched self.old) self.old self.new piece.now result }
+        ensures goes { GoesOn self.old self.new steps.old steps.new }
+    {
+        if self.over {
+            return Err(StreamError::Position);
+        }
+        if piece.is_empty() || !self.is_searched() {
+            return Ok(0);
+        }
+        self.make_room(steps);
+        self.append(piece)
+    }
+
+    /// Takes the first bytes of a piece; there is room.
+    fn append(&mut self, piece: &[u8]) -> Result<usize, StreamError>
+        requires some { piece.now ≢ [] }
+        requires unclosed { self.old.closed ≡ false }
+        requires searched { IsSearched self.old }
+        requires room { length (read_by self.old) < self.old.from + room_of AllWords self.old.built }
+        ensures pushes { Pushes (IsSearched self.old) self.old self.new piece.now result }
+        ensures steps { CountsNothing self.old self.new }
+        ensures kept { IsOnCourse self.new }
+    {
+        let n = self.buffer.take(piece);
+        self.pieces = self.pieces.and(&piece[..n]);
+        self.over = self.buffer.held().len() > usize::MAX - self.from;
+        if self.over {
+            return Err(StreamError::Position);
+        }
+        Ok(n)
     }
 
     /// One read, into all the free room; if there is none, what has to be held is moved to the front first. Everything that was
@@ -249,11 +348,11 @@ impl<A: Search> ItemSearch for OverlappingWordSearch<A> {
     }
 
     fn is_past_places(&self) -> bool {
-        self.over
+        self.is_over()
     }
 
     fn has_closed(&self) -> bool {
-        self.closed
+        self.is_closed()
     }
 
     fn read_on<R: Read>(

@@ -16,8 +16,8 @@
 //! - [`StreamReplacer`] is passed its pieces too, and hands out the text with each match replaced. From
 //!   [`try_stream_replacer`](crate::automaton::Automaton::try_stream_replacer).
 //! - [`StreamFindWordIter`] returns the whole words of a stream under a kind, by [`WordSearch`]: a word waits for the byte after it. From
-//!   [`try_stream_find_word_iter`](crate::search::Search::try_stream_find_word_iter).
-//! - [`StreamFindOverlappingWordIter`] returns all whole words of a stream, by [`OverlappingWordSearch`]. From
+//!   [`try_stream_find_word_iter`](crate::search::Search::try_stream_find_word_iter). A [`WordSearch`] may also be passed its pieces.
+//! - [`StreamFindOverlappingWordIter`] returns all whole words of a stream, by [`OverlappingWordSearch`], which takes pieces as well. From
 //!   [`try_stream_find_overlapping_word_iter`](crate::search::Search::try_stream_find_overlapping_word_iter).
 //! - [`mask`] replaces each byte that an occurrence covers by one byte: with a reader and a writer, or pushed.
 //!

@@ -27,7 +27,9 @@ pub use ac_automaton::output::Output;
 pub use ac_automaton::overlapping::OverlappingState;
 pub use ac_automaton::stream::mask::StreamMask;
 pub use ac_automaton::stream::sink::Sink;
-pub use ac_automaton::stream::{StreamKinds, StreamReplacer, StreamSearch};
+pub use ac_automaton::stream::{
+    OverlappingWordSearch, StreamKinds, StreamReplacer, StreamSearch, WordSearch,
+};
 pub use ac_automaton::watched::{Watched, write_whole};
 pub use ac_input::alphabet::{
     ByteClassElementRanges, ByteClassElements, ByteClassIter, ByteClassSet, ByteClasses, ByteSet,

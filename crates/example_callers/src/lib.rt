@@ -4,8 +4,8 @@
 //! definitions, which follows from that part's contract alone: so a reader sees how a call is used, and what is known after it. Those
 //! without an `ensures` show the calls as a user of the Rust crate would write them: the check proves that each is safe and returns.
 //!
-//! [`build`], [`find`], [`iterate`], [`overlap`], [`replace`], [`masks`], [`streams`], [`pushed`] and [`pushed_text`] call an
-//! `AhoCorasick`. The modules `generic_find` and so on call any automaton, by the traits.
+//! [`build`], [`find`], [`iterate`], [`overlap`], [`replace`], [`masks`], [`streams`], [`pushed`], [`pushed_text`] and
+//! [`pushed_words`] call an `AhoCorasick`. The modules `generic_find` and so on call any automaton, by the traits.
 #![tactic(auto)]
 
 pub mod automata;
@@ -25,6 +25,7 @@ pub mod owner;
 pub mod packed;
 pub mod pushed;
 pub mod pushed_text;
+pub mod pushed_words;
 pub mod replace;
 pub mod states;
 pub mod streams;

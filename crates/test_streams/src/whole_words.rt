@@ -1,13 +1,14 @@
-//! Whole words of streams, cut at every place: found under each kind, listed, replaced and masked; worked rows, and drawn texts compared
-//! with the plain program.
+//! Whole words of streams, cut at every place: found under each kind, listed, both from a reader and pushed, replaced and masked; worked
+//! rows, and drawn texts compared with the plain program.
 use crate::asserts::{equal, same};
 use crate::devices::{AMPLE, Given, Outcome, Sink, Source, Tally};
 use crate::streams::next_pick;
 use ac_automaton::error::MatchErrorKind;
-use ac_automaton::stream::{ItemSearch, StreamIter};
+use ac_automaton::stream::{ItemSearch, OverlappingWordSearch, StreamIter, WordSearch};
 use ac_automaton::watched::Watched;
 use ac_input::search::MatchKind;
 use ac_input::search::MatchKind::{LeftmostFirst, LeftmostLongest, Standard};
+use ac_input::steps::Steps;
 use ac_noncontiguous::Search;
 use std::alloc::Global;
 use std::io::{ErrorKind, Read};
@@ -17,7 +18,7 @@ use test_rows::answers::Asks::{List, Walk};
 use test_rows::answers::{masked_by_plain, words_by_plain};
 use test_rows::drawn::{EACH_OF_LETTERS, KINDS, from_there, letters_of, patterns_of};
 use test_rows::engines::Letters::Cased;
-use test_rows::engines::{Asked, Case, ENGINES, FEW, FIRST, Letters, Pick, Trial, each};
+use test_rows::engines::{Asked, Case, ENGINES, FEW, FIRST, Letters, Pick, Trial, each, pick};
 
 const MASK: u8 = b'*';
 
@@ -46,6 +47,18 @@ fn are_given<T: Abort, S: ItemSearch + Drop, R: Read>(
     equal(rt, &next_pick(words, false), &Ok(None), shows);
 }
 
+/// Takes the words that are decided.
+fn take_decided<S: ItemSearch>(search: &mut S, found: &mut Vec<Pick>) -> Result<(), Fail> {
+    let mut steps = Steps::new();
+    for _ in 0..100 {
+        match pick(search.next_held(&mut steps)) {
+            Some(word) => found.push(word)?,
+            None => return Ok(()),
+        }
+    }
+    Err(Fail::from("words without an end"))
+}
+
 impl Words<'_> {
     /// By at most so many bytes a read.
     fn found<T: Abort, A: Search>(&self, on: &Trial<'_, T, A>, most: usize) -> Result<(), Fail> {
@@ -67,6 +80,53 @@ impl Words<'_> {
             .automaton
             .try_stream_find_overlapping_word_iter(on.alloc, &mut reader)?;
         are_given(on.rt, &mut words, self.lists, self.shows);
+        Ok(())
+    }
+
+    /// By pieces of so many bytes that are pushed. Where a buffer is full, a push takes the rest of a piece.
+    fn pushed<T: Abort, A: Search>(&self, on: &Trial<'_, T, A>, most: usize) -> Result<(), Fail> {
+        let mut search = WordSearch::new(on.automaton, self.kind, on.alloc)?;
+        let mut found = Vec::new(on.alloc);
+        for piece in self.text.chunks(most.max(1)) {
+            let mut rest = piece;
+            for _ in 0..2 {
+                if search.is_closed() {
+                    return Err(Fail::from("the search is finished"));
+                }
+                let n = search.push(rest)?;
+                rest = rest.get(n..).ok_or("the rest of a piece")?;
+                take_decided(&mut search, &mut found)?;
+            }
+            equal(on.rt, &rest.len(), &0, self.shows);
+        }
+        search.finish();
+        take_decided(&mut search, &mut found)?;
+        same(on.rt, &found, self.gives, self.shows);
+        Ok(())
+    }
+
+    fn pushed_listed<T: Abort, A: Search>(
+        &self,
+        on: &Trial<'_, T, A>,
+        most: usize,
+    ) -> Result<(), Fail> {
+        let mut search = OverlappingWordSearch::new(on.automaton, on.alloc)?;
+        let mut found = Vec::new(on.alloc);
+        for piece in self.text.chunks(most.max(1)) {
+            let mut rest = piece;
+            for _ in 0..2 {
+                if search.is_closed() {
+                    return Err(Fail::from("the search is finished"));
+                }
+                let n = search.push(rest)?;
+                rest = rest.get(n..).ok_or("the rest of a piece")?;
+                take_decided(&mut search, &mut found)?;
+            }
+            equal(on.rt, &rest.len(), &0, self.shows);
+        }
+        search.finish();
+        take_decided(&mut search, &mut found)?;
+        same(on.rt, &found, self.lists, self.shows);
         Ok(())
     }
 
@@ -103,6 +163,8 @@ impl<T: Abort> Case<T> for Words<'_> {
         for most in 1..=self.text.len() {
             self.found(on, most)?;
             self.listed(on, most)?;
+            self.pushed(on, most)?;
+            self.pushed_listed(on, most)?;
             self.masked(on, most)?;
         }
         Ok(())
@@ -240,6 +302,8 @@ impl<T: Abort> Case<T> for Long {
         for most in [5, 4099, 65_536] {
             words.found(on, most)?;
             words.listed(on, most)?;
+            words.pushed(on, most)?;
+            words.pushed_listed(on, most)?;
             words.masked(on, most)?;
         }
         Ok(())

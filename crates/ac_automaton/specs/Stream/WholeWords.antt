@@ -1,4 +1,5 @@
 -- Whole words in a stream: whether they can be searched for, and what is written of them.
+pub mod Held
 pub mod Overlapping
 pub mod Search
 use Rattle.std.specs.Prelude.{◌≡◌, ◌⊎◌, ℕ, ◌≤◌, List, ◌++◌, length, take, Option, Result, Ok, Err, IfErr}

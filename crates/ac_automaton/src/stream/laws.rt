@@ -11,8 +11,9 @@ pub fn death_decides()
     ensures { DeathDecides }
 {}
 
-/// It doesn't matter how a text is cut into pieces. Two searches of a stream by equal automata that were given the same text, whether it
-/// was read or pushed, return the same matches, once all is decided: under the standard kind always, else when they are finished.
+/// It doesn't matter how a text is cut into pieces. Two searches of a stream for the same, by equal automata that were given the same
+/// text, whether it was read or pushed, return the same once all is decided: matches under the standard kind always, and else when the
+/// searches are finished. So it is for occurrences, for whole words under a kind, and for all whole words.
 pub fn pieces_change_nothing()
     ensures { PiecesChangeNothing }
 {}

@@ -5,51 +5,62 @@
 //! one byte more than the longest pattern has was read from its start on, or nothing of what was read is live. After the word the
 //! automaton reads again what it has read past it.
 //!
-//! A [`WordSearch`] returns the next word of what was read, without a read, and makes one read, as an [`ItemSearch`]. Up to its
-//! [`cut`](WordSearch::cut) everything is decided: a word still to be found begins there or later. The byte before a word counts, too,
-//! so one byte more is held than in a search for matches.
-ghost use Rattle.std.specs.Prelude.{◌≡◌, ◌≢◌, ◌↔◌, ◌+◌, ◌<◌, [], false, true, length, IfErr, IfOk, IsTrue, drop};
+//! A [`WordSearch`] returns the next word of what was read, without a read ([`WordSearch::next`]), takes a piece that is pushed
+//! ([`WordSearch::push`]), and makes one read, as an [`ItemSearch`]. Up to its [`cut`](WordSearch::cut) everything is decided: a word
+//! still to be found begins there or later. The byte before a word counts, too, so one byte more is held than in a search for matches.
+ghost use Rattle.std.specs.Prelude.{◌≡◌, ◌↔◌, ◌-◌, [], false, true, length, IfErr, IfOk, IsTrue, drop};
 ghost use Rattle.std.specs.Borrow.{sem};
 ghost use Rattle.ac_input.specs.declared.search.Anchored.TheVariants.{No};
-ghost use Rattle.ac_automaton.specs.Stream.{CanBeCounted, CanStream, CountsNothing, FindsHeld, GoesOn, IsOnCourse, IsOutOfMemory, IsRolled, IsSearched, ReadsMore, StreamCounts, Words, closed_by, cut_of, fresh_progress, read_by, room_of};
+ghost use Rattle.ac_automaton.specs.Stream.{CanBeCounted, CanStream, FindsHeld, GoesOn, IsOnCourse, IsOutOfMemory, IsSearched, ReadsMore, StreamCounts, closed_by, cut_of, fresh_progress, read_by};
 ghost use Rattle.ac_automaton.specs.Stream.Iter.{RestsIfRefused};
 ghost use Rattle.ac_automaton.specs.Stream.Push.{Pushes};
 ghost use Rattle.ac_automaton.specs.Stream.WholeWords.{AnswersNewWords, FindsStreamWords, asked_for};
 ghost use Rattle.ac_automaton.specs.declared.stream.StreamKinds.TheVariants.{OnlyStandard};
 
+mod held;
 pub mod overlapping;
 
 use crate::error::StreamError;
 use crate::search::Search;
-use crate::stream::devices::buffer::Buffer;
 use crate::stream::devices::watched::Watched;
 use crate::stream::overlapping::configured;
-use crate::stream::search::given_then;
 use crate::stream::{ItemSearch, StreamIter};
-use crate::words::{Window, WordPlace, begin_if_idle, next_word};
-use ac_input::history::{Count, Pieces};
+use crate::words::{WordPlace, begin_if_idle, next_word};
 use ac_input::primitives::StateID;
 use ac_input::search::{Match, MatchKind};
 use ac_input::steps::Steps;
+use held::HeldText;
 use std::alloc::Global;
 use std::io::Read;
 use std::marker::Model;
 
-/// How far a search of a stream for whole words has come. It owns its automaton, or borrows it as a reference.
+/// A search of a stream for the whole words under a kind, whose pieces are pushed when they come. It owns its automaton, or borrows it
+/// as a reference.
+///
+/// ```text
+/// let mut search = WordSearch::new(&ac, MatchKind::LeftmostLongest, alloc)?;
+/// while let Some(piece) = receive() {
+///     let mut rest = piece;
+///     while !rest.is_empty() {
+///         let n = search.push(rest)?;
+///         rest = &rest[n..];
+///         while let Some(word) = search.next() {
+///             // places are counted from the first byte of the stream
+///         }
+///     }
+/// }
+/// search.finish();
+/// while let Some(word) = search.next() {
+///     // those that waited for what might follow
+/// }
+/// ```
+///
+/// It is on its course wherever it stands: the words that it has returned are the first ones of the whole text, whatever still comes.
 #[derive(Drop)]
 pub struct WordSearch<A: Search> {
     automaton: A,
-    buffer: Buffer,
+    text: HeldText,
     place: WordPlace,
-    /// The place of the first byte that is held.
-    from: usize,
-    /// Whether it was told that nothing more comes.
-    closed: bool,
-    /// Whether there are more bytes than places.
-    over: bool,
-    given: Count,
-    pieces: Pieces,
-    sums: Steps,
 }
 
 impl<A: Search> Model for WordSearch<A> {
@@ -58,13 +69,11 @@ impl<A: Search> Model for WordSearch<A> {
 
     ghost Value = { StreamProgress Words };
 
-    ghost view = { λ i. words_come (A.built i.automaton) i.pieces.items i.given.value i.closed i.from i.place i.buffer i.sums };
+    ghost view = { λ i. words_come (A.built i.automaton) i.text i.place };
 
     ghost invariant = { λ i.
-        IsOnCourse (words_come (A.built i.automaton) i.pieces.items i.given.value i.closed i.from i.place i.buffer i.sums)
-        × IsWordSearch A.Automaton i.automaton
-        (words_come (A.built i.automaton) i.pieces.items i.given.value i.closed i.from i.place i.buffer i.sums)
-        i.place i.given.value i.buffer i.over };
+        IsOnCourse (words_come (A.built i.automaton) i.text i.place)
+        × IsWordSearch A.Automaton i.automaton (words_come (A.built i.automaton) i.text i.place) i.text i.place };
 }
 
 impl<A: Search + Drop> WordSearch<A> {
@@ -82,20 +91,11 @@ impl<A: Search + Drop> WordSearch<A> {
         ensures kept { IfOk result IsOnCourse }
         ensures error { IfErr result IsOutOfMemory }
     {
-        let Some(keep) = automaton.max_pattern_len().max(1).checked_add(1) else {
-            return Err(StreamError::Memory);
-        };
-        let buffer = Buffer::new(alloc, keep)?;
+        let text = HeldText::new(alloc, automaton.max_pattern_len())?;
         Ok(WordSearch {
             automaton,
-            buffer,
+            text,
             place: WordPlace::new(kind, start),
-            from: 0,
-            closed: false,
-            over: false,
-            given: Count::zero(),
-            pieces: Pieces::empty(),
-            sums: Steps::new(),
         })
     }
 
@@ -116,7 +116,7 @@ impl<A: Search> WordSearch<A> {
         ensures held { result.now ≡ drop self.now.from (read_by self.now) }
         ensures kept { IsOnCourse self.now }
     {
-        self.buffer.held()
+        self.text.held()
     }
 
     /// The place of the first byte that is held.
@@ -124,7 +124,7 @@ impl<A: Search> WordSearch<A> {
         ensures from { result ≡ self.now.from }
         ensures kept { IsOnCourse self.now }
     {
-        self.from
+        self.text.from()
     }
 
     /// The place up to which everything is decided: every remaining word begins there or later.
@@ -140,7 +140,7 @@ impl<A: Search> WordSearch<A> {
         ensures over { result ≡ true → ¬ CanBeCounted (read_by self.now) }
         ensures open { result ≡ false → CanBeCounted (read_by self.now) }
     {
-        self.over
+        self.text.is_over()
     }
 
     /// The next word of the bytes that were read or pushed, once no byte that follows can change it. None means that all of these
@@ -164,20 +164,19 @@ impl<A: Search> WordSearch<A> {
         ensures counts { StreamCounts self.old self.new steps.old steps.new }
         ensures kept { IsOnCourse self.new }
     {
-        if self.over {
+        if self.text.is_over() {
             return None;
         }
-        let window = Window {
-            bytes: self.buffer.held(),
-            from: self.from,
-            closed: self.closed,
-        };
         let mut taken = Steps::new();
-        let found = next_word(&self.automaton, window, &mut self.place, &mut taken);
+        let found = next_word(
+            &self.automaton,
+            self.text.window(),
+            &mut self.place,
+            &mut taken,
+        );
         begin_if_idle(&self.automaton, &mut self.place);
+        self.text.count(&found, &taken);
         steps.add(&taken);
-        self.sums.add(&taken);
-        self.given = given_then(&self.given, &found);
         found
     }
 
@@ -192,7 +191,7 @@ impl<A: Search> WordSearch<A> {
     pub fn is_searched(&self) -> bool
         ensures { IsTrue result ↔ IsSearched self.now }
     {
-        self.place.at() - self.from == self.buffer.held().len()
+        self.text.ends_at(self.place.at())
     }
 
     /// Whether it was told that nothing more comes.
@@ -200,7 +199,7 @@ impl<A: Search> WordSearch<A> {
         ensures closed { result ≡ self.now.closed }
         ensures kept { IsOnCourse self.now }
     {
-        self.closed
+        self.text.is_closed()
     }
 
     /// Tells the search that nothing more comes, so that the words that wait are decided: [`WordSearch::next`] returns all that are left.
@@ -208,22 +207,14 @@ impl<A: Search> WordSearch<A> {
         ensures closed { self.new ≡ closed_by self.old }
         ensures kept { IsOnCourse self.new }
     {
-        self.closed = true;
+        self.text.close();
     }
 
-    /// Moves the bytes after the cut, and the one before it, to the front of the buffer, if no room is left.
-    fn make_room(&mut self, steps: &mut Steps)
-        requires { IsSearched self.old }
-        ensures room { length (read_by self.new) < self.new.from + room_of Words self.new.built }
-        ensures same { IsRolled self.old self.new }
-        ensures counts { StreamCounts self.old self.new steps.old steps.new }
-        ensures kept { IsOnCourse self.new }
+    /// The place of the first byte that may still be needed: the one before the cut.
+    fn needed(&self) -> usize
+        ensures { result ≡ cut_of self.now - 1 }
     {
-        if self.buffer.is_full() {
-            let before = self.cut().saturating_sub(1);
-            self.buffer.roll(before - self.from, steps);
-            self.from = before;
-        }
+        self.cut().saturating_sub(1)
     }
 
     /// Takes the first bytes of a piece, as many as there is room for, after all that was pushed before. Returns how many: the piece
@@ -231,8 +222,8 @@ impl<A: Search> WordSearch<A> {
     /// is, if there is one.
     ///
     /// There is room for `max(65536, 8 * (max(1, longest) + 1))` bytes, so a piece of up to seven eighths of that is mostly taken whole.
-    /// It copies each byte once, allocates nothing, and moves a seventh of the bytes at most within its buffer. The bytes before the cut, but the last of them,
-    /// are no longer held then.
+    /// It copies each byte once, allocates nothing, and moves a seventh of the bytes at most within its buffer. Of the bytes before the
+    /// cut only the last may still be held then.
     ///
     /// It requires that the search wasn't finished: see [`WordSearch::is_closed`]. Returns the error `Position` if there are more bytes
     /// than places, and each time after that.
@@ -251,33 +242,14 @@ impl<A: Search> WordSearch<A> {
         ensures pushes { Pushes (IsSearched self.old) self.old self.new piece.now result }
         ensures goes { GoesOn self.old self.new steps.old steps.new }
     {
-        if self.over {
+        if self.text.is_over() {
             return Err(StreamError::Position);
         }
         if piece.is_empty() || !self.is_searched() {
             return Ok(0);
         }
-        self.make_room(steps);
-        self.append(piece)
-    }
-
-    /// Takes the first bytes of a piece; there is room.
-    fn append(&mut self, piece: &[u8]) -> Result<usize, StreamError>
-        requires some { piece.now ≢ [] }
-        requires unclosed { self.old.closed ≡ false }
-        requires searched { IsSearched self.old }
-        requires room { length (read_by self.old) < self.old.from + room_of Words self.old.built }
-        ensures pushes { Pushes (IsSearched self.old) self.old self.new piece.now result }
-        ensures steps { CountsNothing self.old self.new }
-        ensures kept { IsOnCourse self.new }
-    {
-        let n = self.buffer.take(piece);
-        self.pieces = self.pieces.and(&piece[..n]);
-        self.over = self.buffer.held().len() > usize::MAX - self.from;
-        if self.over {
-            return Err(StreamError::Position);
-        }
-        Ok(n)
+        let needed = self.needed();
+        self.text.push(piece, needed, steps)
     }
 
     /// One read, into all the free room; if there is none, what has to be held is moved to the front first. Everything that was
@@ -297,34 +269,8 @@ impl<A: Search> WordSearch<A> {
         ensures counts { StreamCounts self.old self.new steps.old steps.new }
         ensures kept { IsOnCourse self.new }
     {
-        self.make_room(steps);
-        self.fill(reader)
-    }
-
-    /// One read; there is room.
-    fn fill<R: Read>(&mut self, reader: &mut Watched<R>) -> Result<usize, StreamError>
-        requires open { reader.old.ended ≡ false }
-        requires unclosed { self.old.closed ≡ false }
-        requires room { length (read_by self.old) < self.old.from + room_of Words self.old.built }
-        ensures read { ReadsMore R.remaining self.old self.new reader.old reader.new result }
-        ensures steps { CountsNothing self.old self.new }
-        ensures from { self.new.from ≡ self.old.from }
-        ensures kept { IsOnCourse self.new }
-    {
-        let n = match self.buffer.fill(reader) {
-            Ok(n) => n,
-            Err(error) => {
-                self.pieces = self.pieces.and(&[]);
-                return Err(StreamError::Read(error));
-            }
-        };
-        let held = self.buffer.held();
-        self.pieces = self.pieces.and(&held[held.len() - n..]);
-        self.over = held.len() > usize::MAX - self.from;
-        if self.over {
-            return Err(StreamError::Position);
-        }
-        Ok(n)
+        let needed = self.needed();
+        self.text.read_more(reader, needed, steps)
     }
 }
 
@@ -340,7 +286,8 @@ impl<A: Search> ItemSearch for WordSearch<A> {
     }
 
     fn between(&self, start: usize, end: usize) -> &[u8] {
-        &self.buffer.held()[start - self.from..end - self.from]
+        let from = self.text.from();
+        &self.text.held()[start - from..end - from]
     }
 
     fn cut(&self) -> usize {
@@ -348,7 +295,7 @@ impl<A: Search> ItemSearch for WordSearch<A> {
     }
 
     fn end(&self) -> usize {
-        self.from + self.buffer.held().len()
+        self.text.end()
     }
 
     fn is_past_places(&self) -> bool {

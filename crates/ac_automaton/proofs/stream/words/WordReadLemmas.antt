@@ -1,9 +1,8 @@
 -- A search of a stream for whole words before its first read, after a read, and after its bytes were moved.
-use Rattle.std.proofs.Common.{◌≡◌, inl, ℕ, ◌+◌, ◌-◌, ◌*◌, ◌<◌, ◌≤◌, Bool, true, false, IsTrue, List, [], ◌∷◌, ◌++◌, length, Option, Some, None, slice_range, sym, ap, subst, refl, ◌∙◌, arith, append-nil, append_assoc, length-append}
+use Rattle.std.proofs.Common.{◌≡◌, inl, ℕ, ◌+◌, ◌-◌, ◌*◌, ◌<◌, ◌≤◌, Bool, true, false, IsTrue, List, [], ◌∷◌, ◌++◌, length, Option, Some, None, slice_range, sym, ap, subst, refl, ◌∙◌, arith, append_assoc, length-append}
 use Rattle.std.specs.List.{concat}
 use Rattle.std.proofs.lemmas.Bool.{false≢true}
 use Rattle.std.proofs.lemmas.List.Elements.{All-push}
-use Rattle.std.proofs.lemmas.List.Folds.{concat-append}
 use Rattle.ac_input.specs.Number.{StateID}
 use Rattle.ac_input.specs.declared.search.Anchored.TheVariants.{No}
 use Rattle.ac_input.specs.declared.search.MatchKind.{MatchKind}
@@ -21,6 +20,7 @@ use Rattle.ac_automaton.specs.Words.{StandsForWords, WordsBefore, text_from, wor
 use Rattle.ac_automaton.specs.declared.automaton.Automaton.{Ghosts}
 use Rattle.ac_automaton.specs.declared.words.WordPlace.{WordPlace}
 use Rattle.ac_automaton.proofs.stream.words.WordStandsLemmas.{anew-paid, anew-stands}
+use Rattle.ac_automaton.proofs.stream.words.held.HeldTextLemmas.{text-read}
 use Rattle.ac_automaton.proofs.words.FinalLemmas.{front-word, word-on}
 use Rattle.ac_automaton.proofs.words.WordPlaceLemmas.{least-like}
 
@@ -80,10 +80,6 @@ longer-stands m Reaches x more {p} is =
       near = is.near;
     }
 
--- all bytes after a read
-pub words-read : (pieces : List (List ℕ)) (piece : List ℕ) → concat (pieces ++ piece ∷ []) ≡ concat pieces ++ piece
-words-read pieces piece = concat-append pieces (piece ∷ []) ∙ ap (λ l. concat pieces ++ l) (append-nil piece)
-
 -- a search stands right after a read
 pub read-on-stands : {S : Type 0} (A : Ghosts S) (a : S) (pieces : List (List ℕ)) (given : List Occurrence) (closed : Bool)
     (from : ℕ) (p : WordPlace) (moved : ℕ) (sums : Steps) (piece : List ℕ)
@@ -95,7 +91,7 @@ read-on-stands A a pieces given closed from p moved sums piece is open_ fits sho
     let m = b.dictionary in
     let x = concat pieces in
     let y = concat (pieces ++ piece ∷ []) in
-    let more : y ≡ x ++ piece = words-read pieces piece in
+    let more : y ≡ x ++ piece = text-read pieces piece in
     let longer = ap length more in
     let both = length-append x piece in
     let place = is.stands.place in
@@ -134,6 +130,36 @@ read-on-stands A a pieces given closed from p moved sums piece is open_ fits sho
       scanned = is.scanned;
       moved = omega (arith, is.moved, longer, both);
     }
+
+-- ---- when no more comes
+
+-- a search stands right that is told so
+pub close-stands : {S : Type 0} (A : Ghosts S) (a : S) (pieces : List (List ℕ)) (given : List Occurrence) (closed : Bool)
+    (from : ℕ) (p : WordPlace) (moved : ℕ) (sums : Steps)
+    → StandsInStream A a (word_progress (A.built a) pieces given closed from p moved sums) p
+    → StandsInStream A a (word_progress (A.built a) pieces given true from p moved sums) p
+close-stands A a pieces given closed from p moved sums is = record {
+  standard = is.standard;
+  filled = is.filled;
+  stands = is.stands;
+  open_ = is.open_;
+  goes = λ more follows. is.goes more (λ _. follows refl);
+  later = λ more follows. is.later more (λ _. follows refl);
+  ended = is.ended;
+  room = is.room;
+  short = is.short;
+  looks = record {
+    before = is.looks.before;
+    since = is.looks.since;
+    all = is.looks.all;
+    twice = is.looks.twice;
+    once = is.looks.once;
+    paid = is.looks.paid;
+    some = is.looks.some;
+  };
+  scanned = is.scanned;
+  moved = is.moved;
+}
 
 -- ---- after its bytes were moved
 

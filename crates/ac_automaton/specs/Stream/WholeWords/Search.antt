@@ -1,6 +1,5 @@
 -- What a search of a stream for whole words keeps between its calls.
-use Rattle.std.specs.Prelude.{◌≡◌, ℕ, ◌+◌, ◌*◌, ◌≤◌, max, Bool, true, false, IsTrue, List, [], ◌++◌, length, take, drop, None}
-use Rattle.std.specs.List.{concat}
+use Rattle.std.specs.Prelude.{◌≡◌, ℕ, ◌+◌, ◌*◌, ◌≤◌, max, Bool, true, false, IsTrue, List, [], ◌++◌, length, take, None}
 use Rattle.ac_input.specs.declared.search.Anchored.TheVariants.{No}
 use Rattle.ac_input.specs.declared.search.MatchKind.{MatchKind}
 use Rattle.ac_input.specs.declared.search.MatchKind.TheVariants.{Standard}
@@ -12,10 +11,10 @@ use Rattle.ac_input.specs.Word.{OccursWhole, whole_occurrences}
 use Rattle.ac_input.specs.Work.{longest, shortest}
 use Rattle.ac_automaton.specs.Automaton.{Built}
 use Rattle.ac_automaton.specs.InMemory.Overlapping.{IsPaidAt}
-use Rattle.ac_automaton.specs.Stream.{CanBeCounted, Sequence, StreamProgress, Words, again_for, end_of, items_of, read_by, room_of}
-use Rattle.ac_automaton.specs.Stream.Devices.Buffer.{Held, IsRollPaid}
+use Rattle.ac_automaton.specs.Stream.{StreamProgress, Words, again_for, end_of, items_of, read_by, room_of}
 use Rattle.ac_automaton.specs.Stream.Devices.Moved.{AllFit}
 use Rattle.ac_automaton.specs.Stream.WholeWords.{asked_for}
+use Rattle.ac_automaton.specs.Stream.WholeWords.Held.{TextRead, text_of}
 use Rattle.ac_automaton.specs.Words.{IsBestOpen, StandsForWords, text_from}
 use Rattle.ac_automaton.specs.declared.automaton.Automaton.{Ghosts}
 use Rattle.ac_automaton.specs.declared.words.WordPlace.{WordPlace}
@@ -42,10 +41,9 @@ word_progress b pieces given closed from p moved sums =
 abbrev pub words_in : MatchKind → Built → List ℕ → List Occurrence
 words_in kind b x = items_of Words (asked_for kind b).dictionary x
 
--- how far a search has come, from what it keeps
-abbrev pub words_come : Built → List (List ℕ) → ℕ → Bool → ℕ → WordPlace → Held → Steps → StreamProgress Words
-words_come b pieces count closed from p buffer sums =
-    word_progress b pieces (take count (words_in p.kind b (concat pieces))) closed from p buffer.moved sums
+-- how far a search has come, from the text that it holds and where it stands
+abbrev pub words_come : Built → TextRead → WordPlace → StreamProgress Words
+words_come b t p = word_progress b t.pieces (take t.returned (words_in p.kind b (text_of t))) t.closed t.from p t.moved t.sums
 
 -- ---- what is kept
 
@@ -94,19 +92,9 @@ pub record StandsInStream {S : Type 0} (A : Ghosts S) (a : S) (s : StreamProgres
   pub scanned : s.scanned ≡ 0
   pub moved : 7 * s.moved ≤ length (read_by s)
 
--- the buffer holds the bytes that the search has to hold, and counts the bytes that it read and moved
-pub record HoldsText {q : Sequence} (b : Built) (s : StreamProgress q) (buffer : Held) : Type 0 where
-  pub bytes : buffer.bytes ≡ drop s.from (read_by s)
-  pub keep : buffer.keep ≡ max (longest b.dictionary.patterns) 1 + 1
-  pub read : buffer.read ≡ length (read_by s)
-  pub moved : buffer.moved ≡ s.moved
-  pub paid : IsRollPaid buffer
-
 -- The state that a search keeps between its calls is right.
-pub record IsWordSearch {S : Type 0} (A : Ghosts S) (a : S) (s : StreamProgress Words) (p : WordPlace) (count : ℕ)
-    (buffer : Held) (over : Bool) : Type 0 where
+pub record IsWordSearch {S : Type 0} (A : Ghosts S) (a : S) (s : StreamProgress Words) (t : TextRead) (p : WordPlace)
+    : Type 0 where
   pub stands : StandsInStream A a s p
-  pub number : length s.given ≡ count
-  pub holds : HoldsText (A.built a) s buffer
-  pub countable : over ≡ false → CanBeCounted (read_by s)
-  pub uncountable : over ≡ true → ¬ CanBeCounted (read_by s)
+  pub number : length s.given ≡ t.returned
+  pub keep : t.keep ≡ max (longest (A.built a).dictionary.patterns) 1 + 1

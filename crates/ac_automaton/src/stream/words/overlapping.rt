@@ -4,28 +4,27 @@
 //! see [`listed`](crate::words::listed). So a word waits only for the byte after it, or until nothing more comes. The walk never begins
 //! anew, and no byte is looked at twice.
 //!
-//! An [`OverlappingWordSearch`] returns the next word of what was read, without a read, and makes one read, as an [`ItemSearch`]. Up to
-//! its [`cut`](OverlappingWordSearch::cut) everything is decided: a word still to be found ends there or later. It holds the bytes of
-//! each such word, and the byte before it.
-ghost use Rattle.std.specs.Prelude.{◌≡◌, ◌≢◌, ◌↔◌, ◌+◌, ◌<◌, [], false, true, length, IfErr, IfOk, IsTrue, drop};
+//! An [`OverlappingWordSearch`] returns the next word of what was read, without a read ([`OverlappingWordSearch::next`]), takes a piece
+//! that is pushed ([`OverlappingWordSearch::push`]), and makes one read, as an [`ItemSearch`]. Up to its
+//! [`cut`](OverlappingWordSearch::cut) everything is decided: a word still to be found ends there or later. It holds the bytes of each
+//! such word, and the byte before it.
+ghost use Rattle.std.specs.Prelude.{◌≡◌, ◌↔◌, ◌-◌, [], false, true, length, IfErr, IfOk, IsTrue, drop};
 ghost use Rattle.std.specs.Borrow.{sem};
 ghost use Rattle.ac_input.specs.declared.search.Anchored.TheVariants.{No};
-ghost use Rattle.ac_automaton.specs.Stream.{AllWords, CanBeCounted, CanStream, CountsNothing, FindsHeld, GoesOn, IsOnCourse, IsOutOfMemory, IsRolled, IsSearched, ReadsMore, StreamCounts, closed_by, cut_of, fresh_progress, read_by, room_of};
+ghost use Rattle.ac_input.specs.Work.{longest};
+ghost use Rattle.ac_automaton.specs.Stream.{CanBeCounted, CanStream, FindsHeld, GoesOn, IsOnCourse, IsOutOfMemory, IsSearched, ReadsMore, StreamCounts, closed_by, cut_of, fresh_progress, read_by};
 ghost use Rattle.ac_automaton.specs.Stream.Iter.{RestsIfRefused};
 ghost use Rattle.ac_automaton.specs.Stream.Push.{Pushes};
 ghost use Rattle.ac_automaton.specs.Stream.WholeWords.{AnswersNewAllWords, FindsStreamAllWords};
 ghost use Rattle.ac_automaton.specs.declared.stream.StreamKinds.TheVariants.{OnlyStandard};
 
+use super::held::HeldText;
 use crate::error::StreamError;
 use crate::search::Search;
-use crate::stream::devices::buffer::Buffer;
 use crate::stream::devices::watched::Watched;
 use crate::stream::overlapping::configured;
-use crate::stream::search::given_then;
 use crate::stream::{ItemSearch, StreamIter};
-use crate::words::Window;
 use crate::words::listed::{ListedPlace, next_listed_word};
-use ac_input::history::{Count, Pieces};
 use ac_input::primitives::StateID;
 use ac_input::search::Match;
 use ac_input::steps::Steps;
@@ -33,21 +32,32 @@ use std::alloc::Global;
 use std::io::Read;
 use std::marker::Model;
 
-/// How far a search of a stream for all whole words has come. It owns its automaton, or borrows it as a reference.
+/// A search of a stream for all whole words, whose pieces are pushed when they come. It owns its automaton, or borrows it as a reference.
+///
+/// ```text
+/// let mut search = OverlappingWordSearch::new(&ac, alloc)?;
+/// while let Some(piece) = receive() {
+///     let mut rest = piece;
+///     while !rest.is_empty() {
+///         let n = search.push(rest)?;
+///         rest = &rest[n..];
+///         while let Some(word) = search.next() {
+///             // in the order of their ends
+///         }
+///     }
+/// }
+/// search.finish();
+/// while let Some(word) = search.next() {
+///     // those that end with the text
+/// }
+/// ```
+///
+/// It is on its course wherever it stands: the words that it has returned are the first ones of the whole text, whatever still comes.
 #[derive(Drop)]
 pub struct OverlappingWordSearch<A: Search> {
     automaton: A,
-    buffer: Buffer,
+    text: HeldText,
     place: ListedPlace,
-    /// The place of the first byte that is held.
-    from: usize,
-    /// Whether it was told that nothing more comes.
-    closed: bool,
-    /// Whether there are more bytes than places.
-    over: bool,
-    given: Count,
-    pieces: Pieces,
-    sums: Steps,
 }
 
 impl<A: Search> Model for OverlappingWordSearch<A> {
@@ -56,13 +66,11 @@ impl<A: Search> Model for OverlappingWordSearch<A> {
 
     ghost Value = { StreamProgress AllWords };
 
-    ghost view = { λ i. all_words_come (A.built i.automaton) i.pieces.items i.given.value i.closed i.from i.place i.buffer i.sums };
+    ghost view = { λ i. all_words_come (A.built i.automaton) i.text i.place };
 
     ghost invariant = { λ i.
-        IsOnCourse (all_words_come (A.built i.automaton) i.pieces.items i.given.value i.closed i.from i.place i.buffer i.sums)
-        × IsAllWordsSearch A.Automaton i.automaton
-        (all_words_come (A.built i.automaton) i.pieces.items i.given.value i.closed i.from i.place i.buffer i.sums)
-        i.place i.given.value i.buffer i.over };
+        IsOnCourse (all_words_come (A.built i.automaton) i.text i.place)
+        × IsAllWordsSearch A.Automaton i.automaton (all_words_come (A.built i.automaton) i.text i.place) i.text i.place };
 }
 
 impl<A: Search + Drop> OverlappingWordSearch<A> {
@@ -79,20 +87,11 @@ impl<A: Search + Drop> OverlappingWordSearch<A> {
         ensures kept { IfOk result IsOnCourse }
         ensures error { IfErr result IsOutOfMemory }
     {
-        let Some(keep) = automaton.max_pattern_len().max(1).checked_add(1) else {
-            return Err(StreamError::Memory);
-        };
-        let buffer = Buffer::new(alloc, keep)?;
+        let text = HeldText::new(alloc, automaton.max_pattern_len())?;
         Ok(OverlappingWordSearch {
             automaton,
-            buffer,
+            text,
             place: ListedPlace::new(start),
-            from: 0,
-            closed: false,
-            over: false,
-            given: Count::zero(),
-            pieces: Pieces::empty(),
-            sums: Steps::new(),
         })
     }
 
@@ -113,7 +112,7 @@ impl<A: Search> OverlappingWordSearch<A> {
         ensures held { result.now ≡ drop self.now.from (read_by self.now) }
         ensures kept { IsOnCourse self.now }
     {
-        self.buffer.held()
+        self.text.held()
     }
 
     /// The place of the first byte that is held.
@@ -121,7 +120,7 @@ impl<A: Search> OverlappingWordSearch<A> {
         ensures from { result ≡ self.now.from }
         ensures kept { IsOnCourse self.now }
     {
-        self.from
+        self.text.from()
     }
 
     /// The place up to which everything is decided: every remaining word ends there or later.
@@ -137,7 +136,7 @@ impl<A: Search> OverlappingWordSearch<A> {
         ensures over { result ≡ true → ¬ CanBeCounted (read_by self.now) }
         ensures open { result ≡ false → CanBeCounted (read_by self.now) }
     {
-        self.over
+        self.text.is_over()
     }
 
     /// The next word of the bytes that were read or pushed, once the byte after it is known. None means that all of these were returned:
@@ -161,19 +160,18 @@ impl<A: Search> OverlappingWordSearch<A> {
         ensures counts { StreamCounts self.old self.new steps.old steps.new }
         ensures kept { IsOnCourse self.new }
     {
-        if self.over {
+        if self.text.is_over() {
             return None;
         }
-        let window = Window {
-            bytes: self.buffer.held(),
-            from: self.from,
-            closed: self.closed,
-        };
         let mut taken = Steps::new();
-        let found = next_listed_word(&self.automaton, window, &mut self.place, &mut taken);
+        let found = next_listed_word(
+            &self.automaton,
+            self.text.window(),
+            &mut self.place,
+            &mut taken,
+        );
+        self.text.count(&found, &taken);
         steps.add(&taken);
-        self.sums.add(&taken);
-        self.given = given_then(&self.given, &found);
         found
     }
 
@@ -188,7 +186,7 @@ impl<A: Search> OverlappingWordSearch<A> {
     pub fn is_searched(&self) -> bool
         ensures { IsTrue result ↔ IsSearched self.now }
     {
-        self.place.at() - self.from == self.buffer.held().len()
+        self.text.ends_at(self.place.at())
     }
 
     /// Whether it was told that nothing more comes.
@@ -196,42 +194,35 @@ impl<A: Search> OverlappingWordSearch<A> {
         ensures closed { result ≡ self.now.closed }
         ensures kept { IsOnCourse self.now }
     {
-        self.closed
+        self.text.is_closed()
     }
 
-    /// Tells the search that nothing more comes, so that the words that wait are decided: [`OverlappingWordSearch::next`] returns all that are left.
+    /// Tells the search that nothing more comes, so that the words that wait are decided: [`OverlappingWordSearch::next`] returns all that
+    /// are left.
     pub fn finish(&mut self)
         ensures closed { self.new ≡ closed_by self.old }
         ensures kept { IsOnCourse self.new }
     {
-        self.closed = true;
+        self.text.close();
     }
 
-    /// Moves the bytes of each word that may still be found, and the byte before it, to the front of the buffer, if no room is left.
-    fn make_room(&mut self, steps: &mut Steps)
-        requires { IsSearched self.old }
-        ensures room { length (read_by self.new) < self.new.from + room_of AllWords self.new.built }
-        ensures same { IsRolled self.old self.new }
-        ensures counts { StreamCounts self.old self.new steps.old steps.new }
-        ensures kept { IsOnCourse self.new }
+    /// The place of the first byte that may still be needed: the one before each word that may still be found.
+    fn needed(&self) -> usize
+        ensures { result ≡ self.now.at - longest self.now.built.dictionary.patterns - 1 }
     {
-        if self.buffer.is_full() {
-            let before = self.place.needed(self.automaton.max_pattern_len());
-            self.buffer.roll(before - self.from, steps);
-            self.from = before;
-        }
+        self.place.needed(self.automaton.max_pattern_len())
     }
 
     /// Takes the first bytes of a piece, as many as there is room for, after all that was pushed before. Returns how many: the piece
-    /// isn't needed any more. None are taken while [`OverlappingWordSearch::next`] may find a word in what was pushed before; else at least one
-    /// is, if there is one.
+    /// isn't needed any more. None are taken while [`OverlappingWordSearch::next`] may find a word in what was pushed before; else at
+    /// least one is, if there is one.
     ///
     /// There is room for `max(65536, 8 * (max(1, longest) + 1))` bytes, so a piece of up to seven eighths of that is mostly taken whole.
-    /// It copies each byte once, allocates nothing, and moves a seventh of the bytes at most within its buffer. The bytes that no word still to be found needs
-    /// are no longer held then.
+    /// It copies each byte once, allocates nothing, and moves a seventh of the bytes at most within its buffer. The bytes that no word
+    /// still to be found needs may not be held any more then.
     ///
-    /// It requires that the search wasn't finished: see [`OverlappingWordSearch::is_closed`]. Returns the error `Position` if there are more bytes
-    /// than places, and each time after that.
+    /// It requires that the search wasn't finished: see [`OverlappingWordSearch::is_closed`]. Returns the error `Position` if there are
+    /// more bytes than places, and each time after that.
     pub fn push(&mut self, piece: &[u8]) -> Result<usize, StreamError>
         requires unclosed { self.old.closed ≡ false }
         ensures pushes { Pushes (IsSearched self.old) self.old self.new piece.now result }
@@ -247,33 +238,14 @@ impl<A: Search> OverlappingWordSearch<A> {
         ensures pushes { Pushes (IsSearched self.old) self.old self.new piece.now result }
         ensures goes { GoesOn self.old self.new steps.old steps.new }
     {
-        if self.over {
+        if self.text.is_over() {
             return Err(StreamError::Position);
         }
         if piece.is_empty() || !self.is_searched() {
             return Ok(0);
         }
-        self.make_room(steps);
-        self.append(piece)
-    }
-
-    /// Takes the first bytes of a piece; there is room.
-    fn append(&mut self, piece: &[u8]) -> Result<usize, StreamError>
-        requires some { piece.now ≢ [] }
-        requires unclosed { self.old.closed ≡ false }
-        requires searched { IsSearched self.old }
-        requires room { length (read_by self.old) < self.old.from + room_of AllWords self.old.built }
-        ensures pushes { Pushes (IsSearched self.old) self.old self.new piece.now result }
-        ensures steps { CountsNothing self.old self.new }
-        ensures kept { IsOnCourse self.new }
-    {
-        let n = self.buffer.take(piece);
-        self.pieces = self.pieces.and(&piece[..n]);
-        self.over = self.buffer.held().len() > usize::MAX - self.from;
-        if self.over {
-            return Err(StreamError::Position);
-        }
-        Ok(n)
+        let needed = self.needed();
+        self.text.push(piece, needed, steps)
     }
 
     /// One read, into all the free room; if there is none, what has to be held is moved to the front first. Everything that was
@@ -293,34 +265,8 @@ impl<A: Search> OverlappingWordSearch<A> {
         ensures counts { StreamCounts self.old self.new steps.old steps.new }
         ensures kept { IsOnCourse self.new }
     {
-        self.make_room(steps);
-        self.fill(reader)
-    }
-
-    /// One read; there is room.
-    fn fill<R: Read>(&mut self, reader: &mut Watched<R>) -> Result<usize, StreamError>
-        requires open { reader.old.ended ≡ false }
-        requires unclosed { self.old.closed ≡ false }
-        requires room { length (read_by self.old) < self.old.from + room_of AllWords self.old.built }
-        ensures read { ReadsMore R.remaining self.old self.new reader.old reader.new result }
-        ensures steps { CountsNothing self.old self.new }
-        ensures from { self.new.from ≡ self.old.from }
-        ensures kept { IsOnCourse self.new }
-    {
-        let n = match self.buffer.fill(reader) {
-            Ok(n) => n,
-            Err(error) => {
-                self.pieces = self.pieces.and(&[]);
-                return Err(StreamError::Read(error));
-            }
-        };
-        let held = self.buffer.held();
-        self.pieces = self.pieces.and(&held[held.len() - n..]);
-        self.over = held.len() > usize::MAX - self.from;
-        if self.over {
-            return Err(StreamError::Position);
-        }
-        Ok(n)
+        let needed = self.needed();
+        self.text.read_more(reader, needed, steps)
     }
 }
 
@@ -336,7 +282,7 @@ impl<A: Search> ItemSearch for OverlappingWordSearch<A> {
     }
 
     fn between(&self, start: usize, end: usize) -> &[u8] {
-        &self.buffer.held()[..0]
+        &self.text.held()[..0]
     }
 
     fn cut(&self) -> usize {
@@ -344,7 +290,7 @@ impl<A: Search> ItemSearch for OverlappingWordSearch<A> {
     }
 
     fn end(&self) -> usize {
-        self.from + self.buffer.held().len()
+        self.text.end()
     }
 
     fn is_past_places(&self) -> bool {

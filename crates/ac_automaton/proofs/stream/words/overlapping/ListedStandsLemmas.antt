@@ -23,8 +23,8 @@ use Rattle.ac_automaton.specs.declared.automaton.Automaton.{Ghosts}
 use Rattle.ac_automaton.specs.declared.words.listed.ListedPlace.{ListedPlace}
 use Rattle.ac_automaton.proofs.in_memory.iter.WalkAheadLemmas.{more-looks}
 use Rattle.ac_automaton.proofs.in_memory.overlapping.OverlappingReadLemmas.{paid-start, paid-to}
-use Rattle.ac_automaton.proofs.stream.words.WordReadLemmas.{words-read}
 use Rattle.ac_automaton.proofs.stream.words.WordStandsLemmas.{ListsTell}
+use Rattle.ac_automaton.proofs.stream.words.held.HeldTextLemmas.{text-read}
 use Rattle.ac_automaton.proofs.words.listed.ListedWordLemmas.{left-later, listed-held_from, listed-longer, listed-occurs, listed-start, sooner-given}
 
 -- ---- at first
@@ -202,7 +202,7 @@ module _ {S : Type 0} (A : Ghosts S) (a : S) (pieces : List (List ℕ)) (given :
       let m = b.dictionary in
       let x = concat pieces in
       let y = concat (pieces ++ piece ∷ []) in
-      let more : y ≡ x ++ piece = words-read pieces piece in
+      let more : y ≡ x ++ piece = text-read pieces piece in
       let longer = ap length more in
       let both = length-append x piece in
       let same : slice_range y 0 p.at ≡ slice_range x 0 p.at =
@@ -222,6 +222,28 @@ module _ {S : Type 0} (A : Ghosts S) (a : S) (pieces : List (List ℕ)) (given :
         scanned = is.scanned;
         moved = omega (arith, is.moved, longer, both);
       }
+
+  -- ---- when no more comes
+
+  -- it stands right where it is told so
+  pub close-lists : ListsInStream A a (all_words_at (A.built a) pieces given true from p moved sums) p
+  close-lists = record {
+    standard = is.standard;
+    filled = is.filled;
+    stands = record {
+      before = is.stands.before;
+      within = is.stands.within;
+      reads = is.stands.reads;
+      listed = λ more follows. is.stands.listed more (λ _. follows refl);
+    };
+    ended = is.ended;
+    room = is.room;
+    short = is.short;
+    paid = is.paid;
+    some = is.some;
+    scanned = is.scanned;
+    moved = is.moved;
+  }
 
   -- ---- after its bytes were moved
 

@@ -1,54 +1,46 @@
 -- The next word of the bytes read is the next one of the text.
-use Rattle.std.proofs.Common.{refl, subst}
-use Rattle.std.specs.List.{concat}
+use Rattle.std.proofs.Common.{subst}
 use Rattle.ac_input.specs.declared.search.Anchored.TheVariants.{No}
 use Rattle.ac_automaton.specs.Stream.{FindsHeld}
+use Rattle.ac_automaton.specs.Stream.WholeWords.Held.{text_of}
 use Rattle.ac_automaton.specs.declared.stream.words.WordSearch.TheInside.{Inside}
 use Rattle.ac_automaton.proofs.stream.StreamCountLemmas.{StreamCounts-none}
-use Rattle.ac_automaton.proofs.stream.words.WordSearchLemmas.{IsRight, come_by, found-next, found-reads, held-shows}
-use Rattle.ac_automaton.proofs.words.FinalLemmas.{window-end}
+use Rattle.ac_automaton.proofs.stream.words.WordSearchLemmas.{IsRight, come_by, found-in, found-reads, window-stands}
 use Rattle.ac_automaton.proofs.stream.words.WordSearch.next_counted.Given.{Over}
 use Rattle.ac_automaton.proofs.stream.words.WordSearch.next_counted.Goals as goal
 
-pub returns-then-self-clause-counts : goal.returns-then-self-clause-counts
-returns-then-self-clause-counts g c = StreamCounts-none c.args.self.now c.args.steps.now
+pub returns-then-is_over-clause-counts : goal.returns-then-is_over-clause-counts
+returns-then-is_over-clause-counts g c = StreamCounts-none c.args.self.now c.args.steps.now
 
 pub begin_if_idle-requires : goal.begin_if_idle-requires
 begin_if_idle-requires g c =
     let i = c.self.inside in
-    let x = concat i.pieces.items in
-    let stands = c.self.invariant.1.stands.stands in
-    let shows = held-shows g.A.Automaton i c.self.invariant c.held.result c.held.ensures in
-    let reads = found-reads (g.A.Automaton.built i.automaton).dictionary (g.A.Automaton.Reaches i.automaton No) i.from i.closed x
-    i.place c.next_word-found.new.place c.next_word-found.result (c.next_word-found.ensures.finds x shows stands)
-    stands.place.start in
+    let x = text_of i.text in
+    let w = c.window.result in
+    let stands = window-stands g.A.Automaton i c.self.invariant w c.window.ensures.from in
+    let reads = found-reads (g.A.Automaton.built i.automaton).dictionary (g.A.Automaton.Reaches i.automaton No) w.from w.closed x
+    i.place c.next_word-found.new.place c.next_word-found.result
+    (c.next_word-found.ensures.finds x c.window.ensures.shows stands) stands.place.start in
     ∣ (No, reads.0, reads.1) ∣₁
 
 -- what the search keeps after the call
-abbrev after : (g : Over) → goal.After-self-1 g → Inside g.row.A.Denot
-after g c =
-    record c.self.inside {
-      place = c.begin_if_idle.new.place;
-      given = c.given_then-self-inside.result;
-      sums = c.add-2.new.self;
-    }
+abbrev after : (g : Over) → goal.After-add g → Inside g.row.A.Denot
+after g c = record c.self.inside { place = c.begin_if_idle.new.place; text = c.count.new.self }
 
 -- it is right, and it found this
-found : (g : Over) (c : goal.After-self-1 g)
+found : (g : Over) (c : goal.After-add g)
     → IsRight g.A.Automaton (after g c)
     × FindsHeld (come_by g.A.Automaton c.self.inside) c.next_word-found.result (come_by g.A.Automaton (after g c))
 found g c =
     let i = c.self.inside in
-    let x = concat i.pieces.items in
-    let stands = c.self.invariant.1.stands.stands in
-    let shows = held-shows g.A.Automaton i c.self.invariant c.held.result c.held.ensures in
-    found-next g.A.Automaton i c.self.invariant c.next_word-found.result
-    (record { bytes = c.held.result; from = i.from; closed = i.closed }) c.next_word-found.new.place c.begin_if_idle.new.place
-    c.given_then-self-inside.result c.new-taken.result c.next_word-found.new.steps c.add-2.new.self
-    (g.met.A.Automaton.tells i.automaton No) (c.self.invariant.1.countable c.if-self.false) refl (window-end shows)
-    (c.next_word-found.ensures.finds x shows stands) (c.next_word-found.ensures.cost x shows stands)
-    c.next_word-found.ensures.waits c.begin_if_idle.ensures c.new-taken.ensures c.add-2.ensures
-    c.given_then-self-inside.ensures
+    let x = text_of i.text in
+    let seen = c.window.ensures in
+    let stands = window-stands g.A.Automaton i c.self.invariant c.window.result seen.from in
+    let next = c.next_word-found in
+    found-in g.A.Automaton i c.self.invariant next.result c.window.result next.new.place c.begin_if_idle.new.place
+    c.new-taken.result next.new.steps (g.met.A.Automaton.tells i.automaton No) (c.is_over.ensures.open c.if-is_over.false)
+    seen.shows seen.from seen.closed (next.ensures.finds x seen.shows stands) (next.ensures.cost x seen.shows stands)
+    next.ensures.waits c.begin_if_idle.ensures c.new-taken.ensures c.count.ensures.same c.count.ensures.added
 
 pub invariant_of-self : goal.invariant_of-self
 invariant_of-self g c = (found g c).0

@@ -5,6 +5,8 @@ use Rattle.std.specs.List.{filter}
 use Rattle.std.specs.Str.{IsCharBoundary}
 use Rattle.std.proofs.lemmas.Bool.{and_parts}
 use Rattle.std.proofs.lemmas.Option.{slice_get_within}
+use Rattle.ac_input.specs.declared.search.Anchored.{Anchored}
+use Rattle.ac_input.specs.declared.search.Anchored.TheVariants.{No}
 use Rattle.ac_input.specs.declared.search.MatchKind.{MatchKind}
 use Rattle.ac_input.specs.Occurrence.{Search, Occurrence}
 use Rattle.ac_input.specs.Text.{replaced_from}
@@ -85,6 +87,10 @@ lies-filter p patterns len at (o ∷ os) lies =
 pub same-input : (b : Built) {x y : List ℕ} {asked : Asked} {os : List Occurrence} → os ≡ walk_in b asked
     → asked ≡ whole_of y → y ≡ x → os ≡ matches_in b x
 same-input b is all same = is ∙ ap (walk_in b) all ∙ ap (matches_in b) same
+
+-- what holds of the anchoring of a whole haystack holds of unanchored searches
+pub unanchored : (P : Anchored → Type 0) {y : List ℕ} {asked : Asked} → P asked.anchored → asked ≡ whole_of y → P No
+unanchored P can all = subst (λ q. P q.anchored) all can
 
 -- the test of a boundary is right: a character begins there, or the text ends
 boundary-from_test : (text : List ℕ) {at : ℕ} → IsTrue (is_boundary text at) → IsCharBoundary text at

@@ -1,5 +1,6 @@
 -- One part of the bytes is read after another, up to the first state that matches.
 use Rattle.std.proofs.Common.{◌≡◌, ◌+◌, drop, sym, subst, refl, ◌∙◌, false, arith, length-drop}
+use Rattle.std.proofs.lemmas.Grind.{common_steps}
 use Rattle.std.proofs.lemmas.Bool.{false≢true}
 use Rattle.ac_input.specs.declared.search.Anchored.TheVariants.{No}
 use Rattle.ac_automaton.specs.Ahead.{IsAhead}
@@ -91,3 +92,9 @@ pub returns-clause-ahead : goal.returns-clause-ahead
 returns-clause-ahead g c =
     ahead-end (omega (arith, c.loop-read-test.false, c.loop-read.invariant.within, c.requires.within))
     c.loop-read.invariant.ahead
+
+pub overflow_add-read : goal.overflow_add-read
+overflow_add-read g c = grind (arith, common_steps)
+
+pub returns-clause-goes : goal.returns-clause-goes
+returns-clause-goes g c = grind (arith, common_steps)

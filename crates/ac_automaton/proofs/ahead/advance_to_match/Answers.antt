@@ -1,5 +1,6 @@
 -- A few bytes are read alone, and then, where no state has matched, one part of the others after another.
-use Rattle.std.proofs.Common.{◌≡◌, drop, false, sym, ◌∙◌}
+use Rattle.std.proofs.Common.{◌≡◌, drop, false, sym, ◌∙◌, arith}
+use Rattle.std.proofs.lemmas.Grind.{common_steps}
 use Rattle.std.proofs.lemmas.Bool.{false≢true}
 use Rattle.std.proofs.lemmas.List.{drop-drop}
 use Rattle.ac_input.specs.declared.search.Anchored.TheVariants.{No}
@@ -57,3 +58,12 @@ returns-clause-cost g c =
       cost-on (drop c.args.from c.args.bytes.now) _ (sym (drop-drop _ c.args.from c.args.bytes.now))
           c.read_alone-stop.ensures.some c.read_alone-stop.ensures.within (passed g c) rest.goes rest.cost.2,
     )
+
+pub overflow_add-at : goal.overflow_add-at
+overflow_add-at g c = grind (arith, common_steps)
+
+pub overflow_add-result : goal.overflow_add-result
+overflow_add-result g c = grind (arith, common_steps)
+
+pub returns-clause-ahead : goal.returns-clause-ahead
+returns-clause-ahead g c = grind (arith, common_steps)

@@ -1,5 +1,6 @@
 -- Bytes are masked but for those that the last stretch has masked.
 use Rattle.std.proofs.Common.{◌≡◌, ◌≤◌, length, refl, ap, ◌∙◌, arith}
+use Rattle.std.proofs.lemmas.Grind.{common_steps}
 use Rattle.ac_automaton.specs.Masking.{masked_between}
 use Rattle.ac_automaton.proofs.masking.BetweenLemmas.{between-filled, between-length, stretch-back, stretch-grown, stretch-new}
 use Rattle.ac_automaton.proofs.masking.mask_between.Goals as goal
@@ -40,3 +41,9 @@ pub returns-clause-last : goal.returns-clause-last
 returns-clause-last c =
     stretch-new c.args.mask c.args.bytes.now c.args.last c.args.start c.args.end c.requires.order c.requires.within
     c.requires.last _ (returns-clause-masked c)
+
+pub returns-then-last-start-2-clause-last : goal.returns-then-last-start-2-clause-last
+returns-then-last-start-2-clause-last c = grind (arith, common_steps)
+
+pub returns-then-last-start-clause-masked : goal.returns-then-last-start-clause-masked
+returns-then-last-start-clause-masked c = grind (arith, common_steps)

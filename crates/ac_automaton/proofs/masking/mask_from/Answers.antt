@@ -1,5 +1,6 @@
 -- A walk reads on from match to match, and masks the longest pattern at each.
 use Rattle.std.proofs.Common.{◌≡◌, ◌+◌, ◌-◌, ◌≤◌, false, ◌++◌, length, take, drop, get_or, [], None, refl, sym, ap, subst, ◌∙◌, arith, append-nil, length-drop}
+use Rattle.std.proofs.lemmas.Grind.{common_steps}
 use Rattle.std.proofs.lemmas.Bool.{false≢true}
 use Rattle.std.proofs.lemmas.List.{take_all}
 use Rattle.ac_input.specs.declared.search.Anchored.TheVariants.{No}
@@ -206,3 +207,21 @@ returns-clause-cost g c =
     (take_all c.loop-read.read (drop c.args.from old) (omega (arith, size, all, i.len)))
     (cost-settled (g.A.Automaton.built a) (g.A.Automaton.Reaches a) c.args.sid c.none-ahead.ensures.nothing over.1 i.has.1
     i.has.2.cost)
+
+pub loop-read-smaller : goal.loop-read-smaller
+loop-read-smaller g c = grind (arith, common_steps)
+
+pub loop-read-smaller-then-is_match : goal.loop-read-smaller-then-is_match
+loop-read-smaller-then-is_match g c = grind (arith, common_steps)
+
+pub mask_longest-last-requires-clause-within : goal.mask_longest-last-requires-clause-within
+mask_longest-last-requires-clause-within g c = grind (arith, common_steps)
+
+pub overflow_add-from-then-is_match : goal.overflow_add-from-then-is_match
+overflow_add-from-then-is_match g c = grind (arith, common_steps)
+
+pub overflow_add-read : goal.overflow_add-read
+overflow_add-read g c = grind (arith, common_steps)
+
+pub returns-clause-masks : goal.returns-clause-masks
+returns-clause-masks g c = grind (arith, common_steps)

@@ -1,5 +1,6 @@
 -- A turn finds an item of what was read, or reads once.
-use Rattle.std.proofs.Common.{rules, subst, sym, ◌∙◌}
+use Rattle.std.proofs.Common.{rules, subst, sym, ◌∙◌, arith}
+use Rattle.std.proofs.lemmas.Grind.{common_steps}
 use Rattle.ac_automaton.specs.Stream.{GoesOn, StreamCounts}
 use Rattle.ac_automaton.proofs.stream.StreamIterLemmas.{turn-failed}
 use Rattle.ac_automaton.proofs.stream.search_or_read.Given.{Over}
@@ -38,3 +39,15 @@ returns-in-Err-clause-gives g c =
     (g.S.ItemSearch.progress c.next_held.new.self) (g.S.ItemSearch.progress c.read_on.new.self) c.args.reader.now
     c.read_on.new.reader c.in-Err.error (search rules) (sym c.has_closed.ensures.closed ∙ c.if-has_closed.false)
     c.in_default.ensures.finds (c.is_past_places.ensures.open c.if-is_past_places.false) c.in-Err.ensures.read
+
+pub returns-in-Ok-clause-gives : goal.returns-in-Ok-clause-gives
+returns-in-Ok-clause-gives g c = grind (arith, common_steps)
+
+pub returns-in-Ok-eq0-clause-gives : goal.returns-in-Ok-eq0-clause-gives
+returns-in-Ok-eq0-clause-gives g c = grind (arith, common_steps)
+
+pub returns-then-is_past_places-clause-gives : goal.returns-then-is_past_places-clause-gives
+returns-then-is_past_places-clause-gives g c = grind (arith, common_steps)
+
+pub read_on-requires-clause-searched : goal.read_on-requires-clause-searched
+read_on-requires-clause-searched g c = grind (arith, common_steps)

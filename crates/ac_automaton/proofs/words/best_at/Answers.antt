@@ -1,5 +1,6 @@
 -- The list of a state is looked at, one entry after another.
 use Rattle.std.proofs.Common.{◌≡◌, ℕ, ◌+◌, ◌-◌, ◌<◌, ◌≤◌, max, ⊎_elim, length, sym, ap, subst, ◌∙◌, arith}
+use Rattle.std.proofs.lemmas.Grind.{common_steps}
 use Rattle.std.proofs.lemmas.Bool.{cases_lt, false≢true}
 use Rattle.ac_input.specs.declared.search.Anchored.TheVariants.{No}
 use Rattle.ac_input.specs.Best.{IsLeast}
@@ -110,3 +111,12 @@ returns g c x is stands =
     seen-all (g.A.Automaton.built a).dictionary x p.last p.at stands.place.order stands.place.within c.requires.standard
     (g.A.Automaton.matches a p.sid) (g.met.A.Automaton.tells a No _ p.sid stands.place.reads) p.kind c.loop-index.best
     c.loop-index.index (let t = c.loop-index-test.false in omega arith) (c.loop-index.invariant x is stands)
+
+pub is_match-requires : goal.is_match-requires
+is_match-requires g c = grind (arith, common_steps)
+
+pub match_len-index-end-requires-clause-valid : goal.match_len-index-end-requires-clause-valid
+match_len-index-end-requires-clause-valid g c = grind (arith, common_steps)
+
+pub match_pattern-pattern-requires-clause-valid : goal.match_pattern-pattern-requires-clause-valid
+match_pattern-pattern-requires-clause-valid g c = grind (arith, common_steps)

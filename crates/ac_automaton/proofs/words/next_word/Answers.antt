@@ -1,5 +1,6 @@
 -- The best word of those that were looked at is the next one, once it is decided.
 use Rattle.std.proofs.Common.{◌≡◌, ◌⊎◌, inl, inr, ◌+◌, ◌<◌, ◌≤◌, ℕ, true, false, List, length, nat_eq, Option, None, Some, sym, ap, subst, refl, ◌∙◌, arith}
+use Rattle.std.proofs.lemmas.Grind.{common_steps}
 use Rattle.std.proofs.lemmas.Bool.{false≢true}
 use Rattle.std.proofs.lemmas.Bool.Decides.{nat_tests}
 use Rattle.ac_input.specs.declared.search.Anchored.TheVariants.{No}
@@ -218,3 +219,9 @@ returns-clause-waits g c = record {
       let open_best : IsBestOpen g.A.Automaton a now = subst (IsBestOpen g.A.Automaton a) (sym same) best in
       absurd (open-decided g.A.Automaton a stands.place.reads (open_best c.in_ok-found.found decided.0) decided.1);
 }
+
+pub read_on-requires-clause-stands : goal.read_on-requires-clause-stands
+read_on-requires-clause-stands g c = grind (arith, common_steps)
+
+pub returns-in_err-found-clause-finds : goal.returns-in_err-found-clause-finds
+returns-in_err-found-clause-finds g c = grind (arith, common_steps)

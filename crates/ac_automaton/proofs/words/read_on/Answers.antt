@@ -1,5 +1,6 @@
 -- It stands right where it has read on to.
 use Rattle.std.proofs.Common.{◌≡◌, ◌-◌, ◌≤◌, ℕ, List, length, take, slice_range, ap, subst, ◌∙◌, arith}
+use Rattle.std.proofs.lemmas.Grind.{common_steps}
 use Rattle.ac_input.specs.declared.search.Anchored.TheVariants.{No}
 use Rattle.ac_input.proofs.lemmas.OrderLemmas.{slice_range-length}
 use Rattle.ac_automaton.specs.Automaton.{AdvancesToMatch, IsReadCost}
@@ -54,3 +55,9 @@ returns-clause-cost g c x is seen =
     (subst (λ l. IsReadCost (g.A.Automaton.built a) (g.A.Automaton.Reaches a) No p.sid
     (take c.advance_to_match-stop.result.taken l) c.args.steps.now c.advance_to_match-stop.new.steps) part.1
     c.advance_to_match-stop.ensures.cost)
+
+pub limit-end-requires-clause-more : goal.limit-end-requires-clause-more
+limit-end-requires-clause-more g c = grind (arith, common_steps)
+
+pub advance_to_match-stop-requires : goal.advance_to_match-stop-requires
+advance_to_match-stop-requires g c = grind (arith, common_steps)

@@ -1,5 +1,6 @@
 -- One byte more is read, and reading on stops or goes on.
-use Rattle.std.proofs.Common.{IsTrue, sym, ◌∙◌}
+use Rattle.std.proofs.Common.{IsTrue, sym, ◌∙◌, arith}
+use Rattle.std.proofs.lemmas.Grind.{common_steps}
 use Rattle.std.proofs.lemmas.Bool.{false≢true}
 use Rattle.std.proofs.lemmas.Option.{slice_get-get_or}
 use Rattle.ac_automaton.proofs.lemmas.CursorLemmas.{advanced-cost, advanced-more, reached-on, reached-state}
@@ -36,3 +37,6 @@ loop-read-preserved g c =
     advanced-more (g.Self.Automaton.built a) (g.Self.Automaton.Reaches a) c.args.anchored (g.Self.Automaton.special a)
     c.args.sid c.args.bytes.now c.loop-read.read _ c.loop-read.current _ _ _ _ is c.loop-read.invariant
     c.next_state_counted-current.ensures.next c.next_state_counted-current.ensures.cost plain
+
+pub returns-then-is_special-clause-goes : goal.returns-then-is_special-clause-goes
+returns-then-is_special-clause-goes g c = grind (arith, common_steps)

@@ -1,5 +1,6 @@
 -- What the prefilter returns for the rest of the span.
 use Rattle.std.proofs.Common.{◌≡◌, ◌∙◌, Some, subst, sym, ap, arith, rules}
+use Rattle.std.proofs.lemmas.Grind.{common_steps}
 use Rattle.ac_input.specs.Best.{asked_kind, IsBest}
 use Rattle.ac_input.specs.Candidate.{IsCandidate}
 use Rattle.ac_input.specs.declared.search.candidate.Candidate.TheVariants as candidates
@@ -76,3 +77,9 @@ returns-in-PossibleStartOfMatch-clause-counts g c = λ some.
     let covers =
     scan-covers_before c.args.prefilter.now.needles _ counted.0 c.in-PossibleStartOfMatch.place some counted.2 in
     omega (arith, done.scanned)
+
+pub returns-else-eq-clause-work : goal.returns-else-eq-clause-work
+returns-else-eq-clause-work g c = grind (arith, common_steps)
+
+pub returns-then-eq-clause-work : goal.returns-then-eq-clause-work
+returns-then-eq-clause-work g c = grind (arith, common_steps)

@@ -1,5 +1,6 @@
 -- A pattern that matches is no longer than what was read.
 use Rattle.std.proofs.Common.{arith}
+use Rattle.std.proofs.lemmas.Grind.{common_steps}
 use Rattle.ac_automaton.proofs.in_memory.find.ToldLemmas.{told-first_fits}
 use Rattle.ac_automaton.proofs.in_memory.find.first_match.Goals as goal
 
@@ -11,3 +12,6 @@ overflow_sub-start g c =
     let within = reads.2 in
     let len = c.pattern_len.ensures in
     omega arith
+
+pub match_pattern-pattern-requires-clause-valid : goal.match_pattern-pattern-requires-clause-valid
+match_pattern-pattern-requires-clause-valid g c = grind (arith, common_steps)

@@ -1,5 +1,6 @@
 -- Where a search isn't anchored every entry counts, so the first one is taken.
-use Rattle.std.proofs.Common.{◌≡◌, ◌-◌, ◌∙◌, sym, ap}
+use Rattle.std.proofs.Common.{◌≡◌, ◌-◌, ◌∙◌, sym, ap, arith}
+use Rattle.std.proofs.lemmas.Grind.{common_steps}
 use Rattle.ac_input.specs.declared.search.Anchored.TheVariants.{No}
 use Rattle.ac_automaton.specs.InMemory.Find.Cursor.{taken}
 use Rattle.ac_automaton.proofs.in_memory.find.TakenLemmas.{taken-free}
@@ -13,3 +14,9 @@ returns-in-No g c =
     let free : c.args.input.now.anchored ≡ No = sym c.get_anchored.ensures ∙ c.in-No.is in
     taken-free m cursor.at (cursor.at - cursor.from) ns c.first_match.ensures
     ∙ ap (λ a. taken m a cursor.at (cursor.at - cursor.from) ns) (sym free)
+
+pub is_match-requires : goal.is_match-requires
+is_match-requires g c = grind (arith, common_steps)
+
+pub first_match-requires-clause-reads : goal.first_match-requires-clause-reads
+first_match-requires-clause-reads g c = grind (arith, common_steps)

@@ -1,5 +1,6 @@
 -- How the walk ends, and how it goes on.
-use Rattle.std.proofs.Common.{◌≡◌, ◌∙◌, ◌&&◌, ◌-◌, sym, ap}
+use Rattle.std.proofs.Common.{◌≡◌, ◌∙◌, ◌&&◌, ◌-◌, sym, ap, arith}
+use Rattle.std.proofs.lemmas.Grind.{common_steps}
 use Rattle.std.proofs.lemmas.Bool.{false≢true}
 use Rattle.std.specs.Option.{is_some}
 use Rattle.ac_automaton.specs.declared.in_memory.find.cursor.End.TheVariants.{Idle}
@@ -132,3 +133,12 @@ loop-best-preserved g c =
     asked-on c.read_past_starts-cursor.result _ has
     (λ standard. not_won-none _ _ best won c.if-won.false (c.takes_first-first_wins.ensures.1 standard)) alive on.stands
     on.from on.on
+
+pub is_back-requires : goal.is_back-requires
+is_back-requires g c = grind (arith, common_steps)
+
+pub is_dead-requires : goal.is_dead-requires
+is_dead-requires g c = grind (arith, common_steps)
+
+pub returns-then-is_back-clause-free : goal.returns-then-is_back-clause-free
+returns-then-is_back-clause-free g c = grind (arith, common_steps)

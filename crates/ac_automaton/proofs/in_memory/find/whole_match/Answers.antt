@@ -1,5 +1,6 @@
 -- The first entry that counts is the match.
-use Rattle.std.proofs.Common.{◌∙◌, sym, ap, Some}
+use Rattle.std.proofs.Common.{◌∙◌, sym, ap, Some, arith}
+use Rattle.std.proofs.lemmas.Grind.{common_steps}
 use Rattle.ac_automaton.proofs.in_memory.find.TakenLemmas.{taken-here, taken-next}
 use Rattle.ac_automaton.proofs.in_memory.find.whole_match.Goals as goal
 
@@ -17,3 +18,12 @@ loop-index-preserved g c =
     (g.A.Automaton.matches c.args.automaton.now c.args.sid) c.loop-index.index
     c.loop-index.invariant c.match_pattern-pattern.ensures.value
     (λ e. c.if-pattern_len-span.false (c.pattern_len.ensures ∙ e))
+
+pub returns : goal.returns
+returns g c = grind (arith, common_steps)
+
+pub match_len-index-end-requires-clause-valid : goal.match_len-index-end-requires-clause-valid
+match_len-index-end-requires-clause-valid g c = grind (arith, common_steps)
+
+pub match_pattern-pattern-requires-clause-valid : goal.match_pattern-pattern-requires-clause-valid
+match_pattern-pattern-requires-clause-valid g c = grind (arith, common_steps)

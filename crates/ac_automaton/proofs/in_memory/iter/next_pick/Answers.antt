@@ -1,5 +1,6 @@
 -- Where the best match repeats the last pick, the next pick begins a byte further on.
 use Rattle.std.proofs.Common.{refl, arith}
+use Rattle.std.proofs.lemmas.Grind.{common_steps}
 use Rattle.ac_input.specs.Walk.{Further}
 use Rattle.ac_automaton.proofs.in_memory.iter.IterLemmas.{pick-ended, work-further}
 use Rattle.ac_input.proofs.lemmas.UnusedLemmas.{best-fresh}
@@ -32,3 +33,6 @@ returns-clause-counts g c = λ some.
     let inside = c.end.ensures.within in
     absurd (best-fresh _ _ c.args.last c.best-found.result (rw c.end.ensures.value at inside) some
     c.best-found.ensures.found (c.if-not-repeats.ensures.0 refl))
+
+pub best-requires : goal.best-requires
+best-requires g c = grind (arith, common_steps)

@@ -1,5 +1,6 @@
 -- A walk over the copy of a text masks the words of the whole text.
 use Rattle.std.proofs.Common.{◌≡◌, ◌∙◌, ◌++◌, ap, arith}
+use Rattle.std.proofs.lemmas.Grind.{common_steps}
 use Rattle.ac_input.specs.declared.search.Anchored.TheVariants.{No}
 use Rattle.ac_automaton.specs.Words.{IsWindowOf}
 use Rattle.ac_automaton.proofs.masking.words.CostLemmas.{whole-costs}
@@ -39,3 +40,6 @@ returns-clause-cost g c =
     c.in_ok-start.ensures.start in
     let done = c.mask_words_from.ensures.masks x is begins in
     whole-costs b x c.mask_words_from.new.place.at done.0 (c.mask_words_from.ensures.cost x is begins.place)
+
+pub mask_words_from-requires-clause-may : goal.mask_words_from-requires-clause-may
+mask_words_from-requires-clause-may g c = grind (arith, common_steps)

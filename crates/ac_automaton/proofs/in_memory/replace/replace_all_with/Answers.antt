@@ -1,12 +1,11 @@
 -- Each call of the closure extends the chain by one.
-use Rattle.std.proofs.Common.{◌≡◌, ◌∷◌, drop, ap, ◌∙◌, rules, true, false, Ok}
+use Rattle.std.proofs.Common.{◌≡◌, ◌∷◌, drop, ap, ◌∙◌, Ok}
 use Rattle.std.specs.List.{filter}
 use Rattle.std.proofs.lemmas.Str.{IsCharBoundary-start}
 use Rattle.std.proofs.lemmas.Result.{err_from_is_err_and}
-use Rattle.ac_input.specs.declared.search.Anchored.TheVariants.{No}
 use Rattle.ac_automaton.specs.InMemory.Iter.{left_of}
 use Rattle.ac_automaton.specs.InMemory.Replace.{cuts_none, matches_in, text_left_of, text_matches_in}
-use Rattle.ac_automaton.proofs.lemmas.ReplaceLemmas.{boundary-end, matches-lie, lies-filter, lies-first, same-input}
+use Rattle.ac_automaton.proofs.lemmas.ReplaceLemmas.{boundary-end, matches-lie, lies-filter, lies-first, same-input, unanchored}
 use Rattle.ac_automaton.proofs.in_memory.replace.ReplacerLemmas.{callable-after, takes-one, told, told-refused, comes-first, comes-further, comes-to_false, comes-to_false_refused, comes-to_call_refused}
 use Rattle.ac_automaton.proofs.in_memory.replace.replace_all_with.Goals as goal
 
@@ -36,14 +35,13 @@ loop-found-preserved g c =
     let seen : text_left_of c.args.haystack.now c.loop-found.matches
     ≡ c.in-Some.found ∷ text_left_of c.args.haystack.now c.next_whole.new.matches = c.in-Some.ensures.gives in
     let lies = lies-first seen before.lies in
-    let go : c.in_ok-goes_on.goes_on ≡ true = search rules in
     record {
       callable = callable-after before.callable lies.0 c.call.ensures;
       lies = rw c.end-at.ensures.value lies.4;
       boundary = rw c.end-at.ensures.value (boundary-end c.args.haystack.now c.in-Some.found c.in-Some.ensures.whole);
       comes = rw c.end-at.ensures.value
           (comes-further _ _ _ _ _ _ _ _ _ before.comes _ _ seen _ _
-          (told c.call.ensures (c.in_ok-goes_on.was ∙ ap Ok go)
+          (told c.call.ensures (c.in_ok-goes_on.was ∙ ap Ok c.if-not-goes_on.false)
           (c.range-matched.ensures.value ∙ rw (c.end-at.ensures.value, c.start-in-Some.ensures.value))
           (c.in_ok-push_str.ensures.bytes ∙ rw (c.range.ensures.value, c.start.ensures.value))));
     }
@@ -54,9 +52,8 @@ returns-in_err-goes_on g c =
     let seen : text_left_of c.args.haystack.now c.loop-found.matches
     ≡ c.in-Some.found ∷ text_left_of c.args.haystack.now c.next_whole.new.matches = c.in-Some.ensures.gives in
     let p = err_from_is_err_and c.from_residual-in_err-goes_on.result c.from_residual-in_err-goes_on.ensures.1 in
-    let can : g.A.Automaton.supports c.args.automaton.now No = search rules in
     rw (p.1, p.2) (
-      can,
+      unanchored (g.A.Automaton.supports c.args.automaton.now) c.in_ok-matches.ensures.answer.0 c.new.ensures,
       comes-to_call_refused _ _ _ _ _ _ _ _ _ before.comes _ _ seen _ _
           (told-refused c.call.ensures c.in_err-goes_on.was
           (c.range-matched.ensures.value ∙ rw (c.end-at.ensures.value, c.start-in-Some.ensures.value))
@@ -68,11 +65,10 @@ returns-then-not-goes_on g c =
     let before = c.loop-found.invariant in
     let seen : text_left_of c.args.haystack.now c.loop-found.matches
     ≡ c.in-Some.found ∷ text_left_of c.args.haystack.now c.next_whole.new.matches = c.in-Some.ensures.gives in
-    let stop : c.in_ok-goes_on.goes_on ≡ false = search rules in
-    let can : g.A.Automaton.supports c.args.automaton.now No = search rules in (
-      can,
+    (
+      unanchored (g.A.Automaton.supports c.args.automaton.now) c.in_ok-matches.ensures.answer.0 c.new.ensures,
       comes-to_false _ _ _ _ _ _ _ _ _ before.comes _ _ seen _ _
-          (told c.call.ensures (c.in_ok-goes_on.was ∙ ap Ok stop)
+          (told c.call.ensures (c.in_ok-goes_on.was ∙ ap Ok c.if-not-goes_on.true)
           (c.range-matched.ensures.value ∙ rw (c.end-at.ensures.value, c.start-in-Some.ensures.value))
           (c.in_ok-push_str.ensures.bytes ∙ rw (c.range.ensures.value, c.start.ensures.value)))
           c.in_ok-push_str-2.ensures.bytes
@@ -84,13 +80,11 @@ returns-in_err-push_str-2 g c =
     let before = c.loop-found.invariant in
     let seen : text_left_of c.args.haystack.now c.loop-found.matches
     ≡ c.in-Some.found ∷ text_left_of c.args.haystack.now c.next_whole.new.matches = c.in-Some.ensures.gives in
-    let stop : c.in_ok-goes_on.goes_on ≡ false = search rules in
     let p = err_from_is_err_and c.from_residual-in_err-push_str-2.result c.from_residual-in_err-push_str-2.ensures.1 in
-    let can : g.A.Automaton.supports c.args.automaton.now No = search rules in
     rw (p.1, p.2) (
-      can,
+      unanchored (g.A.Automaton.supports c.args.automaton.now) c.in_ok-matches.ensures.answer.0 c.new.ensures,
       comes-to_false_refused _ _ _ _ _ _ _ _ _ before.comes _ _ seen _ _ _
-          (told c.call.ensures (c.in_ok-goes_on.was ∙ ap Ok stop)
+          (told c.call.ensures (c.in_ok-goes_on.was ∙ ap Ok c.if-not-goes_on.true)
           (c.range-matched.ensures.value ∙ rw (c.end-at.ensures.value, c.start-in-Some.ensures.value))
           (c.in_ok-push_str.ensures.bytes ∙ rw (c.range.ensures.value, c.start.ensures.value)))
           c.in_err-push_str-2.ensures.bytes,

@@ -1,11 +1,10 @@
 -- Each call of the closure extends the chain by one.
-use Rattle.std.proofs.Common.{◌≡◌, ◌∷◌, drop, refl, ap, ◌∙◌, arith, rules, true, false, Ok}
+use Rattle.std.proofs.Common.{◌≡◌, ◌∷◌, drop, refl, ap, ◌∙◌, arith, Ok}
 use Rattle.std.proofs.lemmas.List.{take_rest}
 use Rattle.std.proofs.lemmas.Result.{err_from_is_err_and}
-use Rattle.ac_input.specs.declared.search.Anchored.TheVariants.{No}
 use Rattle.ac_automaton.specs.InMemory.Iter.{left_of}
 use Rattle.ac_automaton.specs.InMemory.Replace.{matches_in}
-use Rattle.ac_automaton.proofs.lemmas.ReplaceLemmas.{matches-lie, lies-first, same-input}
+use Rattle.ac_automaton.proofs.lemmas.ReplaceLemmas.{matches-lie, lies-first, same-input, unanchored}
 use Rattle.ac_automaton.proofs.in_memory.replace.ReplacerLemmas.{callable-next, replied, refused, comes-first, comes-further, comes-to_false, comes-to_false_refused, comes-to_call_refused}
 use Rattle.ac_automaton.proofs.in_memory.replace.replace_all_with_bytes.Goals as goal
 
@@ -32,14 +31,13 @@ loop-found-preserved g c =
     let before = c.loop-found.invariant in
     let seen : left_of c.loop-found.matches ≡ c.in-Some.found ∷ left_of c.next.new.self = c.in-Some.ensures.steps in
     let lies = lies-first seen before.lies in
-    let go : c.in_ok-goes_on.goes_on ≡ true = search rules in
     record {
       callable = callable-next before.callable lies.0 c.replace_with.ensures;
       lies = rw c.end-at.ensures.value lies.4;
       within = rw c.end-at.ensures.value lies.3;
       comes = rw c.end-at.ensures.value
           (comes-further _ _ _ _ _ _ _ _ _ before.comes _ _ seen _ _
-          (replied c.replace_with.ensures (c.in_ok-goes_on.was ∙ ap Ok go) refl
+          (replied c.replace_with.ensures (c.in_ok-goes_on.was ∙ ap Ok c.if-not-goes_on.false) refl
           (rw (c.end-at.ensures.value, c.start-in-Some.ensures.value))
           (c.in_ok-extend_from_slice.ensures.items ∙ rw c.start.ensures.value)));
     }
@@ -49,9 +47,8 @@ returns-in_err-goes_on g c =
     let before = c.loop-found.invariant in
     let seen : left_of c.loop-found.matches ≡ c.in-Some.found ∷ left_of c.next.new.self = c.in-Some.ensures.steps in
     let p = err_from_is_err_and c.from_residual-in_err-goes_on.result c.from_residual-in_err-goes_on.ensures.1 in
-    let can : g.A.Automaton.supports c.args.automaton.now No = search rules in
     rw (p.1, p.2) (
-      can,
+      unanchored (g.A.Automaton.supports c.args.automaton.now) c.in_ok-matches.ensures.answer.0 c.new.ensures,
       comes-to_call_refused _ _ _ _ _ _ _ _ _ before.comes _ _ seen _ _
           (refused c.replace_with.ensures c.in_err-goes_on.was refl
           (rw (c.end-at.ensures.value, c.start-in-Some.ensures.value))
@@ -62,11 +59,10 @@ pub returns-then-not-goes_on : goal.returns-then-not-goes_on
 returns-then-not-goes_on g c =
     let before = c.loop-found.invariant in
     let seen : left_of c.loop-found.matches ≡ c.in-Some.found ∷ left_of c.next.new.self = c.in-Some.ensures.steps in
-    let stop : c.in_ok-goes_on.goes_on ≡ false = search rules in
-    let can : g.A.Automaton.supports c.args.automaton.now No = search rules in (
-      can,
+    (
+      unanchored (g.A.Automaton.supports c.args.automaton.now) c.in_ok-matches.ensures.answer.0 c.new.ensures,
       comes-to_false _ _ _ _ _ _ _ _ _ before.comes _ _ seen _ _
-          (replied c.replace_with.ensures (c.in_ok-goes_on.was ∙ ap Ok stop) refl
+          (replied c.replace_with.ensures (c.in_ok-goes_on.was ∙ ap Ok c.if-not-goes_on.true) refl
           (rw (c.end-at.ensures.value, c.start-in-Some.ensures.value))
           (c.in_ok-extend_from_slice.ensures.items ∙ rw c.start.ensures.value))
           c.in_ok-extend_from_slice-2.ensures.items
@@ -77,14 +73,12 @@ pub returns-in_err-extend_from_slice-2 : goal.returns-in_err-extend_from_slice-2
 returns-in_err-extend_from_slice-2 g c =
     let before = c.loop-found.invariant in
     let seen : left_of c.loop-found.matches ≡ c.in-Some.found ∷ left_of c.next.new.self = c.in-Some.ensures.steps in
-    let stop : c.in_ok-goes_on.goes_on ≡ false = search rules in
     let p = err_from_is_err_and c.from_residual-in_err-extend_from_slice-2.result
     c.from_residual-in_err-extend_from_slice-2.ensures.1 in
-    let can : g.A.Automaton.supports c.args.automaton.now No = search rules in
     rw (p.1, p.2) (
-      can,
+      unanchored (g.A.Automaton.supports c.args.automaton.now) c.in_ok-matches.ensures.answer.0 c.new.ensures,
       comes-to_false_refused _ _ _ _ _ _ _ _ _ before.comes _ _ seen _ _ _
-          (replied c.replace_with.ensures (c.in_ok-goes_on.was ∙ ap Ok stop) refl
+          (replied c.replace_with.ensures (c.in_ok-goes_on.was ∙ ap Ok c.if-not-goes_on.true) refl
           (rw (c.end-at.ensures.value, c.start-in-Some.ensures.value))
           (c.in_ok-extend_from_slice.ensures.items ∙ rw c.start.ensures.value))
           c.in_err-extend_from_slice-2.ensures.items,

@@ -1,5 +1,6 @@
 -- The list of a state is looked at, one entry after another, to the first whole word.
 use Rattle.std.proofs.Common.{◌≡◌, ◌-◌, ◌<◌, ◌≤◌, ⊎_elim, length, sym, ap, subst, ◌∙◌, arith}
+use Rattle.std.proofs.lemmas.Grind.{common_steps}
 use Rattle.std.proofs.lemmas.Bool.{cases_lt, false≢true}
 use Rattle.ac_input.specs.declared.search.Anchored.TheVariants.{No}
 use Rattle.ac_input.specs.Tells.{ending_at}
@@ -113,3 +114,15 @@ returns g c x is stands =
     longest-none (g.A.Automaton.built a).dictionary x p.at stands.within c.requires.standard
     (g.A.Automaton.matches a p.sid) (g.met.A.Automaton.tells a No _ p.sid stands.reads)
     c.loop-index.index (let t = c.loop-index-test.false in omega arith) (c.loop-index.invariant x is stands)
+
+pub is_match-requires : goal.is_match-requires
+is_match-requires g c = grind (arith, common_steps)
+
+pub pattern_len-requires : goal.pattern_len-requires
+pattern_len-requires g c = grind (arith, common_steps)
+
+pub match_len-index-end-requires-clause-valid : goal.match_len-index-end-requires-clause-valid
+match_len-index-end-requires-clause-valid g c = grind (arith, common_steps)
+
+pub match_pattern-pattern-requires-clause-valid : goal.match_pattern-pattern-requires-clause-valid
+match_pattern-pattern-requires-clause-valid g c = grind (arith, common_steps)

@@ -1,5 +1,6 @@
 -- What is masked where the walk stops, and as it reads on.
 use Rattle.std.proofs.Common.{◌≡◌, ◌+◌, true, length, sym, ap, subst, ◌∙◌, arith}
+use Rattle.std.proofs.lemmas.Grind.{common_steps}
 use Rattle.ac_input.specs.declared.search.Anchored.TheVariants.{No}
 use Rattle.ac_automaton.specs.Masking.Words.{HasMaskedWords, known_to}
 use Rattle.ac_automaton.proofs.masking.words.CostLemmas.{costs-then}
@@ -73,3 +74,6 @@ returns-clause-masks g c x is stands =
 
 pub returns-clause-cost : goal.returns-clause-cost
 returns-clause-cost g c x is stands = (c.loop-place.invariant.cost x is stands).1
+
+pub read_on-requires-clause-stands : goal.read_on-requires-clause-stands
+read_on-requires-clause-stands g c = grind (arith, common_steps)

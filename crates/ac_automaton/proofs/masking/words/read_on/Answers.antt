@@ -1,5 +1,6 @@
 -- It passes no place where an occurrence ends.
 use Rattle.std.proofs.Common.{length, take, ap, subst, ◌∙◌, arith}
+use Rattle.std.proofs.lemmas.Grind.{common_steps}
 use Rattle.ac_input.specs.declared.search.Anchored.TheVariants.{No}
 use Rattle.ac_input.proofs.lemmas.OrderLemmas.{slice_range-length}
 use Rattle.ac_automaton.specs.Automaton.{AdvancesToMatch, IsReadCost}
@@ -30,3 +31,15 @@ returns-clause-cost g c x is stands =
     reading-costs (g.A.Automaton.built a) (g.A.Automaton.Reaches a) stands stop.taken (omega arith)
     (subst (λ l. IsReadCost (g.A.Automaton.built a) (g.A.Automaton.Reaches a) No p.sid (take stop.taken l) c.args.steps.now
     c.advance_to_match-stop.new.steps) rest c.advance_to_match-stop.ensures.cost)
+
+pub returns-clause-further : goal.returns-clause-further
+returns-clause-further g c = grind (arith, common_steps)
+
+pub slice_bounds-left-count : goal.slice_bounds-left-count
+slice_bounds-left-count g c = grind (arith, common_steps)
+
+pub slice_bounds-left-start : goal.slice_bounds-left-start
+slice_bounds-left-start g c = grind (arith, common_steps)
+
+pub advance_to_match-stop-requires : goal.advance_to_match-stop-requires
+advance_to_match-stop-requires g c = grind (arith, common_steps)

@@ -1,5 +1,6 @@
 -- One read after another is masked and written, up to the end.
 use Rattle.std.proofs.Common.{◌≡◌, ◌≢◌, ◌<◌, [], length, Err, refl, ap, subst, ◌∙◌, arith, length-append}
+use Rattle.std.proofs.lemmas.Grind.{common_steps}
 use Rattle.std.proofs.lemmas.Bool.Decides.{nat_tests}
 use Rattle.std.proofs.lemmas.Result.{err_from_is_err_and}
 use Rattle.ac_automaton.specs.Stream.Devices.Moved.{HasTaken}
@@ -116,3 +117,6 @@ pub returns-clause-begun : goal.returns-clause-begun
 returns-clause-begun g c =
     wrote-begun g.W.Write.contents c.loop-writer.writer c.write_whole-2.new.writer c.ready-2.result.now
     c.write_whole-2.result c.write_whole-2.ensures.took
+
+pub returns-in_err-write_whole-clause-cost : goal.returns-in_err-write_whole-clause-cost
+returns-in_err-write_whole-clause-cost g c = grind (arith, common_steps)

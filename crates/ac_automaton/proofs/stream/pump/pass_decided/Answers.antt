@@ -1,4 +1,6 @@
 -- One item after another is passed, and then the text up to the cut.
+use Rattle.std.proofs.Common.{arith}
+use Rattle.std.proofs.lemmas.Grind.{common_steps}
 use Rattle.std.proofs.lemmas.Result.{err_from_is_err_and}
 use Rattle.ac_automaton.proofs.stream.PumpLemmas.{PassesItems-none, PassesItems-then, StopsPassing-then, cut-passed, cut-stopped, item-held, item-passed, item-refused, none-passed}
 use Rattle.ac_automaton.proofs.stream.PlacedLemmas.{cut-placed}
@@ -113,3 +115,12 @@ returns-clause-goes g c = (
       c.loop-item.invariant.counted c.in_default.ensures.goes.0,
   c.in_default.ensures.goes.1,
 )
+
+pub between-requires : goal.between-requires
+between-requires g c = grind (arith, common_steps)
+
+pub loop-item-smaller : goal.loop-item-smaller
+loop-item-smaller g c = grind (arith, common_steps)
+
+pub pass-requires : goal.pass-requires
+pass-requires g c = grind (arith, common_steps)

@@ -1,5 +1,6 @@
 -- All that is decided is passed before each read, and the rest at the end.
-use Rattle.std.proofs.Common.{◌≡◌, ◌++◌, ap, refl, subst, sym}
+use Rattle.std.proofs.Common.{◌≡◌, ◌++◌, ap, refl, subst, sym, arith}
+use Rattle.std.proofs.lemmas.Grind.{common_steps}
 use Rattle.std.proofs.lemmas.Result.{err_from_is_err_and}
 use Rattle.ac_automaton.specs.Stream.{StreamCounts, StreamProgress}
 use Rattle.ac_automaton.proofs.stream.devices.MovedLemmas.{still-open}
@@ -178,3 +179,9 @@ returns-clause-read g c =
     (StreamCounts-then s v u c.args.steps.now c.read_on.new.steps c.pass_decided-2.new.steps
     (subst (λ w. StreamCounts s w c.args.steps.now c.read_on.new.steps) (sym c.close.ensures.closed) counts)
     c.pass_decided-2.ensures.goes.0) c.pass_decided-2.ensures.goes.1 c.in_ok-cut.ensures.passes.1.all.searched
+
+pub pass_decided-requires-2-clause-placed : goal.pass_decided-requires-2-clause-placed
+pass_decided-requires-2-clause-placed g c = grind (arith, common_steps)
+
+pub pass_decided-requires-clause-placed : goal.pass_decided-requires-clause-placed
+pass_decided-requires-clause-placed g c = grind (arith, common_steps)

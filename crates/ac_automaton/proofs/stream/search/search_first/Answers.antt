@@ -1,5 +1,6 @@
 -- A search over what is held goes on to the next match, or to the end.
-use Rattle.std.proofs.Common.{◌≡◌, ℕ, List, Option, None, drop, ◌+◌, ◌-◌, ap, sym, subst, refl, ◌∙◌, true, false, Some}
+use Rattle.std.proofs.Common.{◌≡◌, ℕ, List, Option, None, drop, ◌+◌, ◌-◌, ap, sym, subst, refl, ◌∙◌, true, false, Some, arith}
+use Rattle.std.proofs.lemmas.Grind.{common_steps}
 use Rattle.std.specs.Prelude.{option_map, slice_get}
 use Rattle.std.proofs.lemmas.Bool.{false≢true}
 use Rattle.ac_input.specs.declared.search.Anchored.TheVariants.{No}
@@ -256,3 +257,12 @@ returns-clause-ahead g c =
     stop.ensures.goes stop.ensures.cost.2 c.is_match.ensures c.if-is_match.false) in
     ahead-on g.A.Automaton a c.args.start p held stop.result.taken stop.result.sid stop.new.ahead
     (held-ordered _ _ _ _ _ _ c.requires.walk.1) (stops.none refl).1 stop.ensures.ahead
+
+pub advance_to_match-stop-requires-clause-reached : goal.advance_to_match-stop-requires-clause-reached
+advance_to_match-stop-requires-clause-reached g c = grind (arith, common_steps)
+
+pub advance_to_match-stop-requires-clause-within : goal.advance_to_match-stop-requires-clause-within
+advance_to_match-stop-requires-clause-within g c = grind (arith, common_steps)
+
+pub overflow_add-progress : goal.overflow_add-progress
+overflow_add-progress g c = grind (arith, common_steps)

@@ -1,5 +1,6 @@
 -- The list of a state is looked at, one entry after another, up to the next whole word.
 use Rattle.std.proofs.Common.{◌≡◌, ◌⊎◌, ◌+◌, ◌-◌, ◌<◌, ◌≤◌, [], ◌∷◌, ◌++◌, true, length, sym, ap, subst, ◌∙◌, arith}
+use Rattle.std.proofs.lemmas.Grind.{common_steps}
 use Rattle.std.proofs.lemmas.Bool.{false≢true}
 use Rattle.ac_input.specs.declared.search.Anchored.TheVariants.{No}
 use Rattle.ac_input.specs.Tells.{ending_at}
@@ -111,3 +112,9 @@ returns-clause-tells g c x given stands =
     ] in
     let test = c.loop-place-test.false in
     (there.1, omega arith)
+
+pub is_match-requires : goal.is_match-requires
+is_match-requires g c = grind (arith, common_steps)
+
+pub match_len-len-requires-clause-valid : goal.match_len-len-requires-clause-valid
+match_len-len-requires-clause-valid g c = grind (arith, common_steps)

@@ -1,5 +1,6 @@
 -- It stands right where it has read on to.
 use Rattle.std.proofs.Common.{◌≡◌, ◌-◌, length, take, drop, slice_range, sym, ap, subst, ◌∙◌, arith, length-drop}
+use Rattle.std.proofs.lemmas.Grind.{common_steps}
 use Rattle.std.proofs.lemmas.List.{take_all}
 use Rattle.ac_input.specs.declared.search.Anchored.TheVariants.{No}
 use Rattle.ac_automaton.specs.Automaton.{AdvancesToMatch, IsReadCost}
@@ -45,3 +46,6 @@ returns-clause-cost g c x given stands =
     (subst (λ l. g.A.Automaton.Reaches a No l p.sid) (from-first x p.at) stands.1.reads)
     (subst (λ l. IsReadCost b (g.A.Automaton.Reaches a) No p.sid (take stop.taken l) c.args.steps.now
     c.advance_to_match-stop.new.steps) part c.advance_to_match-stop.ensures.cost)
+
+pub advance_to_match-stop-requires : goal.advance_to_match-stop-requires
+advance_to_match-stop-requires g c = grind (arith, common_steps)

@@ -1,5 +1,6 @@
 -- The state where the call stops has the match, or the span ends there.
 use Rattle.std.proofs.Common.{rules, refl, [], ◌≤◌, length, None, Some, sym, ◌∙◌, arith}
+use Rattle.std.proofs.lemmas.Grind.{common_steps}
 use Rattle.std.proofs.lemmas.Bool.{false≢true}
 use Rattle.ac_input.specs.declared.search.Anchored.TheVariants.{No}
 use Rattle.ac_automaton.specs.Automaton.{IsFindCost, IsFound, searched}
@@ -104,3 +105,6 @@ returns-clause-ahead g c =
     ahead-match c.args.start stop.result.sid c.first_match.result
     (c.is_match.ensures.0 c.if-not-is_match.false) (rw c.start-3.ensures at c.first_match.ensures)
     (rw (c.haystack.ensures, c.end-2.ensures.value, c.start-2.ensures) at stop.ensures.ahead)
+
+pub overflow_add-at : goal.overflow_add-at
+overflow_add-at g c = grind (arith, common_steps)

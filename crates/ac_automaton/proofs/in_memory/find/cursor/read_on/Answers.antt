@@ -1,5 +1,6 @@
 -- How one call of `advance` moves the cursor.
 use Rattle.std.proofs.Common.{◌<◌, List, ℕ, length, slice_range, arith}
+use Rattle.std.proofs.lemmas.Grind.{common_steps}
 use Rattle.ac_input.specs.Number.{StateID}
 use Rattle.ac_input.proofs.lemmas.OrderLemmas.{slice_range-length}
 use Rattle.ac_automaton.proofs.lemmas.CursorLemmas.{cursor-read, cursor-read_on}
@@ -37,3 +38,6 @@ returns-clause-on g c =
     (λ (text : List ℕ) (state : StateID) (reads : g.A.Automaton.Reaches a asked.anchored text state).
     g.met.A.Automaton.stops a asked.anchored text state reads)
     plain cost
+
+pub advance-advance-requires : goal.advance-advance-requires
+advance-advance-requires g c = grind (arith, common_steps)

@@ -1,5 +1,6 @@
 -- How one call of `advance_to_match` moves the cursor.
 use Rattle.std.proofs.Common.{◌+◌, ◌<◌, ◌≤◌, List, ℕ, length, slice_range, subst, sym, arith}
+use Rattle.std.proofs.lemmas.Grind.{common_steps}
 use Rattle.ac_input.specs.declared.search.Anchored.TheVariants.{No}
 use Rattle.ac_input.specs.Number.{StateID}
 use Rattle.ac_input.proofs.lemmas.OrderLemmas.{slice_range-length}
@@ -77,3 +78,9 @@ returns-clause-on g c =
     (λ (text : List ℕ) (state : StateID) (reads : g.A.Automaton.Reaches a No text state).
     g.met.A.Automaton.tells a No text state reads)
     plain cost)
+
+pub overflow_add-result : goal.overflow_add-result
+overflow_add-result g c = grind (arith, common_steps)
+
+pub advance_to_match-advance-requires : goal.advance_to_match-advance-requires
+advance_to_match-advance-requires g c = grind (arith, common_steps)

@@ -1,5 +1,6 @@
 -- The next pick of the rest of the input is the walk's next pick.
-use Rattle.std.proofs.Common.{rules}
+use Rattle.std.proofs.Common.{rules, arith}
+use Rattle.std.proofs.lemmas.Grind.{common_steps}
 use Rattle.ac_automaton.proofs.in_memory.iter.IterLemmas.{idle-cost, pick-costs, pick-of_walk}
 use Rattle.ac_automaton.proofs.in_memory.iter.FindIter.next_counted.Goals as goal
 
@@ -30,3 +31,6 @@ returns-in-None-clause-cost g c =
 pub returns-then-is_done-clause-cost : goal.returns-then-is_done-clause-cost
 returns-then-is_done-clause-cost g c =
     rw (← c.self.view_is) (idle-cost _ (search rules) c.self.invariant.2 c.self.invariant.3)
+
+pub invariant_of-self : goal.invariant_of-self
+invariant_of-self g c = grind (arith, common_steps)

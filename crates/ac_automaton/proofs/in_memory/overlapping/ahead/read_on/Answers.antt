@@ -1,5 +1,6 @@
 -- How reading on by notes moves the cursor.
-use Rattle.std.proofs.Common.{◌+◌, None, take, subst}
+use Rattle.std.proofs.Common.{◌+◌, None, take, subst, arith}
+use Rattle.std.proofs.lemmas.Grind.{common_steps}
 use Rattle.ac_input.specs.declared.search.Anchored.TheVariants.{No}
 use Rattle.ac_automaton.specs.InMemory.Find.Ahead.{IsAheadOf}
 use Rattle.ac_automaton.proofs.in_memory.overlapping.OverlappingAheadLemmas.{cursor-read_ahead, onward-stays}
@@ -38,3 +39,6 @@ returns-clause-ahead g c =
     subst (λ sid. IsAheadOf g.A.Automaton a None (take c.args.input.now.span.end c.args.input.now.haystack)
     (c.args.cursor.at + stop.result.taken) sid stop.new.ahead) (onward-stays (g.A.Automaton.matches a) stop.result.sid)
     there
+
+pub overflow_add-result : goal.overflow_add-result
+overflow_add-result g c = grind (arith, common_steps)

@@ -1,5 +1,6 @@
 -- One read after another is masked and written, up to the end.
 use Rattle.std.proofs.Common.{◌≡◌, ◌<◌, ◌≤◌, true, false, nat_eq, List, ℕ, ◌++◌, length, sym, ap, subst, ◌∙◌, arith, length-append}
+use Rattle.std.proofs.lemmas.Grind.{common_steps}
 use Rattle.std.specs.List.{concat}
 use Rattle.std.proofs.lemmas.Bool.Decides.{nat_tests}
 use Rattle.std.proofs.lemmas.Result.{err_from_is_err_and}
@@ -225,3 +226,6 @@ loop-n-preserved g c =
     (cost_is g at.After-mask_new) c.cut_after-cut.result c.between-in-loop-n.result.now cut.0 cut.1
     (omega (arith, held, few)) c.between-in-loop-n.ensures
     (taken-all c.in_ok-write_whole.ensures.took c.write_whole-in-loop-n.ensures.reads))
+
+pub fill-requires-clause-fits : goal.fill-requires-clause-fits
+fill-requires-clause-fits g c = grind (arith, common_steps)

@@ -1,5 +1,6 @@
 -- The next entry of a state's list is no longer than what was read.
 use Rattle.std.proofs.Common.{◌≡◌, ◌-◌, Some, ap, subst, refl, ◌∙◌, arith}
+use Rattle.std.proofs.lemmas.Grind.{common_steps}
 use Rattle.ac_input.specs.declared.search.Anchored.TheVariants.{No}
 use Rattle.ac_input.specs.declared.search.MatchKind.TheVariants.{Standard}
 use Rattle.ac_automaton.specs.Stream.Overlapping.Search.{searched_by}
@@ -36,3 +37,9 @@ returns g c = (
   c.match_pattern-pattern.ensures.value,
   c.match_pattern-pattern.ensures.known,
 )
+
+pub pattern_len-requires : goal.pattern_len-requires
+pattern_len-requires g c = grind (arith, common_steps)
+
+pub match_pattern-pattern-requires-clause-valid : goal.match_pattern-pattern-requires-clause-valid
+match_pattern-pattern-requires-clause-valid g c = grind (arith, common_steps)

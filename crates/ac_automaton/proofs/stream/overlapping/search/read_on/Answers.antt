@@ -1,5 +1,6 @@
 -- A search reads on to the next state that matches.
 use Rattle.std.proofs.Common.{◌≡◌, ◌≤◌, ◌+◌, ◌-◌, None, subst, arith}
+use Rattle.std.proofs.lemmas.Grind.{common_steps}
 use Rattle.ac_input.specs.declared.search.Anchored.TheVariants.{No}
 use Rattle.ac_automaton.specs.InMemory.Find.Ahead.{IsAheadOf}
 use Rattle.ac_automaton.proofs.lemmas.CursorLemmas.{reached-on, reached-state}
@@ -52,3 +53,6 @@ returns-clause-ahead g c =
     subst (λ n. IsAheadOf g.A.Automaton a None c.args.held.now n stop.result.sid stop.new.ahead) at
     (subst (λ sid. IsAheadOf g.A.Automaton a None c.args.held.now (place.at - place.from + stop.result.taken) sid
     stop.new.ahead) (onward-stays (g.A.Automaton.matches a) stop.result.sid) stop.ensures.ahead)
+
+pub overflow_add-result : goal.overflow_add-result
+overflow_add-result g c = grind (arith, common_steps)

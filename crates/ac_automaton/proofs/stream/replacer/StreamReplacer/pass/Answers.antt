@@ -1,5 +1,6 @@
 -- The next slice is the text read up to the place, or the replacement of the match that begins there.
-use Rattle.std.proofs.Common.{◌≡◌, ◌≤◌, None, Some, sym, ap, subst, ◌∙◌}
+use Rattle.std.proofs.Common.{◌≡◌, ◌≤◌, None, Some, sym, ap, subst, ◌∙◌, arith}
+use Rattle.std.proofs.lemmas.Grind.{common_steps}
 use Rattle.ac_automaton.specs.Stream.{AreAllGiven, CanBeCounted, read_by}
 use Rattle.ac_automaton.specs.Stream.Replacer.{TakesPart, ends_there, decided_to}
 use Rattle.ac_automaton.specs.declared.stream.replacer.Part.TheVariants.{Text, Replacement}
@@ -52,3 +53,9 @@ returns-in_default g c =
           (subst (λ k. k ≤ c.self.inside.at) (c.place-to.ensures ∙ ap (λ r. decided_to r.search r.met r.finished) was)
           c.if-self-to.false),
     )
+
+pub pattern-requires : goal.pattern-requires
+pattern-requires g c = grind (arith, common_steps)
+
+pub invariant_of-self-2 : goal.invariant_of-self-2
+invariant_of-self-2 g c = grind (arith, common_steps)

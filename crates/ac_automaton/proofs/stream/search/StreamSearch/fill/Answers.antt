@@ -1,5 +1,6 @@
 -- The bytes of a read are held after the bytes held before.
 use Rattle.std.proofs.Common.{[], ◌-◌, ◌∙◌, ap, length, nat_lt, subst, sym, arith}
+use Rattle.std.proofs.lemmas.Grind.{common_steps}
 use Rattle.std.proofs.lemmas.List.{take_rest}
 use Rattle.ac_input.specs.Number.{usize_max}
 use Rattle.ac_automaton.specs.Stream.{HasRead, IsSearched}
@@ -96,3 +97,12 @@ returns-clause-read g c =
 
 pub returns-clause-kept : goal.returns-clause-kept
 returns-clause-kept g c = (kept g (goal.at.returns-clause-kept g c).After-and-self-inside-2).0
+
+pub fill-requires-clause-room : goal.fill-requires-clause-room
+fill-requires-clause-room g c = grind (arith, common_steps)
+
+pub overflow_sub-held : goal.overflow_sub-held
+overflow_sub-held g c = grind (arith, common_steps)
+
+pub returns-clause-steps : goal.returns-clause-steps
+returns-clause-steps g c = grind (arith, common_steps)

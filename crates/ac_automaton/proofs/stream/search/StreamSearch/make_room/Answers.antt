@@ -1,5 +1,6 @@
 -- The bytes after the cut are moved to the front.
 use Rattle.std.proofs.Common.{sym, ap, subst, ◌∙◌, length, arith}
+use Rattle.std.proofs.lemmas.Grind.{common_steps}
 use Rattle.ac_automaton.specs.Stream.{IsSearched, cut_of}
 use Rattle.ac_automaton.proofs.stream.StreamAheadLemmas.{forgotten-kept, rolled-long}
 use Rattle.ac_automaton.proofs.stream.StreamSearchLemmas.{roll-right}
@@ -23,3 +24,24 @@ invariant_of-self g c =
     forgotten-kept g.A.Automaton i i.pieces.items cut new i.over (length c.held.result.now) c.forget.new.self
     c.self.invariant (subst IsSearched (sym c.self.view_is) c.requires) settled c.forget.ensures
     (omega (arith, long, held))
+
+pub held-requires : goal.held-requires
+held-requires g c = grind (arith, common_steps)
+
+pub roll-requires-clause-kept : goal.roll-requires-clause-kept
+roll-requires-clause-kept g c = grind (arith, common_steps)
+
+pub returns-else-is_full-clause-room : goal.returns-else-is_full-clause-room
+returns-else-is_full-clause-room g c = grind (arith, common_steps)
+
+pub returns-then-is_full-clause-room : goal.returns-then-is_full-clause-room
+returns-then-is_full-clause-room g c = grind (arith, common_steps)
+
+pub returns-then-is_full-clause-same : goal.returns-then-is_full-clause-same
+returns-then-is_full-clause-same g c = grind (arith, common_steps)
+
+pub returns-then-is_full-clause-counts : goal.returns-then-is_full-clause-counts
+returns-then-is_full-clause-counts g c = grind (arith, common_steps)
+
+pub returns-then-is_full-clause-kept : goal.returns-then-is_full-clause-kept
+returns-then-is_full-clause-kept g c = grind (arith, common_steps)

@@ -1,5 +1,6 @@
 -- Where nothing is taken, the search stays as it is.
-use Rattle.std.proofs.Common.{rules, subst}
+use Rattle.std.proofs.Common.{rules, subst, arith}
+use Rattle.std.proofs.lemmas.Grind.{common_steps}
 use Rattle.std.proofs.lemmas.Bool.{false≢true}
 use Rattle.std.proofs.lemmas.List.{nil_from_length}
 use Rattle.ac_automaton.specs.Stream.{CanBeCounted, IsOnCourse, IsSearched, read_by}
@@ -32,3 +33,6 @@ returns-then-is_empty-clause-pushes g c =
 pub returns-then-is_empty-clause-goes : goal.returns-then-is_empty-clause-goes
 returns-then-is_empty-clause-goes g c =
     (StreamCounts-none c.args.self.now c.args.steps.now, subst IsOnCourse c.self.view_is c.self.invariant.0)
+
+pub returns-clause-pushes : goal.returns-clause-pushes
+returns-clause-pushes g c = grind (arith, common_steps)

@@ -1,5 +1,6 @@
 -- The search waits on from where it stands, until the text is dead or no byte is left.
 use Rattle.std.proofs.Common.{◌≡◌, false, None, Some, ap, refl, sym, subst, ◌∙◌, arith}
+use Rattle.std.proofs.lemmas.Grind.{common_steps}
 use Rattle.std.proofs.lemmas.Bool.{false≢true}
 use Rattle.ac_input.specs.declared.search.Anchored.TheVariants.{No}
 use Rattle.ac_automaton.specs.Stream.Search.{SearchesOn, searched_anew}
@@ -123,3 +124,12 @@ returns g c = record {
       (waited-open g.A.Automaton a (met.tells a No) is (c.loop-at.invariant.waited s is) (omega
       (arith, c.loop-at-test.false)) waits));
 }
+
+pub overflow_add-at : goal.overflow_add-at
+overflow_add-at g c = grind (arith, common_steps)
+
+pub overflow_sub-at : goal.overflow_sub-at
+overflow_sub-at g c = grind (arith, common_steps)
+
+pub overflow_sub-at-in-loop-at : goal.overflow_sub-at-in-loop-at
+overflow_sub-at-in-loop-at g c = grind (arith, common_steps)

@@ -1,5 +1,6 @@
 -- The bytes of a read lie after those held.
 use Rattle.std.proofs.Common.{◌≡◌, ◌+◌, ◌-◌, ◌≤◌, length, take, length-take, length-drop, sym, ap, ◌∙◌, arith}
+use Rattle.std.proofs.lemmas.Grind.{common_steps}
 use Rattle.std.proofs.lemmas.List.{length-take-le}
 use Rattle.ac_automaton.proofs.stream.devices.BufferLemmas.{filled-by, front-more}
 use Rattle.ac_automaton.proofs.stream.devices.MovedLemmas.{given-gave}
@@ -29,3 +30,21 @@ returns-clause-gave g c =
     (ap (λ h. h.keep) is)
     (c.more-self-inside.ensures ∙ ap (λ h. h.read + n) is)
     (ap (λ h. h.moved) is)
+
+pub overflow_add-self : goal.overflow_add-self
+overflow_add-self g c = grind (arith, common_steps)
+
+pub returns-clause-paid : goal.returns-clause-paid
+returns-clause-paid g c = grind (arith, common_steps)
+
+pub invariant_of-self : goal.invariant_of-self
+invariant_of-self g c = grind (arith, common_steps)
+
+pub invariant_of-self-2 : goal.invariant_of-self-2
+invariant_of-self-2 g c = grind (arith, common_steps)
+
+pub returns-in_err-n-clause-gave : goal.returns-in_err-n-clause-gave
+returns-in_err-n-clause-gave g c = grind (arith, common_steps)
+
+pub returns-in_err-n-clause-paid : goal.returns-in_err-n-clause-paid
+returns-in_err-n-clause-paid g c = grind (arith, common_steps)

@@ -1,5 +1,6 @@
 -- The bytes of a read are held after the others.
 use Rattle.std.proofs.Common.{◌≡◌, ◌+◌, ◌-◌, ◌<◌, [], ◌∷◌, ◌++◌, length, nat_lt, refl, sym, ap, subst, ◌∙◌, arith, append-nil}
+use Rattle.std.proofs.lemmas.Grind.{common_steps}
 use Rattle.std.proofs.lemmas.List.{take_rest}
 use Rattle.ac_input.specs.Number.{usize_max}
 use Rattle.ac_input.specs.declared.search.Anchored.TheVariants.{No}
@@ -104,3 +105,6 @@ returns-clause-filled g c =
 
 pub returns-clause-kept : goal.returns-clause-kept
 returns-clause-kept g c = (invariant_of-self-2 g c).course
+
+pub overflow_sub-held : goal.overflow_sub-held
+overflow_sub-held g c = grind (arith, common_steps)

@@ -1,5 +1,6 @@
 -- What came is masked.
 use Rattle.std.proofs.Common.{◌≡◌, ◌+◌, ◌≤◌, length, refl, sym, ap, subst, ◌∙◌, arith}
+use Rattle.std.proofs.lemmas.Grind.{common_steps}
 use Rattle.ac_input.specs.declared.search.Anchored.TheVariants.{No}
 use Rattle.ac_input.specs.Steps.{AreNone}
 use Rattle.ac_input.proofs.lemmas.SomeLemmas.{live-some}
@@ -118,3 +119,9 @@ returns-clause-counts g c =
 
 pub returns-clause-kept : goal.returns-clause-kept
 returns-clause-kept g c = (invariant_of-self g c).course
+
+pub add-requires : goal.add-requires
+add-requires g c = grind (arith, common_steps)
+
+pub mask-stop-requires-clause-reached : goal.mask-stop-requires-clause-reached
+mask-stop-requires-clause-reached g c = grind (arith, common_steps)

@@ -1,5 +1,6 @@
 -- A piece comes after room was made, and is masked.
 use Rattle.std.proofs.Common.{◌≡◌, ◌<◌, length, sym, ap, subst, arith}
+use Rattle.std.proofs.lemmas.Grind.{common_steps}
 use Rattle.std.proofs.lemmas.Bool.Decides.{nat_tests}
 use Rattle.std.proofs.lemmas.Result.{err_from_is_err_and}
 use Rattle.ac_automaton.specs.Stream.{CanBeCounted}
@@ -50,3 +51,6 @@ returns-clause-pushed g c =
     let some : 0 < length c.args.piece.now = grind (arith, nat_tests) in
     append-masked c.append.new.self c.make_room.ensures.made c.args.piece.now
     (appended.1.some (λ none. let e = ap length none in omega (arith, e, some))) appended c.mask_new.ensures.masked
+
+pub returns-then-self-clause-pushed : goal.returns-then-self-clause-pushed
+returns-then-self-clause-pushed g c = grind (arith, common_steps)

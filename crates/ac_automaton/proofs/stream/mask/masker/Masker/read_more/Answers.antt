@@ -1,5 +1,6 @@
 -- One read is made after room was made, and what it returns is masked.
 use Rattle.std.proofs.Common.{◌≡◌, ℕ, List, [], ◌∷◌, length, refl, sym, ap, subst, ◌∙◌, arith}
+use Rattle.std.proofs.lemmas.Grind.{common_steps}
 use Rattle.std.proofs.lemmas.Bool.Decides.{nat_tests}
 use Rattle.std.proofs.lemmas.Result.{err_from_is_err_and}
 use Rattle.ac_automaton.specs.Stream.{CanBeCounted}
@@ -36,3 +37,6 @@ returns-then-n-eq0-clause-read g c =
     nothing : (p : List ℕ) → length p ≡ 0 → p ≡ []
     nothing [] e = refl
     nothing (x ∷ xs) e = absurd (omega (arith, e))
+
+pub returns-clause-read : goal.returns-clause-read
+returns-clause-read g c = grind (arith, common_steps)

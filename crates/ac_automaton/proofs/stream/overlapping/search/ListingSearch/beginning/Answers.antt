@@ -1,5 +1,6 @@
 -- A search that has read nothing stands in the start state.
 use Rattle.std.proofs.Common.{[], false, subst, sym, arith}
+use Rattle.std.proofs.lemmas.Grind.{common_steps}
 use Rattle.ac_input.specs.declared.search.Anchored.TheVariants.{No}
 use Rattle.ac_automaton.specs.Stream.{IsOnCourse, fresh_progress}
 use Rattle.ac_automaton.specs.Stream.Overlapping.Search.{IsListingSearch}
@@ -49,3 +50,6 @@ returns-clause-kept g c =
     let view = fresh-listing-view (g.A.Automaton.built c.args.automaton.now) c.empty.result.items c.zero.result.value
     c.args.start c.list_len.result c.empty.ensures c.zero.ensures c.new.ensures in
     subst IsOnCourse (sym view) (right g c).stands.course
+
+pub list_len-requires : goal.list_len-requires
+list_len-requires g c = grind (arith, common_steps)

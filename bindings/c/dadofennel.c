@@ -19,6 +19,8 @@ extern inline dado_status dado_overlapping_some(const dado_automaton *ac, const 
                                                 dado_match *out, size_t room, size_t *count);
 extern inline dado_status dado_words_some(const dado_automaton *ac, uint32_t kind, const uint8_t *haystack, size_t len, size_t *from,
                                           dado_match *out, size_t room, size_t *count);
+extern inline dado_status dado_overlapping_words_some(const dado_automaton *ac, const uint8_t *haystack, size_t len, dado_place *place,
+                                                      dado_match *out, size_t room, size_t *count);
 extern inline dado_status dado_replace_into(const dado_automaton *ac, const uint8_t *haystack, size_t len,
                                             const dado_bytes *replacements, size_t count, uint8_t *out, size_t room, size_t *needed);
 extern inline void dado_text_free(dado_text *text);
@@ -36,6 +38,7 @@ extern inline dado_status dado_replacer_next(dado_replacer **replacer, const dad
 extern inline dado_status dado_replacer_finish(dado_replacer **replacer);
 extern inline void dado_replacer_free(dado_replacer **replacer);
 extern inline dado_status dado_mask(const dado_automaton *ac, uint8_t *text, size_t len, uint8_t byte);
+extern inline dado_status dado_mask_words(const dado_automaton *ac, uint8_t *text, size_t len, uint8_t byte);
 extern inline dado_status dado_masker_new(const dado_automaton *ac, uint8_t byte, dado_masker **masker);
 extern inline dado_status dado_masker_push(dado_masker **masker, const uint8_t *piece, size_t len, size_t *taken);
 extern inline dado_status dado_masker_ready(dado_masker **masker, dado_bytes *slice);

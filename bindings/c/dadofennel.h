@@ -288,6 +288,9 @@ dado_raw_some dado_raw_walk(const dado_automaton *at, const uint8_t *haystack, s
                             uint32_t anchored, uint32_t earliest, dado_match *out, size_t room);
 dado_raw_listed dado_raw_list(const dado_automaton *at, const uint8_t *haystack, size_t len, size_t start, size_t end,
                               size_t last_start, size_t last_end, uint32_t last_pattern, uint32_t begun, dado_match *out, size_t room);
+dado_raw_listed dado_raw_list_words(const dado_automaton *at, const uint8_t *haystack, size_t len, size_t start, size_t end,
+                                    size_t last_start, size_t last_end, uint32_t last_pattern, uint32_t begun, dado_match *out,
+                                    size_t room);
 dado_raw_given dado_raw_words(const dado_automaton *at, uint32_t kind, const uint8_t *haystack, size_t len, size_t from, dado_match *out,
                               size_t room);
 dado_raw_length dado_raw_replace_into(const dado_automaton *at, const uint8_t *haystack, size_t len, const dado_bytes *replacements,
@@ -308,6 +311,7 @@ dado_raw_length dado_raw_replacer_next(dado_replacer **replacer, const dado_byte
 dado_status dado_raw_replacer_finish(dado_replacer **replacer);
 void dado_raw_replacer_free(dado_replacer **replacer);
 dado_status dado_raw_mask(const dado_automaton *at, uint8_t *text, size_t len, uint8_t byte);
+dado_status dado_raw_mask_words(const dado_automaton *at, uint8_t *text, size_t len, uint8_t byte);
 dado_status dado_raw_masker_new(const dado_automaton *at, uint8_t byte, dado_masker **masker);
 dado_raw_count dado_raw_masker_push(dado_masker **masker, const uint8_t *piece, size_t len);
 dado_raw_length dado_raw_masker_ready(dado_masker **masker, const uint8_t **at);
@@ -547,6 +551,33 @@ DADO_INLINE dado_status dado_words_some(const dado_automaton *ac, uint32_t kind,
     *from = given.from;
     *count = given.count;
     return given.status;
+}
+
+/*
+ * The next whole words of a listing, overlapping ones too, in the order of end, start and number, as many as `out` has room for: the
+ * first `*count` of `room` are written, and `*place` is set to where the listing stands then. They are those occurrences of
+ * dado_overlapping_some that are whole words of the haystack: the bytes beside the span count, too. The place is one of
+ * dado_place_over, and may go from one of both calls to the other.
+ *
+ * DADO_OK: some were written, or `room` is 0. Fewer than `room` means that no word is left. DADO_NONE: none is left. The other statuses
+ * are those of dado_overlapping_some, and after them DADO_EMPTY_PATTERN: one of the patterns is empty. Then `*count` is 0, and `*place`
+ * is unchanged. A place of any content gets one of these statuses. Of `out` the entries from `*count` on may have changed.
+ *
+ * It costs what dado_overlapping_some costs for the occurrences up to the last word that it gives, or for all if fewer than `room` are
+ * written. It takes no memory. Any number of threads at the same time.
+ */
+DADO_INLINE dado_status dado_overlapping_words_some(const dado_automaton *ac, const uint8_t *haystack, size_t len, dado_place *place,
+                                               dado_match *out, size_t room, size_t *count) {
+    dado_raw_listed listed;
+    if (count == NULL) return DADO_BAD_ARGUMENT;
+    *count = 0;
+    if (ac == NULL) return DADO_NO_AUTOMATON;
+    if (place == NULL || (out == NULL && room != 0) || (haystack == NULL && len != 0)) return DADO_BAD_ARGUMENT;
+    listed = dado_raw_list_words(ac, haystack, len, place->start, place->end, place->last.start, place->last.end, place->last.pattern,
+                                 place->begun, out, room);
+    if (listed.status == DADO_OK || listed.status == DADO_NONE) *place = listed.place;
+    *count = listed.count;
+    return listed.status;
 }
 
 /* ---- Replacement ---- */
@@ -837,6 +868,23 @@ DADO_INLINE dado_status dado_mask(const dado_automaton *ac, uint8_t *text, size_
     if (ac == NULL) return DADO_NO_AUTOMATON;
     if (text == NULL && len != 0) return DADO_BAD_ARGUMENT;
     return dado_raw_mask(ac, text, len, byte);
+}
+
+/*
+ * Masks the whole words of a text where it lies: each byte that lies in an occurrence with no word byte beside it becomes `byte`, words
+ * that overlap included, and every other byte stays. What a word byte is stands at dado_words_some; those of the text as it was count. So
+ * where `byte` is a word byte that is in no pattern, and paired with no byte of one, no whole word is left. Else one may be left, or may
+ * have come about, beside a masked byte. An empty pattern masks nothing.
+ *
+ * DADO_OK. DADO_NO_AUTOMATON; DADO_BAD_ARGUMENT: a text that isn't empty is NULL; DADO_NOT_UNANCHORED: the automaton was built for
+ * anchored searches alone; DADO_NOT_STANDARD: it is of a leftmost kind; DADO_NO_MEMORY. The text is unchanged at these.
+ *
+ * It looks at one or two states for each byte, or at one with a DFA. Takes memory until it returns: a copy of the text.
+ */
+DADO_INLINE dado_status dado_mask_words(const dado_automaton *ac, uint8_t *text, size_t len, uint8_t byte) {
+    if (ac == NULL) return DADO_NO_AUTOMATON;
+    if (text == NULL && len != 0) return DADO_BAD_ARGUMENT;
+    return dado_raw_mask_words(ac, text, len, byte);
 }
 
 /*

@@ -154,6 +154,16 @@ int main(void) {
     CHECK(n >= 2);
     made_one = masker, before = held, left = 0;
     CHECK(dado_masker_new(ac, '*', &masker) == DADO_NO_MEMORY && masker == made_one && held == before);
+    for (n = 0;; n++, failed++) {
+        dado_status status;
+        memcpy(out, TEXT, 20);
+        before = held, left = n;
+        status = dado_mask_words(ac, out, 20, '*');
+        left = -1;
+        if (status == DADO_OK || n > 1000) break;
+        CHECK(status == DADO_NO_MEMORY && memcmp(out, TEXT, 20) == 0 && held == before);
+    }
+    CHECK(n >= 1 && memcmp(out, MASKED, 20) == 0 && held == before);
     /* the searches take no memory */
     before = held, left = 0;
     {
@@ -166,6 +176,8 @@ int main(void) {
         CHECK(dado_some(ac, BYTES(TEXT), &cursor, many, 4, &count) == DADO_OK && count == 2);
         CHECK(dado_overlapping_some(ac, BYTES(TEXT), &place, many, 4, &count) == DADO_OK && count == 3);
         CHECK(dado_words_some(ac, DADO_LEFTMOST_LONGEST, BYTES(TEXT), &from, many, 4, &count) == DADO_OK && from > 0);
+        place = dado_place_over(0, 20);
+        CHECK(dado_overlapping_words_some(ac, BYTES(TEXT), &place, many, 4, &count) == DADO_OK && count == 3);
         CHECK(dado_replace_into(ac, BYTES(TEXT), SLOTH, 3, out, sizeof out, &needed) == DADO_OK && needed == strlen(REPLACED));
         CHECK(memcmp(out, REPLACED, needed) == 0);
         CHECK(dado_pattern_len(ac, 1, &count) == DADO_OK && count == 5);

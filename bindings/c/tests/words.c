@@ -1,4 +1,5 @@
-/* Whole words: rows, batches of each size, texts beside a loop that compares each pattern at each place, and each status. */
+/* Whole words, one after another, all of them, and masked: rows, batches of each size, texts beside a loop that compares each pattern at
+ * each place, and each status. */
 #include "check.h"
 
 static const uint32_t KINDS[] = {DADO_STANDARD, DADO_LEFTMOST_FIRST, DADO_LEFTMOST_LONGEST};
@@ -16,6 +17,13 @@ static int is_before(uint32_t kind, const dado_match *a, const dado_match *b) {
     return a->pattern < b->pattern;
 }
 
+/* Whether a pattern is a whole word at a place, which `it` then says. */
+static int is_word(const dado_bytes *patterns, uint32_t n, const uint8_t *at, size_t len, size_t start, dado_match *it) {
+    it->start = start, it->end = start + patterns[n].len, it->pattern = n;
+    if (patterns[n].len > len - start || memcmp(at + start, patterns[n].at, patterns[n].len) != 0) return 0;
+    return !(start > 0 && is_word_byte(at[start - 1])) && !(it->end < len && is_word_byte(at[it->end]));
+}
+
 /* What the next word is: the best of the whole words that begin at `from` or later. */
 static int next_word(uint32_t kind, const dado_bytes *patterns, uint32_t count, const uint8_t *at, size_t len, size_t from, dado_match *best) {
     int found = 0;
@@ -24,13 +32,64 @@ static int next_word(uint32_t kind, const dado_bytes *patterns, uint32_t count, 
     for (start = from; start < len; start++)
         for (n = 0; n < count; n++) {
             dado_match it;
-            it.start = start, it.end = start + patterns[n].len, it.pattern = n;
-            if (patterns[n].len > len - start || memcmp(at + start, patterns[n].at, patterns[n].len) != 0) continue;
-            if ((start > 0 && is_word_byte(at[start - 1])) || (it.end < len && is_word_byte(at[it.end]))) continue;
+            if (!is_word(patterns, n, at, len, start, &it)) continue;
             if (!found || is_before(kind, &it, best)) *best = it;
             found = 1;
         }
     return found;
+}
+
+/* The word of a span that comes after `last`, by end, start and number; the first one if that is NULL. */
+static int word_after(const dado_bytes *patterns, uint32_t count, const uint8_t *at, size_t len, dado_place over, const dado_match *last,
+                      dado_match *next) {
+    int found = 0;
+    size_t start;
+    uint32_t n;
+    for (start = over.start; start < over.end; start++)
+        for (n = 0; n < count; n++) {
+            dado_match it;
+            if (!is_word(patterns, n, at, len, start, &it) || it.end > over.end) continue;
+            if (last != NULL && !is_before(DADO_STANDARD, last, &it)) continue;
+            if (!found || is_before(DADO_STANDARD, &it, next)) *next = it;
+            found = 1;
+        }
+    return found;
+}
+
+/* All words of a span in batches of a size, beside that loop. */
+static void all_alike(const dado_automaton *ac, const dado_bytes *patterns, uint32_t count, const uint8_t *at, size_t len, dado_place over,
+                      size_t room) {
+    static dado_match many[64];
+    dado_place place = over;
+    dado_match last = {0, 0, 0}, wanted = {0, 0, 0};
+    size_t given = 7, i, all = 0;
+    dado_status status;
+    while ((status = dado_overlapping_words_some(ac, at, len, &place, many, room, &given)) == DADO_OK) {
+        CHECK(given >= 1 && given <= room);
+        for (i = 0; i < given; i++, all++) {
+            CHECK(word_after(patterns, count, at, len, over, all == 0 ? NULL : &last, &wanted));
+            CHECK(is(&many[i], wanted.pattern, wanted.start, wanted.end));
+            last = wanted;
+        }
+        CHECK(place.begun != 0 && is(&place.last, last.pattern, last.start, last.end) && place.start == over.start && place.end == over.end);
+    }
+    CHECK(status == DADO_NONE && given == 0);
+    CHECK(!word_after(patterns, count, at, len, over, all == 0 ? NULL : &last, &wanted));
+}
+
+/* A text whose words are masked, beside that loop. */
+static void masked_alike(const dado_automaton *ac, const dado_bytes *patterns, uint32_t count, const uint8_t *at, size_t len, uint8_t byte) {
+    static uint8_t masked[600], wanted[600];
+    size_t start;
+    uint32_t n;
+    if (len != 0) memcpy(masked, at, len), memcpy(wanted, at, len);
+    for (start = 0; start < len; start++)
+        for (n = 0; n < count; n++) {
+            dado_match it;
+            if (is_word(patterns, n, at, len, start, &it)) memset(wanted + start, byte, patterns[n].len);
+        }
+    CHECK(dado_mask_words(ac, masked, len, byte) == DADO_OK);
+    CHECK(memcmp(masked, wanted, len) == 0);
 }
 
 /* The words of a text in batches of a size, beside that loop. */
@@ -89,6 +148,12 @@ static void rows(void) {
             CHECK(count == 0 || many[count - 1].end == from);
             for (room = 1; room <= 3; room++) alike(ac, KINDS[k], rows[i].patterns, rows[i].count, at, len, room);
         }
+        for (room = 1; room <= 3; room++) {
+            all_alike(ac, rows[i].patterns, rows[i].count, at, len, dado_place_over(0, len), room);
+            all_alike(ac, rows[i].patterns, rows[i].count, at, len, dado_place_over(len / 4, len - len / 4), room);
+        }
+        masked_alike(ac, rows[i].patterns, rows[i].count, at, len, '*');
+        masked_alike(ac, rows[i].patterns, rows[i].count, at, len, 'x');
         dado_free(&ac);
     }
 }
@@ -117,8 +182,60 @@ static void texts(void) {
             alike(ac, KINDS[k], words, 6, at, len, 7);
             alike(ac, KINDS[k], words, 6, at, len, 64);
         }
+        all_alike(ac, words, 6, at, len, dado_place_over(0, len), 1);
+        all_alike(ac, words, 6, at, len, dado_place_over(0, len), 64);
+        all_alike(ac, words, 6, at, len, dado_place_over(3, len - 5), 7);
+        masked_alike(ac, words, 6, at, len, '#');
         dado_free(&ac);
     }
+}
+
+/* Words that overlap are all listed, and all masked; a masked byte was still a word byte of the text before. */
+static void overlapping(void) {
+    static const dado_bytes words[] = {WORD("new york"), WORD("york times"), WORD("york")};
+    dado_automaton *ac = NULL;
+    dado_place place = dado_place_over(0, 20);
+    dado_match many[4];
+    uint8_t text[] = "a new york times, yo", beside[] = "york_york york";
+    size_t count = 7;
+    CHECK(dado_build(words, 3, NULL, &ac, NULL) == DADO_OK);
+    CHECK(dado_overlapping_words_some(ac, BYTES("a new york times, yo"), &place, many, 2, &count) == DADO_OK && count == 2);
+    CHECK(is(&many[0], 0, 2, 10) && is(&many[1], 2, 6, 10) && place.begun != 0);
+    /* the place goes on in the listing of all occurrences, too */
+    CHECK(dado_overlapping_some(ac, BYTES("a new york times, yo"), &place, many, 4, &count) == DADO_OK && count == 1 && is(&many[0], 1, 6, 16));
+    CHECK(dado_overlapping_words_some(ac, BYTES("a new york times, yo"), &place, many, 4, &count) == DADO_NONE && count == 0);
+    CHECK(dado_mask_words(ac, text, 20, '*') == DADO_OK && memcmp(text, "a **************, yo", 20) == 0);
+    CHECK(dado_mask_words(ac, beside, 14, 'y') == DADO_OK && memcmp(beside, "york_york yyyy", 14) == 0);
+    dado_free(&ac);
+}
+
+/* Each status of the calls for all words and for masks. */
+static void other_statuses(const dado_automaton *ac, const dado_automaton *leftmost, const dado_automaton *anchored,
+                           const dado_automaton *with_empty) {
+    dado_match many[2];
+    dado_place place = dado_place_over(0, 3), past = dado_place_over(0, 4);
+    uint8_t word[] = {'c', 'a', 't'};
+    size_t count = 7;
+    CHECK(dado_overlapping_words_some(NULL, BYTES("cat"), &place, many, 2, &count) == DADO_NO_AUTOMATON && count == 0);
+    CHECK(dado_overlapping_words_some(ac, BYTES("cat"), NULL, many, 2, &count) == DADO_BAD_ARGUMENT);
+    CHECK(dado_overlapping_words_some(ac, BYTES("cat"), &place, NULL, 2, &count) == DADO_BAD_ARGUMENT);
+    CHECK(dado_overlapping_words_some(ac, BYTES("cat"), &place, many, 2, NULL) == DADO_BAD_ARGUMENT);
+    CHECK(dado_overlapping_words_some(ac, NULL, 3, &place, many, 2, &count) == DADO_BAD_ARGUMENT);
+    CHECK(dado_overlapping_words_some(ac, BYTES("cat"), &place, NULL, 0, &count) == DADO_OK && count == 0 && place.begun == 0);
+    CHECK(dado_overlapping_words_some(anchored, BYTES("cat"), &past, many, 2, &count) == DADO_BAD_CURSOR && count == 0);
+    CHECK(dado_overlapping_words_some(anchored, BYTES("cat"), &place, many, 2, &count) == DADO_NOT_UNANCHORED && count == 0);
+    CHECK(dado_overlapping_words_some(leftmost, BYTES("cat"), &place, many, 2, &count) == DADO_NOT_STANDARD && count == 0);
+    CHECK(dado_overlapping_words_some(with_empty, BYTES("cat"), &place, many, 2, &count) == DADO_EMPTY_PATTERN && count == 0);
+    CHECK(place.begun == 0 && place.start == 0 && place.end == 3);
+    /* what stands beside the span counts */
+    past = dado_place_over(1, 4);
+    CHECK(dado_overlapping_words_some(ac, BYTES("xcat"), &past, many, 2, &count) == DADO_NONE && count == 0);
+    CHECK(dado_mask_words(NULL, word, 3, '*') == DADO_NO_AUTOMATON);
+    CHECK(dado_mask_words(ac, NULL, 3, '*') == DADO_BAD_ARGUMENT && dado_mask_words(ac, NULL, 0, '*') == DADO_OK);
+    CHECK(dado_mask_words(anchored, word, 3, '*') == DADO_NOT_UNANCHORED && memcmp(word, "cat", 3) == 0);
+    CHECK(dado_mask_words(leftmost, word, 3, '*') == DADO_NOT_STANDARD && memcmp(word, "cat", 3) == 0);
+    CHECK(dado_mask_words(with_empty, word, 3, '*') == DADO_OK && memcmp(word, "cat", 3) == 0);
+    CHECK(dado_mask_words(ac, word, 3, '*') == DADO_OK && memcmp(word, "***", 3) == 0);
 }
 
 /* Each status, in the order in which they are tested. */
@@ -153,6 +270,7 @@ static void statuses(void) {
     /* what stands before the place counts beside a word */
     from = 1;
     CHECK(dado_words_some(ac, 2, BYTES("xcat cat"), &from, many, 2, &count) == DADO_OK && count == 1 && is(&many[0], 0, 5, 8));
+    other_statuses(ac, leftmost, anchored, with_empty);
     dado_free(&ac);
     dado_free(&leftmost);
     dado_free(&anchored);
@@ -162,6 +280,7 @@ static void statuses(void) {
 int main(void) {
     rows();
     texts();
+    overlapping();
     statuses();
     return done("words");
 }

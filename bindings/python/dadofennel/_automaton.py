@@ -173,6 +173,16 @@ class Automaton(Generic[AnyStr]):
         source = built.wordable(text)
         return each(built.worded(source, number), source.len <= SHORT)
 
+    def overlapping_words(self, text: Any) -> Iterator[Match]:
+        """All whole words of the text, overlapping ones too, in the order of end, start and number: those of `overlapping` that no word
+        character stands beside.
+
+        What a word character is stands at `find_words`, and this raises `Error` where that does.
+        """
+        built = self._built
+        source = built.wordable(text)
+        return each(built.listed_words(source), source.len <= SHORT)
+
     def replace(self, text: Any, replacements: Replacements[AnyStr]) -> AnyStr:
         """The text with each match of `finditer` replaced.
 
@@ -206,10 +216,7 @@ class Automaton(Generic[AnyStr]):
         `star` is one character, or one byte: `"*"` or `b"*"` if it isn't given. Raises `Error` for an automaton of a leftmost kind,
         and for one that was built for anchored searches alone.
         """
-        built = self._built
-        built.fits(text)
-        is_text = isinstance(text, str)
-        return cast(AnyStr, _mask.masked(built, text, _mask.star_of(("*" if is_text else b"*") if star is None else star, is_text)))
+        return self._masked(text, star, False)
 
     def mask_in_place(self, buffer: Any, star: Any = b"*") -> None:
         """Masks bytes where they lie, as `mask` does: those of a `bytearray`, of a `memoryview` or an `mmap` that can be written.
@@ -217,8 +224,31 @@ class Automaton(Generic[AnyStr]):
         It takes no memory. Raises `TypeError` where the patterns are `str`, `BufferError` where the buffer can't be written, and
         `Error` as `mask` does.
         """
+        self._mask_in_place(buffer, star, False)
+
+    def mask_words(self, text: Any, star: Any = None) -> AnyStr:
+        """The text with each character, or byte, that lies in a whole word replaced by a star.
+
+        A whole word is an occurrence that no word character stands beside, as in `find_words`; all of them count, overlapping ones too.
+        It is `mask` otherwise. A star that is no word character may leave a word beside it, or bring one about.
+        """
+        return self._masked(text, star, True)
+
+    def mask_words_in_place(self, buffer: Any, star: Any = b"*") -> None:
+        """Masks whole words where they lie, as `mask_words` does.
+
+        It takes a copy of the buffer while it runs. Raises what `mask_in_place` does, and `MemoryError`.
+        """
+        self._mask_in_place(buffer, star, True)
+
+    def _masked(self, text: Any, star: Any, words: bool) -> AnyStr:
+        built = self._built
+        built.fits(text)
+        return cast(AnyStr, _mask.masked(built, text, _mask.star_of(star, isinstance(text, str)), words))
+
+    def _mask_in_place(self, buffer: Any, star: Any, words: bool) -> None:
         self._built.fits(buffer)
-        _mask.in_place(self._built, buffer, cast(int, _mask.star_of(star, False)))
+        _mask.in_place(self._built, buffer, cast(int, _mask.star_of(star, False)), words)
 
     def replace_stream(self, reader: Any, writer: Any, replacements: Replacements[AnyStr]) -> int:
         """Writes what `reader` has to `writer`, with each match replaced as by `replace`, and returns how many there were.

@@ -159,6 +159,11 @@ class Built:
 
         return self._batches(some, source, c_size_t(), lambda _, count: count, lambda _: None)
 
+    def listed_words(self, source: Source) -> Iterator[Batch]:
+        """All whole words, in batches."""
+        place = native.Place(source.low, source.high)
+        return self._batches(native.overlapping_words_some, source, place, lambda _, count: count, lambda _: None)
+
     def _batches(self, some: Any, source: Source, cursor: Any, decided: Callable[[native.Room, int], int],
                  goes_on: Callable[[int], None]) -> Iterator[Batch]:
         """What a walk or a listing gives: in a long text one match, then four times as many, and so on.

@@ -98,9 +98,12 @@ some = _declare("dado_some", c_uint32, *_haystack, POINTER(Cursor), c_void_p, c_
 overlapping_some = _declare("dado_overlapping_some", c_uint32, *_haystack, POINTER(Place), c_void_p, c_size_t, POINTER(c_size_t))
 words_some = _declare(
     "dado_words_some", c_uint32, c_void_p, c_uint32, c_void_p, c_size_t, POINTER(c_size_t), c_void_p, c_size_t, POINTER(c_size_t))
+overlapping_words_some = _declare(
+    "dado_overlapping_words_some", c_uint32, *_haystack, POINTER(Place), c_void_p, c_size_t, POINTER(c_size_t))
 replace = _declare("dado_replace", c_uint32, *_haystack, c_void_p, c_size_t, POINTER(Text))
 text_free = _declare("dado_text_free", None, POINTER(Text))
 mask = _declare("dado_mask", c_uint32, *_haystack, c_uint8)
+mask_words = _declare("dado_mask_words", c_uint32, *_haystack, c_uint8)
 stream_new = _declare("dado_stream_new", c_uint32, c_void_p, POINTER(c_void_p))
 stream_push = _declare("dado_stream_push", c_uint32, POINTER(c_void_p), c_void_p, c_size_t, POINTER(c_size_t))
 stream_some = _declare("dado_stream_some", c_uint32, POINTER(c_void_p), c_void_p, c_size_t, POINTER(c_size_t))

@@ -77,20 +77,24 @@ def is_word(it):
     return bool(it) and (it.isalnum() or it in ("_", b"_") or max(it if isinstance(it, bytes) else map(ord, it)) >= 0x80)
 
 
+def all_words(patterns, text, fold=False):
+    """All whole words, by end, start and number."""
+    return [it for it in occurrences(patterns, text, 0, len(text), fold)
+            if not is_word(text[:it.start][-1:]) and not is_word(text[it.end:][:1])]
+
+
 def words(patterns, kind, text, fold=False):
     """The whole words under a kind one after another."""
-    at, found = 0, []
-    whole = [it for it in occurrences(patterns, text, 0, len(text), fold)
-             if not is_word(text[:it.start][-1:]) and not is_word(text[it.end:][:1])]
+    at, found, whole = 0, [], all_words(patterns, text, fold)
     while any(it.start >= at for it in whole):
         found.append(min((it for it in whole if it.start >= at), key=PREFERENCE[kind]))
         at = found[-1].end
     return found
 
 
-def masked(patterns, text, star, fold=False):
-    """The text with each character or byte of each occurrence replaced by the star."""
-    covered = {at for found in occurrences(patterns, text, 0, len(text), fold) for at in range(found.start, found.end)}
+def masked(text, star, found):
+    """The text with each character or byte of these occurrences replaced by the star."""
+    covered = {at for it in found for at in range(it.start, it.end)}
     return text[:0].join(star if at in covered else text[at:at + 1] for at in range(len(text)))
 
 
@@ -146,6 +150,7 @@ class Random(unittest.TestCase):
             if all(patterns):
                 for asked in KINDS:
                     self.assertEqual(list(automaton.find_words(lent, asked)), words(patterns, asked, text, fold), (asked, what))
+                self.assertEqual(list(automaton.overlapping_words(lent)), all_words(patterns, text, fold), what)
         replacements = [f"<{number}é>" for number in range(len(patterns))]
         if isinstance(text, bytes):
             replacements = [it.encode() for it in replacements]
@@ -168,11 +173,16 @@ class Random(unittest.TestCase):
         star = rng.choice(["*", "a", "é", "😀"])
         if isinstance(text, bytes):
             star = star.encode()[:1]
-            buffer = bytearray(text)
-            automaton.mask_in_place(buffer, star[0])
-            self.assertEqual(buffer, masked(patterns, text, star, fold), (star, what))
-        made = automaton.mask(lent, star)
-        self.assertEqual((made, type(made)), (masked(patterns, text, star, fold), type(text)), (star, what))
+        every = masked(text, star, occurrences(patterns, text, 0, len(text), fold))
+        whole = masked(text, star, all_words(patterns, text, fold))
+        if isinstance(text, bytes):
+            for in_place, wanted in ((automaton.mask_in_place, every), (automaton.mask_words_in_place, whole)):
+                buffer = bytearray(text)
+                in_place(buffer, star[0])
+                self.assertEqual(buffer, wanted, (star, what))
+        made, of_words = automaton.mask(lent, star), automaton.mask_words(lent, star)
+        self.assertEqual((made, type(made)), (every, type(text)), (star, what))
+        self.assertEqual((of_words, type(of_words)), (whole, type(text)), (star, what))
         if star in ("*", b"*") and all(patterns):
             self.assertFalse(automaton.is_match(made), what)
 
@@ -426,6 +436,8 @@ class Callers(unittest.TestCase):
             lambda: leftmost.finditer("a", anchored=True), lambda: anchored.find("a"), lambda: anchored.finditer("a"),
             lambda: anchored.overlapping("a"), lambda: leftmost.mask("a"), lambda: anchored.mask("a"),
             lambda: leftmost.find_words("a"), lambda: anchored.find_words("a"), lambda: Automaton(["a", ""]).find_words("a"),
+            lambda: leftmost.overlapping_words("a"), lambda: anchored.overlapping_words("a"),
+            lambda: Automaton(["a", ""]).overlapping_words("a"), lambda: leftmost.mask_words("a"), lambda: anchored.mask_words("a"),
             lambda: anchored.replace("a", ["b"]), lambda: anchored.replace_stream(io.StringIO("a"), io.StringIO(), "b"),
         ):
             self.assertRaises(Error, call)
@@ -464,6 +476,10 @@ class Callers(unittest.TestCase):
             self.assertEqual(list(Automaton(["new", "new york"]).find_words(text.decode(), kind)), [Match(0, 0, 3), last])
         self.assertEqual(list(raw.find_words(text)), [Match(0, 0, 3), Match(0, 12, 15)])
         self.assertEqual(list(Automaton([]).find_words("cat")), [])
+        self.assertEqual(list(raw.overlapping_words(text)), [Match(0, 0, 3), Match(0, 12, 15), Match(1, 12, 20)])
+        for many in ("cat " * 3000, "é cat " * 3000):
+            self.assertEqual(list(cat.overlapping_words(many)), list(cat.find_words(many)))
+        self.assertRaises(TypeError, cat.overlapping_words, b"cat")
         self.assertRaises(ValueError, cat.find_words, "cat", "longest")
         self.assertRaises(TypeError, cat.find_words, b"cat")
         self.assertRaises(TypeError, raw.find_words, "new")
@@ -489,6 +505,22 @@ class Callers(unittest.TestCase):
         self.assertRaises(TypeError, raw.mask, "ab")
         self.assertRaises(TypeError, automaton.mask_in_place, bytearray(b"abc"))
         self.assertRaises(BufferError, raw.mask_in_place, b"ab")
+
+    def test_masked_words(self):
+        automaton = Automaton(["new york", "york times", "été"])
+        self.assertEqual(automaton.mask_words("a new york times, new yorker, été été€"), "a **************, new yorker, *** été€")
+        self.assertEqual(automaton.mask_words("new york.", "█"), "████████.")
+        raw = Automaton([b"cat"])
+        self.assertEqual((raw.mask_words(b"cat cats"), raw.mask_words(bytearray(b"cat cats"), 0)), (b"*** cats", b"\0\0\0 cats"))
+        buffer = bytearray(b"xcat cat.")
+        raw.mask_words_in_place(memoryview(buffer)[1:])
+        self.assertEqual(bytes(buffer), b"x*** ***.")
+        self.assertRaises(ValueError, automaton.mask_words, "new york", "**")
+        self.assertRaises(TypeError, automaton.mask_words, b"new york")
+        self.assertRaises(TypeError, raw.mask_words, b"cat", "*")
+        self.assertRaises(BufferError, raw.mask_words_in_place, b"cat")
+        with unittest.mock.patch.object(native, "mask_words", lambda *arguments: native.NO_MEMORY):
+            self.assertRaises(MemoryError, raw.mask_words, b"cat")
 
     def test_replacements(self):
         automaton = Automaton(["a", "b"])

@@ -2,6 +2,7 @@
 use Rattle.std.specs.Prelude.{◌≡◌, ◌⊎◌, ℕ, true, false, List, [], length, Result, Ok, Err}
 use Rattle.ac_automaton.specs.InMemory.Overlapping.{IsOverlappingRefusal}
 use Rattle.ac_automaton.specs.Masking.{masked_in}
+use Rattle.ac_automaton.specs.Masking.Words.{masked_words_in}
 use Rattle.ac_automaton.specs.Stream.{CanBeCounted, CanStream}
 use Rattle.ac_automaton.specs.Stream.Mask.{MaskProgress, MasksPushed, finished_mask, fresh_mask, passed_to, ready_of}
 use Rattle.ac_automaton.specs.Stream.Overlapping.{IsListingConfigRefusal}
@@ -21,13 +22,22 @@ use Rattle.ac_c.specs.Status.{ok, no_memory, finished, refusal_status}
 
 -- ---- a text where it lies
 
--- The text was masked; or it is unchanged, as the automaton has no search for all that overlap.
-abbrev pub AnswersMasked : AhoCorasick → ℕ → List ℕ → List ℕ → ℕ → Type 0
-AnswersMasked ac byte before after status =
-    (supported_by ac No × ((as_built ac).dictionary.kind ≡ Standard) × (after ≡ masked_in (as_built ac) byte before)
-    × (status ≡ ok))
+-- The text became the masked one; or it is unchanged, as the automaton has no search for all that overlap.
+abbrev pub IsMaskedTo : AhoCorasick → List ℕ → List ℕ → List ℕ → ℕ → Type 0
+IsMaskedTo ac masked before after status =
+    (supported_by ac No × ((as_built ac).dictionary.kind ≡ Standard) × (after ≡ masked) × (status ≡ ok))
     ⊎ ((error : MatchErrorKind) × IsOverlappingRefusal (as_built ac) (supported_by ac) (whole_of []) error
     × (after ≡ before) × (status ≡ refusal_status error))
+
+-- what masking all occurrences returns
+abbrev pub AnswersMasked : AhoCorasick → ℕ → List ℕ → List ℕ → ℕ → Type 0
+AnswersMasked ac byte before after status = IsMaskedTo ac (masked_in (as_built ac) byte before) before after status
+
+-- What masking whole words returns: the same, or there was no memory for a copy of the text, which is unchanged.
+abbrev pub AnswersMaskedWords : AhoCorasick → ℕ → List ℕ → List ℕ → ℕ → Type 0
+AnswersMaskedWords ac byte before after status =
+    IsMaskedTo ac (masked_words_in (as_built ac) byte before) before after status
+    ⊎ (supported_by ac No × ((as_built ac).dictionary.kind ≡ Standard) × (after ≡ before) × (status ≡ no_memory))
 
 -- ---- pieces
 

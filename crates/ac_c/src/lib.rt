@@ -15,10 +15,10 @@ ghost use Rattle.ac_automaton.specs.Stream.{IsOnCourse};
 ghost use Rattle.ac_c.specs.Build.{AnswersBuild, AreDefaults, IsShared};
 ghost use Rattle.ac_c.specs.Find.{AnswersFindIn, bounds};
 ghost use Rattle.ac_c.specs.Lent.{Lent, is_lent, lasting};
-ghost use Rattle.ac_c.specs.List.{AnswersListed, place};
+ghost use Rattle.ac_c.specs.List.{AnswersListed, AnswersListedWords, place};
 ghost use Rattle.ac_c.specs.Found.{found};
 ghost use Rattle.ac_c.specs.Masker.{AnswersMaskEnd, AnswersMaskPush, AnswersMasking, ready_by};
-ghost use Rattle.ac_c.specs.Masking.{AnswersMasked};
+ghost use Rattle.ac_c.specs.Masking.{AnswersMasked, AnswersMaskedWords};
 ghost use Rattle.ac_c.specs.Replace.{AnswersInto, AnswersText};
 ghost use Rattle.ac_c.specs.Replacer.{AnswersPushOn, AnswersReplacing, AnswersSlice, end_by, end_status};
 ghost use Rattle.ac_c.specs.Stream.{AnswersStream, AnswersNext, AnswersPush, finish_by, finish_status, view_by};
@@ -370,6 +370,23 @@ pub unsafe extern "C" fn dado_raw_mask(at: *const Opaque, text: &mut [u8], byte:
     masking::mask(&*ac, text, byte)
 }
 
+/// Masks the whole words of a text where it lies.
+#[unsafe(no_mangle)]
+pub unsafe extern "C" fn dado_raw_mask_words(
+    at: *const Opaque,
+    alloc: Global,
+    text: &mut [u8],
+    byte: u8,
+) -> u32
+    ghost g: { Lent }
+    requires* lent { sem 𝓛 (is_lent at g) }
+    ensures* lasts { sem 𝓛 (lasting g) }
+    ensures answer { AnswersMaskedWords g.automaton byte text.old text.new result }
+{
+    let ac = at as *const AhoCorasick;
+    masking::mask_words(&*ac, alloc, text, byte)
+}
+
 /// The match of a span, if it has one.
 #[unsafe(no_mangle)]
 pub unsafe extern "C" fn dado_raw_find(
@@ -471,6 +488,39 @@ pub unsafe extern "C" fn dado_raw_list(
 {
     let ac = at as *const AhoCorasick;
     list::list(
+        &*ac,
+        haystack,
+        start,
+        end,
+        last_start,
+        last_end,
+        last_pattern,
+        begun,
+        out,
+    )
+}
+
+/// The next whole words of a listing, overlapping ones too.
+#[unsafe(no_mangle)]
+pub unsafe extern "C" fn dado_raw_list_words(
+    at: *const Opaque,
+    haystack: &[u8],
+    start: usize,
+    end: usize,
+    last_start: usize,
+    last_end: usize,
+    last_pattern: u32,
+    begun: u32,
+    out: &mut [Found],
+) -> Listed
+    ghost g: { Lent }
+    requires* lent { sem 𝓛 (is_lent at g) }
+    ensures* lasts { sem 𝓛 (lasting g) }
+    ensures answer { AnswersListedWords g.automaton haystack.now
+        (place start end (found last_start last_end last_pattern) begun) out.old out.new result }
+{
+    let ac = at as *const AhoCorasick;
+    list::list_words(
         &*ac,
         haystack,
         start,

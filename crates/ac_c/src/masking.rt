@@ -8,13 +8,13 @@ ghost use Rattle.ac_automaton.specs.Stream.Mask.{MaskCounts};
 ghost use Rattle.ac_automaton.specs.Stream.Overlapping.{IsListingConfigRefusal};
 ghost use Rattle.ac_automaton.specs.declared.stream.StreamKinds.TheVariants.{OnlyStandard};
 ghost use Rattle.aho_corasick.specs.AhoCorasick.{as_built, supported_by};
-ghost use Rattle.ac_c.specs.Masking.{AnswersMasked, IsClosedMask, IsMaskingOfPieces, IsPushedTo, IsRefusedMask, masking_by, ready_len};
+ghost use Rattle.ac_c.specs.Masking.{AnswersMasked, AnswersMaskedWords, IsClosedMask, IsMaskingOfPieces, IsPushedTo, IsRefusedMask, masking_by, ready_len};
 
 use crate::replace::Length;
 use crate::searching::Count;
 use crate::status::{FINISHED, NO_MEMORY, OK, TOO_MANY_BYTES, refused};
 use ac_automaton::stream::mask::StreamMask;
-use aho_corasick::{AhoCorasick, MatchError, Steps, StreamError};
+use aho_corasick::{AhoCorasick, MatchError, ReplaceError, Steps, StreamError};
 use std::alloc::Global;
 use std::ptr::NonNull;
 
@@ -25,6 +25,17 @@ pub fn mask(ac: &AhoCorasick, text: &mut [u8], byte: u8) -> u32
     match ac.try_mask(text, byte) {
         Ok(()) => OK,
         Err(error) => refused(&error),
+    }
+}
+
+/// Masks the whole words of a text where it lies, as C sees it.
+pub fn mask_words(ac: &AhoCorasick, alloc: Global, text: &mut [u8], byte: u8) -> u32
+    ensures { AnswersMaskedWords ac.now byte text.old text.new result }
+{
+    match ac.try_mask_words(alloc, text, byte) {
+        Ok(()) => OK,
+        Err(ReplaceError::Match(error)) => refused(&error),
+        Err(ReplaceError::Memory) => NO_MEMORY,
     }
 }
 

@@ -40,7 +40,7 @@ pub const TOO_SHORT: u32 = 18;
 
 pub const BAD_PATTERN: u32 = 19;
 
-const EMPTY_PATTERN: u32 = 20;
+pub const EMPTY_PATTERN: u32 = 20;
 
 pub const NO_STREAM: u32 = 21;
 

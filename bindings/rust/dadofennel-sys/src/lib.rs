@@ -235,6 +235,15 @@ extern "C" {
         room: usize,
         count: *mut usize,
     ) -> dado_status;
+    pub fn dado_overlapping_words_some(
+        ac: *const dado_automaton,
+        haystack: *const u8,
+        len: usize,
+        place: *mut dado_place,
+        out: *mut dado_match,
+        room: usize,
+        count: *mut usize,
+    ) -> dado_status;
     pub fn dado_replace_into(
         ac: *const dado_automaton,
         haystack: *const u8,
@@ -271,6 +280,7 @@ extern "C" {
     pub fn dado_replacer_finish(replacer: *mut *mut dado_replacer) -> dado_status;
     pub fn dado_replacer_free(replacer: *mut *mut dado_replacer);
     pub fn dado_mask(ac: *const dado_automaton, text: *mut u8, len: usize, byte: u8) -> dado_status;
+    pub fn dado_mask_words(ac: *const dado_automaton, text: *mut u8, len: usize, byte: u8) -> dado_status;
     pub fn dado_masker_new(ac: *const dado_automaton, byte: u8, masker: *mut *mut dado_masker) -> dado_status;
     pub fn dado_masker_push(masker: *mut *mut dado_masker, piece: *const u8, len: usize, taken: *mut usize) -> dado_status;
     pub fn dado_masker_ready(masker: *mut *mut dado_masker, slice: *mut dado_bytes) -> dado_status;

@@ -155,6 +155,29 @@ impl Handle {
         counted(status, count)
     }
 
+    /// The next whole words of a listing, as many as there is room for; how many there are.
+    pub(crate) fn overlapping_words_some(
+        &self,
+        haystack: &[u8],
+        place: &mut sys::dado_place,
+        out: &mut [sys::dado_match],
+    ) -> Result<usize, sys::dado_status> {
+        let mut count = 0;
+        // SAFETY: the automaton, the haystack and the room are lent.
+        let status = unsafe {
+            sys::dado_overlapping_words_some(
+                self.0.as_ptr(),
+                haystack.as_ptr(),
+                haystack.len(),
+                place,
+                out.as_mut_ptr(),
+                out.len(),
+                &mut count,
+            )
+        };
+        counted(status, count)
+    }
+
     /// A stream, which owns the automaton too.
     pub(crate) fn stream(&self) -> Result<Pieces, sys::dado_status> {
         let mut stream = Pieces(ptr::null_mut());
@@ -169,6 +192,15 @@ impl Handle {
     pub(crate) fn mask(&self, bytes: &mut [u8], mask: u8) -> Result<(), sys::dado_status> {
         // SAFETY: the automaton and the bytes are lent.
         match unsafe { sys::dado_mask(self.0.as_ptr(), bytes.as_mut_ptr(), bytes.len(), mask) } {
+            sys::DADO_OK => Ok(()),
+            other => Err(other),
+        }
+    }
+
+    /// Masks the whole words of bytes where they lie.
+    pub(crate) fn mask_words(&self, bytes: &mut [u8], mask: u8) -> Result<(), sys::dado_status> {
+        // SAFETY: the automaton and the bytes are lent.
+        match unsafe { sys::dado_mask_words(self.0.as_ptr(), bytes.as_mut_ptr(), bytes.len(), mask) } {
             sys::DADO_OK => Ok(()),
             other => Err(other),
         }

@@ -35,6 +35,36 @@ impl AhoCorasick {
         Ok(())
     }
 
+    /// Masks the whole words of bytes where they lie: the occurrences with no word byte beside them, those that overlap included. What a
+    /// word byte is stands at `find_word_iter`; those of the text as it was count. A mask that is no word byte may leave a word beside it,
+    /// or bring one about.
+    ///
+    /// It takes a copy of the bytes while it runs.
+    ///
+    /// ```
+    /// use dadofennel::AhoCorasick;
+    ///
+    /// let ac = AhoCorasick::new(["cat", "big cat"])?;
+    /// let mut bytes = *b"a big cat, concatenated";
+    /// ac.mask_words(&mut bytes, b'*');
+    /// assert_eq!(b"a *******, concatenated", &bytes);
+    /// # Ok::<(), Box<dyn std::error::Error>>(())
+    /// ```
+    ///
+    /// # Panics
+    ///
+    /// Where memory runs out.
+    pub fn mask_words(&self, bytes: &mut [u8], mask: u8) {
+        supported(self.try_mask_words(bytes, mask));
+    }
+
+    /// Masks the whole words of bytes where they lie. See `mask_words`. The bytes are unchanged at an error.
+    pub fn try_mask_words(&self, bytes: &mut [u8], mask: u8) -> Result<(), MatchError> {
+        self.lists(Anchored::No)?;
+        self.handle().mask_words(bytes, mask).unwrap_or_else(|status| panic!("a mask: {}", status_text(status)));
+        Ok(())
+    }
+
     /// Writes what a reader has, masked. The writer isn't flushed.
     ///
     /// What was read is masked at once, and all that no later byte changes is written before the next read: what waits is fewer bytes

@@ -4,8 +4,9 @@ use std::iter::FusedIterator;
 
 use crate::ahocorasick::{supported, unfailing};
 use crate::handle::Handle;
-use crate::iter::{found, Batch};
+use crate::iter::{found, place_of, Batch};
 use crate::{AhoCorasick, Anchored, Match, MatchError, MatchKind};
+use dadofennel_sys as sys;
 
 /// Whole words: the occurrences with no word byte beside them. A word byte is an ASCII letter, a digit, `_`, or a byte from 0x80 on, as
 /// those of a character beyond ASCII are. The crate `aho-corasick` has no such calls.
@@ -33,10 +34,7 @@ impl AhoCorasick {
         kind: MatchKind,
         haystack: &'h B,
     ) -> Result<FindWordIter<'a, 'h>, MatchError> {
-        self.lists(Anchored::No)?;
-        if self.min_pattern_len() == 0 {
-            return Err(MatchError::unsupported_empty());
-        }
+        self.words()?;
         Ok(FindWordIter {
             handle: self.handle(),
             kind: kind.number(),
@@ -44,6 +42,44 @@ impl AhoCorasick {
             from: 0,
             batch: Batch::default(),
         })
+    }
+
+    /// All whole words, overlapping ones too, in the order of end, start and number.
+    ///
+    /// ```
+    /// use dadofennel::AhoCorasick;
+    ///
+    /// let ac = AhoCorasick::new(["new", "new york"])?;
+    /// let words: Vec<_> = ac.find_overlapping_word_iter("new yorker, new york").map(|word| word.range()).collect();
+    /// assert_eq!(vec![0..3, 12..15, 12..20], words);
+    /// # Ok::<(), Box<dyn std::error::Error>>(())
+    /// ```
+    pub fn find_overlapping_word_iter<'a, 'h, B: AsRef<[u8]> + ?Sized>(&'a self, haystack: &'h B) -> FindOverlappingWordIter<'a, 'h> {
+        supported(self.try_find_overlapping_word_iter(haystack))
+    }
+
+    /// All whole words, overlapping ones too, in the order of end, start and number.
+    pub fn try_find_overlapping_word_iter<'a, 'h, B: AsRef<[u8]> + ?Sized>(
+        &'a self,
+        haystack: &'h B,
+    ) -> Result<FindOverlappingWordIter<'a, 'h>, MatchError> {
+        self.words()?;
+        let haystack = haystack.as_ref();
+        Ok(FindOverlappingWordIter {
+            handle: self.handle(),
+            haystack,
+            place: place_of(0, haystack.len(), None),
+            batch: Batch::default(),
+        })
+    }
+
+    /// An error where the automaton can't search for words.
+    fn words(&self) -> Result<(), MatchError> {
+        self.lists(Anchored::No)?;
+        if self.min_pattern_len() == 0 {
+            return Err(MatchError::unsupported_empty());
+        }
+        Ok(())
     }
 }
 
@@ -68,3 +104,24 @@ impl Iterator for FindWordIter<'_, '_> {
 }
 
 impl FusedIterator for FindWordIter<'_, '_> {}
+
+/// All whole words of a text. See `AhoCorasick::find_overlapping_word_iter`.
+#[derive(Debug)]
+pub struct FindOverlappingWordIter<'a, 'h> {
+    handle: &'a Handle,
+    haystack: &'h [u8],
+    place: sys::dado_place,
+    batch: Batch,
+}
+
+impl Iterator for FindOverlappingWordIter<'_, '_> {
+    type Item = Match;
+
+    #[inline]
+    fn next(&mut self) -> Option<Match> {
+        let FindOverlappingWordIter { handle, haystack, place, batch } = self;
+        batch.next(|out| unfailing(handle.overlapping_words_some(haystack, place, out))).map(found)
+    }
+}
+
+impl FusedIterator for FindOverlappingWordIter<'_, '_> {}

@@ -300,6 +300,28 @@ fn words() {
     });
 }
 
+/// All of them, and masked, beside the same occurrences.
+#[test]
+fn all_words() {
+    cases(|rng, case| {
+        let (text, mask) = (case.text.as_bytes(), rng.one(b"*a\xff"));
+        let mut all = case.occurrences(0, text.len(), false);
+        all.retain(|it| !is_word_byte(text[..it.start()].last()) && !is_word_byte(text.get(it.end())));
+        all.sort_by_key(|it| (it.end(), it.start(), it.pattern()));
+        let mut wanted = text.to_vec();
+        for word in &all {
+            wanted[word.range()].fill(mask);
+        }
+        let masks = case.kind == MatchKind::Standard && case.start_kind != StartKind::Anchored;
+        let mut bytes = text.to_vec();
+        assert_eq!(masks, case.ac.try_mask_words(&mut bytes, mask).is_ok());
+        assert_eq!(if masks { &wanted } else { text }, &bytes[..], "{}", case.shown());
+        let can = masks && !case.patterns.contains(&String::new());
+        let words = case.ac.try_find_overlapping_word_iter(text).map(Iterator::collect::<Vec<_>>);
+        assert_eq!(if can { Some(all) } else { None }, words.ok(), "{}", case.shown());
+    });
+}
+
 /// Rows: within a word, at both ends, beside `_` and beside a character beyond ASCII; a word that begins another one.
 #[test]
 fn rows_of_words() {

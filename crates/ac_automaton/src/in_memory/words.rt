@@ -6,6 +6,7 @@
 ghost use Rattle.std.specs.Prelude.{◌≡◌, ◌≤◌, [], length, IfErr, IfOk, OnOk};
 ghost use Rattle.std.specs.Iterator.{YieldsFirst, item_count};
 ghost use Rattle.ac_input.specs.declared.search.Anchored.TheVariants.{No};
+ghost use Rattle.ac_input.specs.Word.{is_whole_word};
 ghost use Rattle.ac_input.specs.Work.{shortest};
 ghost use Rattle.ac_automaton.specs.InMemory.Words.{AnswersWords, AnswersWordsFrom, CanFindWords, CostsNextWord, GivesWord, IsWordsRefusal, words_left};
 
@@ -15,7 +16,7 @@ use crate::automaton::Automaton;
 use crate::error::MatchError;
 use crate::in_memory::overlapping::unanchored_start;
 use crate::search::Search;
-use crate::words::{Window, WordPlace, next_word};
+use crate::words::{self, Window, WordPlace, next_word};
 use ac_input::primitives::StateID;
 use ac_input::search::{Match, MatchKind};
 use ac_input::steps::Steps;
@@ -41,6 +42,18 @@ impl<'a, 'h, A: Search> Model for FindWordIter<'a, 'h, A> {
     ghost view = { λ i. word_walk_at (A.built i.automaton.now) i.haystack.now i.place i.sums };
 
     ghost invariant = { λ i. StandsInText (A.built i.automaton.now) (A.Reaches i.automaton.now No) i.haystack.now i.place };
+}
+
+/// Whether a match is a whole word of the text in which it was found: no word byte stands beside it.
+pub fn is_whole_word(text: &[u8], found: &Match) -> bool
+    ensures { result ≡ is_whole_word text.now found.now }
+{
+    let window = Window {
+        bytes: text,
+        from: 0,
+        closed: true,
+    };
+    words::is_whole_word(window, found)
 }
 
 /// The start state of a search for whole words, where the automaton can make one.

@@ -1,11 +1,12 @@
 -- What is left of a listing depends only on what lies at most the longest pattern's length before the end of the last
 -- occurrence.
-use Rattle.std.proofs.Common.{◌≡◌, ◌==◌, if◌then◌else◌, ℕ, zero, suc, add-one, min, max, map, slice_get, length-drop, ◌+◌, ◌-◌, ◌<◌, ◌≤◌, Bool, false, true, Option, Some, None, List, [], ◌∷◌, length, drop, take, refl, sym, ap, subst, ◌∙◌, inl, inr, ⊎_elim, arith, Less, IsTrue}
+use Rattle.std.proofs.Common.{◌≡◌, ◌==◌, ◌&&◌, if◌then◌else◌, cond, ℕ, zero, suc, add-one, min, max, map, slice_get, length-drop, ◌+◌, ◌-◌, ◌<◌, ◌≤◌, Bool, false, true, Option, Some, None, List, [], ◌∷◌, length, drop, take, refl, sym, ap, subst, ◌∙◌, inl, inr, ⊎_elim, arith, Less, IsTrue}
 use Rattle.std.proofs.lemmas.Bool.{false≢true}
 use Rattle.std.proofs.lemmas.Bool.Decides.{leb_tells}
 use Rattle.ac_input.specs.declared.search.MatchKind.TheVariants.{Standard}
 use Rattle.ac_input.specs.Occurrence.{Search, Occurrence, Occurs, starting_at}
 use Rattle.ac_input.specs.Best.{preference, IsAfter}
+use Rattle.ac_input.specs.Word.{is_whole_word}
 use Rattle.ac_input.specs.Work.{longest}
 use Rattle.std.specs.List.{filter}
 use Rattle.std.proofs.lemmas.List.{drop-drop}
@@ -18,7 +19,7 @@ use Rattle.aho_corasick.specs.declared.ahocorasick.AhoCorasick.{AhoCorasick}
 use Rattle.ac_c.specs.declared.found.Found.{Found}
 use Rattle.ac_c.specs.declared.list.Place.{Place}
 use Rattle.ac_c.specs.Found.{shown}
-use Rattle.ac_c.specs.List.{IsPlaceOver, asked_from, before_of, begins_at, later_of, left_of_listing, place_after, seen}
+use Rattle.ac_c.specs.List.{AreListed, IsPlaceOver, asked_from, before_of, begins_at, left_of_listing, left_of_wanted, left_of_word_listing, place_after, seen, wanted_of}
 use Rattle.ac_c.specs.Walk.{AreGiven}
 use Rattle.ac_input.specs.Listing.{ListsAll}
 use Rattle.ac_input.proofs.lemmas.ContainsLemmas.{Contains-head, Contains-tail, Contains-cases}
@@ -124,29 +125,59 @@ shown-last (q ∷ qs) (f ∷ fs) (suc n) o rest given e =
     let tails : take (suc n) fs ≡ map shown (take (suc n) qs) = cc in
     shown-last qs fs n o rest tails e
 
--- after n occurrences were given, the listing goes on after the last of them
-pub listing-after : (ac : AhoCorasick) (haystack : List ℕ) (p : Place) (out : List Found) (n : ℕ)
-    → p.end ≤ length haystack → n ≤ length (left_of_listing ac haystack p)
-    → take n out ≡ map shown (take n (left_of_listing ac haystack p))
-    → left_of_listing ac haystack (place_after p out n) ≡ drop n (left_of_listing ac haystack p)
-listing-after ac haystack p out zero fits le given = refl
-listing-after ac haystack p out (suc n) fits le given = step (drop n (left_of_listing ac haystack p)) refl
-  where
-    s : Search
-    s = searched (as_built ac) (asked_from haystack p p.start)
+-- after one of those left at a place was given, the rest after it is left
+abbrev GoesAfter : (Place → List Occurrence) → Place → Type 0
+GoesAfter left p =
+    (n : ℕ) (o : Occurrence) (rest : List Occurrence) → drop n (left p) ≡ o ∷ rest
+    → left (record p { last = shown o; begun = 1 }) ≡ rest
 
-    step : (more : List Occurrence) → drop n (left_of_listing ac haystack p) ≡ more
-        → left_of_listing ac haystack (place_after p out (suc n)) ≡ drop (suc n) (left_of_listing ac haystack p)
-    step [] e = absurd (omega (arith, ap length e, length-drop n (left_of_listing ac haystack p)))
+-- a listing goes on after any of its occurrences
+listing-goes : (ac : AhoCorasick) (haystack : List ℕ) (p : Place) → p.end ≤ length haystack
+    → GoesAfter (left_of_listing ac haystack) p
+listing-goes ac haystack p fits n o rest e =
+    listing_after-drop (searched (as_built ac) (asked_from haystack p p.start)) (before_of p) n o rest fits e
+
+-- what comes after an element that passes a test, of those that pass it, is what passes it after the element
+filter-after : (test : Occurrence → Bool) (xs : List Occurrence) (n : ℕ) (o : Occurrence) (rest : List Occurrence)
+    → drop n (filter test xs) ≡ o ∷ rest
+    → (m : ℕ) × (more : List Occurrence) × (drop m xs ≡ o ∷ more) × (filter test more ≡ rest)
+filter-after test [] zero o rest e = absurd (cc)
+filter-after test [] (suc n) o rest e = absurd (cc)
+filter-after test (x ∷ xs) n o rest e = step (test x) n e
+  where
+    further : (n : ℕ) → drop n (filter test xs) ≡ o ∷ rest
+        → (m : ℕ) × (more : List Occurrence) × (drop m (x ∷ xs) ≡ o ∷ more) × (filter test more ≡ rest)
+    further n e = let f = filter-after test xs n o rest e in (suc f.0, f.1, f.2, f.3)
+
+    step : (passes : Bool) (n : ℕ) → drop n (cond passes (x ∷ filter test xs) (filter test xs)) ≡ o ∷ rest
+        → (m : ℕ) × (more : List Occurrence) × (drop m (x ∷ xs) ≡ o ∷ more) × (filter test more ≡ rest)
+    step true zero e = let first : x ≡ o = cc in (zero, xs, ap (λ y. y ∷ xs) first, cc)
+    step true (suc n) e = further n e
+    step false n e = further n e
+
+-- a listing of words goes on after any of its words
+words-go : (ac : AhoCorasick) (haystack : List ℕ) (p : Place) → p.end ≤ length haystack
+    → GoesAfter (left_of_word_listing ac haystack) p
+words-go ac haystack p fits n o rest e =
+    let f = filter-after (is_whole_word haystack) (left_of_listing ac haystack p) n o rest e in
+    ap (filter (is_whole_word haystack)) (listing-goes ac haystack p fits f.0 o f.1 f.2) ∙ f.3
+
+-- after the first n of those left were given, the rest is left
+listing-after : (left : Place → List Occurrence) (p : Place) (out : List Found) (n : ℕ) → GoesAfter left p
+    → n ≤ length (left p) → take n out ≡ map shown (take n (left p))
+    → left (place_after p out n) ≡ drop n (left p)
+listing-after left p out zero goes le given = refl
+listing-after left p out (suc n) goes le given = step (drop n (left p)) refl
+  where
+    step : (more : List Occurrence) → drop n (left p) ≡ more → left (place_after p out (suc n)) ≡ drop (suc n) (left p)
+    step [] e = absurd (omega (arith, ap length e, length-drop n (left p)))
     step (o ∷ rest) e =
-        let last = shown-last (left_of_listing ac haystack p) out n o rest given e in
+        let last = shown-last (left p) out n o rest given e in
         let next : place_after p out (suc n) ≡ record p { last = shown o; begun = 1 } =
         ap (λ f. elim f as (λ _. Place) [ None ↦ p | Some g ↦ record p { last = g; begun = 1 } ])
         last in
-        let after = listing_after-drop s (before_of p) n o rest fits e in
-        ap (left_of_listing ac haystack) next
-        ∙ (after ∙ (ap (drop 1) (sym e) ∙ drop-drop 1 n (left_of_listing ac haystack p)
-        ∙ ap (λ m. drop m (left_of_listing ac haystack p)) (add-one n)))
+        ap left next
+        ∙ (goes n o rest e ∙ (ap (drop 1) (sym e) ∙ drop-drop 1 n (left p) ∙ ap (λ m. drop m (left p)) (add-one n)))
 
 -- no occurrence that is left starts before the place where the next search starts
 begins : (p : Place) (s : Search) (n : ℕ) (none : Bool) → s.end ≤ length s.haystack → longest s.patterns ≡ n
@@ -168,19 +199,52 @@ listing-begins ac haystack p n fits le long =
     let h = begins p s n (p.begun == 0) fits (sym long) refl refl le in
     listing_after-from s (begins_at p n) (before_of p) fits refl h.0 h.1
 
--- the buffer has the next occurrences of the listing, and the new place has the rest
-pub listed : (ac : AhoCorasick) (haystack : List ℕ) (p : Place) (input : Asked) (run : Run) (old new : List Found)
-    (longest_is n : ℕ) → IsPlaceOver haystack p → longest_is ≡ longest (patterns_of ac)
+-- what passes two tests is what passes the second of what passes the first
+filter-both : (one other : Occurrence → Bool) (xs : List Occurrence)
+    → filter (λ o. one o && other o) xs ≡ filter other (filter one xs)
+filter-both one other [] = refl
+filter-both one other (x ∷ xs) = step (one x)
+  where
+    rest : filter (λ o. one o && other o) xs ≡ filter other (filter one xs)
+    rest = filter-both one other xs
+
+    step : (passes : Bool)
+        → cond (passes && other x) (x ∷ filter (λ o. one o && other o) xs) (filter (λ o. one o && other o) xs)
+        ≡ filter other (cond passes (x ∷ filter one xs) (filter one xs))
+    step true = ap (λ ys. cond (other x) (x ∷ ys) ys) rest
+    step false = rest
+
+-- each element passes a test that is always true
+filter-all : (xs : List Occurrence) → filter (λ o. true) xs ≡ xs
+filter-all [] = refl
+filter-all (x ∷ xs) = ap (λ ys. x ∷ ys) (filter-all xs)
+
+-- what a run from the place of the next search still gives is what is left of the listing
+wanted-left : (words : Bool) (ac : AhoCorasick) (haystack : List ℕ) (p : Place) (run : Run)
+    → filter (is_after (before_of p)) (rest_of run) ≡ left_of_listing ac haystack p
+    → wanted_of haystack (record { place = p; words = words }) run ≡ left_of_wanted words ac haystack p
+wanted-left false ac haystack p run all = filter-both (is_after (before_of p)) (λ o. true) (rest_of run) ∙ (filter-all _ ∙ all)
+wanted-left true ac haystack p run all =
+    filter-both (is_after (before_of p)) (is_whole_word haystack) (rest_of run) ∙ ap (filter (is_whole_word haystack)) all
+
+-- a listing goes on after any of what it gives
+wanted-go : (words : Bool) (ac : AhoCorasick) (haystack : List ℕ) (p : Place) → p.end ≤ length haystack
+    → GoesAfter (left_of_wanted words ac haystack) p
+wanted-go false = listing-goes
+wanted-go true = words-go
+
+-- the buffer has what comes next of the listing, and the new place has the rest
+pub listed : (words : Bool) (ac : AhoCorasick) (haystack : List ℕ) (p : Place) (input : Asked) (run : Run)
+    (old new : List Found) (longest_is n : ℕ) → IsPlaceOver haystack p → longest_is ≡ longest (patterns_of ac)
     → input ≡ asked_from haystack p (begins_at p longest_is) → rest_of run ≡ listing_in (as_built ac) input
-    → n ≡ min (length old) (length (later_of p run)) → take n new ≡ map shown (take n (later_of p run))
-    → AreGiven (left_of_listing ac haystack p) old new n
-    × (left_of_listing ac haystack (place_after p new n) ≡ drop n (left_of_listing ac haystack p))
-listed ac haystack p input run old new longest_is n valid long asked all count given =
-    let later : later_of p run ≡ left_of_listing ac haystack p =
+    → AreGiven (wanted_of haystack (record { place = p; words = words }) run) old new n
+    → AreListed (left_of_wanted words ac haystack) p old new n
+listed words ac haystack p input run old new longest_is n valid long asked all given =
+    let later : filter (is_after (before_of p)) (rest_of run) ≡ left_of_listing ac haystack p =
     ap (filter (is_after (before_of p))) (all ∙ ap (listing_in (as_built ac)) asked)
     ∙ listing-begins ac haystack p longest_is valid.1 valid.0 long in
-    let counted : n ≡ min (length old) (length (left_of_listing ac haystack p)) =
-    count ∙ ap (λ os. min (length old) (length os)) later in
-    let filled : take n new ≡ map shown (take n (left_of_listing ac haystack p)) =
-    given ∙ ap (λ os. map shown (take n os)) later in
-    (record { count = counted; given = filled }, listing-after ac haystack p new n valid.1 (omega arith) filled)
+    let left : AreGiven (left_of_wanted words ac haystack p) old new n =
+    subst (λ os. AreGiven os old new n) (wanted-left words ac haystack p run later) given in
+    let count = left.count in
+    (left, listing-after (left_of_wanted words ac haystack) p new n (wanted-go words ac haystack p valid.1) (omega arith)
+    left.given)

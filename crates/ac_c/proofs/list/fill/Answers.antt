@@ -1,6 +1,6 @@
 -- Each turn moves one occurrence into the buffer.
 use Rattle.std.proofs.Common.{◌≡◌, ◌∷◌, drop, length, refl, sym, ◌∙◌, arith}
-use Rattle.ac_c.specs.List.{later_of}
+use Rattle.ac_c.specs.List.{wanted_of}
 use Rattle.ac_c.proofs.list.RunLemmas.{last-written, runs-none, runs-on}
 use Rattle.ac_c.proofs.walk.FillLemmas.{fill-end, fill-enough, fill-given, fill-rest}
 use Rattle.ac_c.proofs.list.fill.Goals as goal
@@ -20,8 +20,8 @@ loop-at-init c =
 pub returns-in-None : goal.returns-in-None
 returns-in-None c =
     let i = c.loop-at.invariant in
-    let end : c.loop-at.at ≡ length (later_of c.args.place c.args.matches.now) =
-    fill-end _ c.loop-at.at (sym i.rest ∙ c.in-None.ensures.later.0) i.enough in
+    let end : c.loop-at.at ≡ length (wanted_of c.args.haystack.now c.args.wanted c.args.matches.now) =
+    fill-end _ c.loop-at.at (sym i.rest ∙ c.in-None.ensures.wanted.0) i.enough in
     record {
       given = record { count = omega arith; given = i.given };
       cost = runs-on _ _ _ _ _ _ i.cost c.in-None.ensures.cost;
@@ -37,8 +37,8 @@ returns-in-None c =
 pub loop-at-preserved : goal.loop-at-preserved
 loop-at-preserved c =
     let i = c.loop-at.invariant in
-    let next : drop c.loop-at.at (later_of c.args.place c.args.matches.now)
-    ≡ c.in-Some.found ∷ later_of c.args.place c.next_later.new.matches = sym i.rest ∙ c.in-Some.ensures.later in
+    let next : drop c.loop-at.at (wanted_of c.args.haystack.now c.args.wanted c.args.matches.now)
+    ≡ c.in-Some.found ∷ wanted_of c.args.haystack.now c.args.wanted c.next_wanted.new.matches = sym i.rest ∙ c.in-Some.ensures.wanted in
     record {
       rest = fill-rest _ c.loop-at.at c.in-Some.found _ next;
       enough = fill-enough _ c.loop-at.at c.in-Some.found _ next;
@@ -47,9 +47,9 @@ loop-at-preserved c =
           i.given);
       cost = runs-on _ _ _ _ _ _ i.cost c.in-Some.ensures.cost;
       counted =
-          λ some. rw c.from_match.ensures (rw (last-written c.args.place c.loop-at.out c.loop-at.at c.in-Some.found
+          λ some. rw c.from_match.ensures (rw (last-written c.args.wanted.place c.loop-at.out c.loop-at.at c.in-Some.found
           (omega arith)) c.in-Some.ensures.counted);
       near =
-          λ some. rw c.from_match.ensures (rw (last-written c.args.place c.loop-at.out c.loop-at.at c.in-Some.found
+          λ some. rw c.from_match.ensures (rw (last-written c.args.wanted.place c.loop-at.out c.loop-at.at c.in-Some.found
           (omega arith)) c.in-Some.ensures.near);
     }

@@ -1,12 +1,12 @@
--- No occurrence passed over is one of those left.
+-- No occurrence passed over is one that the listing gives.
 use Rattle.std.proofs.Common.{◌≡◌, length}
 use Rattle.ac_automaton.specs.InMemory.Overlapping.OverlappingIter.{rest_of}
-use Rattle.ac_c.specs.List.{RunsTo, later_of}
-use Rattle.ac_c.proofs.list.next_later.Given as goal
+use Rattle.ac_c.specs.List.{RunsTo, wanted_of}
+use Rattle.ac_c.proofs.list.next_wanted.Given as goal
 
 abbrev pub invariant-loop-found : goal.invariant-loop-found
 invariant-loop-found l = record {
-  later : later_of l.place l.matches ≡ later_of l.place l.fn.matches;
+  wanted : wanted_of l.haystack l.wanted l.matches ≡ wanted_of l.haystack l.wanted l.fn.matches;
   cost : RunsTo l.fn.matches l.matches l.fn.steps l.steps;
 }
 

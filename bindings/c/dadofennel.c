@@ -27,6 +27,7 @@ extern inline void dado_text_free(dado_text *text);
 extern inline dado_status dado_replace(const dado_automaton *ac, const uint8_t *haystack, size_t len, const dado_bytes *replacements,
                                        size_t count, dado_text *text);
 extern inline dado_status dado_stream_new(const dado_automaton *ac, dado_stream **stream);
+extern inline dado_status dado_word_stream_new(const dado_automaton *ac, uint32_t kind, dado_stream **stream);
 extern inline dado_status dado_stream_push(dado_stream **stream, const uint8_t *piece, size_t len, size_t *taken);
 extern inline dado_status dado_stream_some(dado_stream **stream, dado_match *out, size_t room, size_t *count);
 extern inline dado_status dado_stream_view(dado_stream **stream, dado_held *held);

@@ -300,6 +300,7 @@ dado_status dado_raw_replace(const dado_automaton *at, const uint8_t *haystack, 
 void dado_raw_text_view(void **owner, const uint8_t **at, size_t *len);
 void dado_raw_text_free(void **owner);
 dado_status dado_raw_stream_new(const dado_automaton *at, dado_stream **stream);
+dado_status dado_raw_word_stream_new(const dado_automaton *at, uint32_t kind, dado_stream **stream);
 dado_raw_count dado_raw_stream_push(dado_stream **stream, const uint8_t *piece, size_t len);
 dado_raw_count dado_raw_stream_some(dado_stream **stream, dado_match *out, size_t room);
 dado_raw_view dado_raw_stream_view(dado_stream **stream, const uint8_t **at);
@@ -656,7 +657,8 @@ DADO_INLINE dado_status dado_replace(const dado_automaton *ac, const uint8_t *ha
  *         use(many, count);
  *     dado_stream_free(&stream);
  *
- * To replace the matches, make a replacer of the automaton, below.
+ * To replace the matches, make a replacer of the automaton, below. A stream of whole words is made by dado_word_stream_new, and serves in
+ * the same calls: what these say of a match, they do of a word.
  */
 
 /*
@@ -672,6 +674,24 @@ DADO_INLINE dado_status dado_stream_new(const dado_automaton *ac, dado_stream **
     if (stream == NULL) return DADO_BAD_ARGUMENT;
     if (ac == NULL) return DADO_NO_AUTOMATON;
     return dado_raw_stream_new(ac, stream);
+}
+
+/*
+ * Makes a stream of the whole words of a text under `kind`: they are those of the whole text by dado_words_some, wherever one piece ends
+ * and the next begins. A word is decided once the byte after it was pushed, or the stream is finished; under a leftmost kind, once no byte
+ * that may follow can change it either. The stream is put at `*stream`. A stream that was there is freed, once the new one is made. It owns
+ * the automaton too, which may be freed before it.
+ *
+ * DADO_NO_AUTOMATON; DADO_BAD_ARGUMENT: `stream` is NULL; DADO_BAD_KIND: `kind` is none of the three; DADO_NOT_UNANCHORED: the automaton
+ * was built for anchored searches alone; DADO_NOT_STANDARD: it is of a leftmost kind itself; DADO_EMPTY_PATTERN: one of its patterns is
+ * empty; DADO_NO_MEMORY. The last five are tested in this order. `*stream` is unchanged at these.
+ *
+ * Takes 64 KiB of memory, or 8 times one byte more than the longest pattern has, and no more in the calls after that.
+ */
+DADO_INLINE dado_status dado_word_stream_new(const dado_automaton *ac, uint32_t kind, dado_stream **stream) {
+    if (stream == NULL) return DADO_BAD_ARGUMENT;
+    if (ac == NULL) return DADO_NO_AUTOMATON;
+    return dado_raw_word_stream_new(ac, kind, stream);
 }
 
 /*
@@ -697,7 +717,8 @@ DADO_INLINE dado_status dado_stream_push(dado_stream **stream, const uint8_t *pi
 
 /*
  * The next matches that are decided, as many as `out` has room for: the first `*count` of `room` are written. Under the standard kind a
- * match is decided as soon as its last byte was pushed; under a leftmost kind, once no byte that may follow can change it.
+ * match is decided as soon as its last byte was pushed, a word as soon as the byte after it was; under a leftmost kind, once no byte that
+ * may follow can change it.
  *
  * DADO_OK: some were written, or `room` is 0. Fewer than `room` means that all were given: push more bytes, or finish. DADO_NONE: none
  * is left for now, and after dado_stream_finish none at all. DADO_BAD_ARGUMENT: `stream`, `count`, or `out` with room, is NULL;

@@ -1,4 +1,4 @@
-/* Whole words, one after another, all of them, and masked: rows, batches of each size, texts beside a loop that compares each pattern at
+/* Whole words, one after another, in pieces, all of them, and masked: rows, batches of each size, texts beside a loop that compares each pattern at
  * each place, and each status. */
 #include "check.h"
 
@@ -37,6 +37,44 @@ static int next_word(uint32_t kind, const dado_bytes *patterns, uint32_t count, 
             found = 1;
         }
     return found;
+}
+
+/* The words of a text that is pushed in pieces of a size, beside those of the whole text. What is decided is held until the next push. */
+static void in_pieces(const dado_automaton *ac, uint32_t kind, const uint8_t *at, size_t len, size_t size) {
+    static dado_match whole[300], many[3];
+    dado_stream *stream = NULL;
+    dado_held held = {NULL, 0, 0, 0};
+    size_t from = 0, count = 0, told = 0, pushed = 0, given, taken, i;
+    dado_status status;
+    CHECK(dado_words_some(ac, kind, at, len, &from, whole, 300, &count) <= DADO_NONE && count < 300);
+    CHECK(dado_word_stream_new(ac, kind, &stream) == DADO_OK && stream != NULL);
+    for (;;) {
+        while ((status = dado_stream_some(&stream, many, 3, &given)) == DADO_OK) {
+            CHECK(given >= 1 && given <= 3 && told + given <= count);
+            CHECK(dado_stream_view(&stream, &held) == DADO_OK);
+            for (i = 0; i < given && told < count; i++, told++) {
+                CHECK(is(&many[i], whole[told].pattern, whole[told].start, whole[told].end));
+                CHECK(held.from <= many[i].start && many[i].end <= held.from + held.len);
+                CHECK(memcmp(held.at + (many[i].start - held.from), at + many[i].start, many[i].end - many[i].start) == 0);
+            }
+        }
+        CHECK(status == DADO_NONE && given == 0);
+        CHECK(dado_stream_view(&stream, &held) == DADO_OK && held.from + held.len == pushed && held.cut <= pushed);
+        CHECK(told == count || held.cut <= whole[told].start);
+        /* under standard a word comes with the byte after it */
+        CHECK(kind != DADO_STANDARD || told == count || whole[told].end >= pushed);
+        if (pushed == len) break;
+        CHECK(dado_stream_push(&stream, at + pushed, len - pushed < size ? len - pushed : size, &taken) == DADO_OK && taken >= 1);
+        pushed += taken;
+    }
+    CHECK(dado_stream_finish(&stream) == DADO_OK && dado_stream_push(&stream, at, 1, &taken) == DADO_FINISHED && taken == 0);
+    while (dado_stream_some(&stream, many, 1, &given) == DADO_OK) {
+        CHECK(told < count && is(&many[0], whole[told].pattern, whole[told].start, whole[told].end));
+        told++;
+    }
+    CHECK(told == count);
+    dado_stream_free(&stream);
+    CHECK(stream == NULL);
 }
 
 /* The word of a span that comes after `last`, by end, start and number; the first one if that is NULL. */
@@ -146,7 +184,10 @@ static void rows(void) {
             CHECK(dado_words_some(ac, KINDS[k], at, len, &from, many, 8, &count) == wanted);
             CHECK(count == rows[i].words[k] && from == rows[i].last[k]);
             CHECK(count == 0 || many[count - 1].end == from);
-            for (room = 1; room <= 3; room++) alike(ac, KINDS[k], rows[i].patterns, rows[i].count, at, len, room);
+            for (room = 1; room <= 3; room++) {
+                alike(ac, KINDS[k], rows[i].patterns, rows[i].count, at, len, room);
+                in_pieces(ac, KINDS[k], at, len, room);
+            }
         }
         for (room = 1; room <= 3; room++) {
             all_alike(ac, rows[i].patterns, rows[i].count, at, len, dado_place_over(0, len), room);
@@ -181,6 +222,9 @@ static void texts(void) {
             alike(ac, KINDS[k], words, 6, at, len, 1);
             alike(ac, KINDS[k], words, 6, at, len, 7);
             alike(ac, KINDS[k], words, 6, at, len, 64);
+            in_pieces(ac, KINDS[k], at, len, 1);
+            in_pieces(ac, KINDS[k], at, len, 10);
+            in_pieces(ac, KINDS[k], at, len, 600);
         }
         all_alike(ac, words, 6, at, len, dado_place_over(0, len), 1);
         all_alike(ac, words, 6, at, len, dado_place_over(0, len), 64);
@@ -230,6 +274,19 @@ static void other_statuses(const dado_automaton *ac, const dado_automaton *leftm
     /* what stands beside the span counts */
     past = dado_place_over(1, 4);
     CHECK(dado_overlapping_words_some(ac, BYTES("xcat"), &past, many, 2, &count) == DADO_NONE && count == 0);
+    {
+        dado_stream *stream = NULL, *kept;
+        CHECK(dado_word_stream_new(NULL, 0, &stream) == DADO_NO_AUTOMATON && stream == NULL);
+        CHECK(dado_word_stream_new(ac, 0, NULL) == DADO_BAD_ARGUMENT);
+        CHECK(dado_word_stream_new(ac, 2, &stream) == DADO_OK && dado_stream_push(&stream, BYTES("cat"), &count) == DADO_OK && count == 3);
+        kept = stream;
+        CHECK(dado_word_stream_new(anchored, 3, &stream) == DADO_BAD_KIND && stream == kept);
+        CHECK(dado_word_stream_new(anchored, 2, &stream) == DADO_NOT_UNANCHORED && stream == kept);
+        CHECK(dado_word_stream_new(leftmost, 2, &stream) == DADO_NOT_STANDARD && stream == kept);
+        CHECK(dado_word_stream_new(with_empty, 2, &stream) == DADO_EMPTY_PATTERN && stream == kept);
+        CHECK(dado_stream_finish(&stream) == DADO_OK && dado_stream_some(&stream, many, 2, &count) == DADO_OK && is(&many[0], 0, 0, 3));
+        dado_stream_free(&stream);
+    }
     CHECK(dado_mask_words(NULL, word, 3, '*') == DADO_NO_AUTOMATON);
     CHECK(dado_mask_words(ac, NULL, 3, '*') == DADO_BAD_ARGUMENT && dado_mask_words(ac, NULL, 0, '*') == DADO_OK);
     CHECK(dado_mask_words(anchored, word, 3, '*') == DADO_NOT_UNANCHORED && memcmp(word, "cat", 3) == 0);

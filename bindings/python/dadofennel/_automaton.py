@@ -283,10 +283,21 @@ class Automaton(Generic[AnyStr]):
         """
         return _stream.begun(self._built)
 
+    def word_stream(self, kind: str = "standard") -> "_stream.Stream[AnyStr]":
+        """Begins a text that comes in pieces, as `stream` does, and gives its whole words under `kind`: those of `find_words`.
+
+        Raises `Error` where `find_words` does, and `ValueError` where there is no such kind.
+        """
+        return _stream.begun(self._built, number_of("kind", kind, native.KINDS))
+
     def finditer_stream(self, reader: Any) -> Iterator[Match]:
         """The matches of what `reader` has, one after another, each as soon as it is decided: as `stream` gives them."""
         built = self._built
         return _stream.found(_stream.begun(built), built.longest, reader)
+
+    def find_words_stream(self, reader: Any, kind: str = "standard") -> Iterator[Match]:
+        """The whole words of what `reader` has, one after another, each as soon as it is decided: as `word_stream` gives them."""
+        return _stream.found(self.word_stream(kind), self._built.longest, reader)
 
 
 def _again(patterns: Tuple[Any, ...], settings: Dict[str, Any]) -> Automaton[Any]:

@@ -8,7 +8,7 @@ import io
 from ctypes import byref, c_size_t, c_void_p
 from operator import sub
 from threading import Lock
-from typing import Any, AnyStr, Callable, Generic, Iterable, Iterator, List, NoReturn, Tuple
+from typing import Any, AnyStr, Callable, Generic, Iterable, Iterator, List, NoReturn, Optional, Tuple
 
 from . import _native as native
 from ._built import Built
@@ -27,11 +27,12 @@ CONTINUED = bytes(range(0x80, 0xC0))
 
 
 class Stream(Generic[AnyStr]):
-    """A text that is searched piece by piece. `Automaton.stream` begins one.
+    """A text that is searched piece by piece. `Automaton.stream` begins one, and `Automaton.word_stream` one for whole words.
 
-    `push` returns the matches that are decided by then, and `finish` those that are left. Together they are those of `finditer` in
-    the whole text, wherever it was cut; places are counted from its beginning. Under the standard kind a match is decided once its
-    last character was pushed, under a leftmost kind once nothing that may follow can change it.
+    `push` returns the matches that are decided by then, and `finish` those that are left. Together they are those of `finditer`, or of
+    `find_words`, in the whole text, wherever it was cut; places are counted from its beginning. Under the standard kind a match is
+    decided once its last character was pushed, and a word once the character after it was; under a leftmost kind once nothing that may
+    follow can change it.
 
     A stream takes 64 KiB, or 8 times the length of the longest pattern, and owns the automaton too. Threads may pass it on, and one
     waits for the other. It can't be copied or pickled. In a forked process it serves, unless another thread was pushing to it.
@@ -40,13 +41,14 @@ class Stream(Generic[AnyStr]):
     __slots__ = ("_handle", "_lock", "_room", "_text", "_codes", "_widths", "_held", "_byte", "_char", "_cut")
 
     def __init__(self) -> None:
-        raise TypeError("a stream is begun by Automaton.stream")
+        raise TypeError("a stream is begun by Automaton.stream or Automaton.word_stream")
 
-    def _begin(self, built: Built) -> None:
+    def _begin(self, built: Built, words: Optional[int]) -> None:
         self._handle, self._lock, self._room = c_void_p(), Lock(), native.Room(ROOM)
         self._text, self._codes, self._widths = built.text, built.codes, list(map(len, built.patterns))
         self._held, self._byte, self._char, self._cut = b"", 0, 0, 0
-        refuse(native.stream_new(built.by_codes(), byref(self._handle)))
+        owner, handle = built.by_codes(), byref(self._handle)
+        refuse(native.stream_new(owner, handle) if words is None else native.word_stream_new(owner, words, handle))
 
     def __del__(self, free: Any = native.stream_free, reference: Any = byref) -> None:
         handle = getattr(self, "_handle", None)
@@ -141,10 +143,10 @@ class Stream(Generic[AnyStr]):
         return self._char
 
 
-def begun(built: Built) -> Stream[Any]:
-    """A stream, at its beginning."""
+def begun(built: Built, words: Optional[int] = None) -> Stream[Any]:
+    """A stream, at its beginning: of matches, or of whole words under the kind of a number."""
     stream: Stream[Any] = Stream.__new__(Stream)
-    stream._begin(built)
+    stream._begin(built, words)
     return stream
 
 

@@ -149,7 +149,11 @@ class Random(unittest.TestCase):
             self.masks(rng, automaton, patterns, fold, lent, text, what)
             if all(patterns):
                 for asked in KINDS:
-                    self.assertEqual(list(automaton.find_words(lent, asked)), words(patterns, asked, text, fold), (asked, what))
+                    wanted = words(patterns, asked, text, fold)
+                    self.assertEqual(list(automaton.find_words(lent, asked)), wanted, (asked, what))
+                    self.in_pieces(rng, automaton.word_stream(asked), lent, wanted, (asked, what))
+                    reader = Pieces(text, rng.choice([[1], [3], [100]]))
+                    self.assertEqual(list(automaton.find_words_stream(reader, asked)), wanted, (asked, what))
                 self.assertEqual(list(automaton.overlapping_words(lent)), all_words(patterns, text, fold), what)
         replacements = [f"<{number}é>" for number in range(len(patterns))]
         if isinstance(text, bytes):
@@ -167,7 +171,9 @@ class Random(unittest.TestCase):
         count = automaton.replace_stream(Pieces(text, rng.choice([[1], [1, 2, 3], [7], [100]])), writer, replacement)
         self.assertEqual((writer.getvalue(), count, seen), (wanted, len(matches), matches), what)
         if all(patterns):
-            self.in_pieces(rng, automaton, lent, matches, what)
+            self.in_pieces(rng, automaton.stream(), lent, matches, what)
+            reader = Pieces(text, rng.choice([[1], [3], [100]]))
+            self.assertEqual(list(automaton.finditer_stream(reader)), matches, what)
 
     def masks(self, rng, automaton, patterns, fold, lent, text, what):
         star = rng.choice(["*", "a", "é", "😀"])
@@ -186,8 +192,8 @@ class Random(unittest.TestCase):
         if star in ("*", b"*") and all(patterns):
             self.assertFalse(automaton.is_match(made), what)
 
-    def in_pieces(self, rng, automaton, text, matches, what):
-        stream, at, given = automaton.stream(), 0, []
+    def in_pieces(self, rng, stream, text, matches, what):
+        at, given = 0, []
         while at < len(text):
             low, cut = at, stream.cut
             at = min(len(text), at + rng.choice([0, 1, 2, 7]))
@@ -196,8 +202,6 @@ class Random(unittest.TestCase):
             given += found
         self.assertEqual(given, matches[:len(given)], what)
         self.assertEqual((given + stream.finish(), stream.cut), (matches, len(text)), what)
-        reader = Pieces(text, rng.choice([[1], [3], [100]]))
-        self.assertEqual(list(automaton.finditer_stream(reader)), matches, what)
 
 
 class Long(unittest.TestCase):
@@ -438,6 +442,7 @@ class Callers(unittest.TestCase):
             lambda: leftmost.find_words("a"), lambda: anchored.find_words("a"), lambda: Automaton(["a", ""]).find_words("a"),
             lambda: leftmost.overlapping_words("a"), lambda: anchored.overlapping_words("a"),
             lambda: Automaton(["a", ""]).overlapping_words("a"), lambda: leftmost.mask_words("a"), lambda: anchored.mask_words("a"),
+            leftmost.word_stream, anchored.word_stream, Automaton(["a", ""]).word_stream,
             lambda: anchored.replace("a", ["b"]), lambda: anchored.replace_stream(io.StringIO("a"), io.StringIO(), "b"),
         ):
             self.assertRaises(Error, call)
@@ -459,6 +464,21 @@ class Callers(unittest.TestCase):
         with unittest.mock.patch.object(native, "stream_new", lambda *arguments: native.NO_MEMORY):
             self.assertRaises(MemoryError, Automaton([b"a"]).stream)
         self.assertEqual(list(Automaton([b"a"]).finditer_stream(io.BytesIO(b"aba"))), [Match(0, 0, 1), Match(0, 2, 3)])
+
+    def test_streams_of_words(self):
+        stream = Automaton(["new", "new york"]).word_stream("leftmost-longest")
+        self.assertEqual((stream.push("new"), stream.cut), ([], 0))
+        self.assertEqual((stream.push(" york"), stream.cut), ([], 0))
+        self.assertEqual((stream.push("er, "), stream.cut), ([Match(0, 0, 3)], 12))
+        self.assertEqual((stream.push("new york"), stream.cut), ([], 12))
+        self.assertEqual((stream.finish(), stream.cut, stream.finish()), ([Match(1, 12, 20)], 20, []))
+        self.assertRaises(Error, stream.push, "e")
+        plain = Automaton([b"new"]).word_stream()
+        self.assertEqual((plain.push(b"new"), plain.push(b"."), plain.finish()), ([], [Match(0, 0, 3)], []))
+        self.assertRaises(TypeError, plain.push, "a")
+        self.assertRaises(ValueError, Automaton([b"a"]).word_stream, "longest")
+        with unittest.mock.patch.object(native, "word_stream_new", lambda *arguments: native.NO_MEMORY):
+            self.assertRaises(MemoryError, Automaton([b"a"]).word_stream)
 
     def test_words(self):
         cat = Automaton(["cat"])

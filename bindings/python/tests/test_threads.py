@@ -83,7 +83,7 @@ def often():
 class Watched:
     """Lets other threads have a turn before each call with an automaton, and then looks whether it was freed. Counts the builds."""
 
-    CALLS = ("find_in", "some", "overlapping_some", "words_some", "overlapping_words_some", "replace", "mask", "mask_words", "stream_new", "engine", "memory")
+    CALLS = ("find_in", "some", "overlapping_some", "words_some", "overlapping_words_some", "replace", "mask", "mask_words", "stream_new", "word_stream_new", "engine", "memory")
 
     def __init__(self):
         self.freed, self.builds, self._patches = [], [], []
@@ -265,6 +265,7 @@ class EveryMethod(unittest.TestCase):
             list(automaton.finditer(text, 3, anchored=anchored)), None if leftmost else list(automaton.overlapping(text)),
             None if leftmost else automaton.mask(text), None if leftmost else list(automaton.find_words(text, "leftmost-first")),
             None if leftmost else automaton.mask_words(text), None if leftmost else list(automaton.overlapping_words(text)),
+            None if leftmost else list(automaton.find_words_stream(io.StringIO(text), "leftmost-longest")),
             automaton.replace(text, "-"), automaton.replace(text, ["1", "2", "3"]), automaton.replace(text, {
                 "app": "1", "append": "2", "dé": "3"}), automaton.replace(text, lambda found: str(found.start)),
             automaton.replace_stream(reader, writer, ["1", "2", "3"]), writer.getvalue(),

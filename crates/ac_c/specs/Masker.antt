@@ -12,7 +12,8 @@ use Rattle.ac_c.specs.contracts.masking.Masking.{the_row}
 use Rattle.ac_c.specs.declared.masking.Masking.{Masking}
 use Rattle.ac_c.specs.declared.replace.Length.{Length}
 use Rattle.ac_c.specs.declared.searching.Count.{Count}
-use Rattle.ac_c.specs.Masking.{IsClosedMask, IsPushedTo, IsRefusedMask, masking_by, ready_len}
+use Rattle.ac_c.specs.Masking.{IsClosedMask, IsPushedTo, masking_by, ready_len}
+use Rattle.ac_c.specs.Searching.{IsRefusedStandard}
 use Rattle.ac_c.specs.Status.{ok, no_masker}
 
 -- a masking of pieces, or none
@@ -26,7 +27,7 @@ masker_coded = coded_option the_row.coded
 abbrev pub AnswersMasking : AhoCorasick → ℕ → HeldMasker → HeldMasker → ℕ → Type 0
 AnswersMasking ac byte old new status =
     (CanStream OnlyStandard (as_built ac) (supported_by ac) × (new ≡ Some (masking_by ac byte)) × (status ≡ ok))
-    ⊎ (IsRefusedMask ac status × (new ≡ old))
+    ⊎ (IsRefusedStandard ac status × (new ≡ old))
 
 -- the first bytes of a piece were taken, or why none were; or the handle holds no masking
 abbrev pub AnswersMaskPush : List ℕ → HeldMasker → HeldMasker → Count → Type 0

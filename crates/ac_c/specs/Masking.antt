@@ -5,7 +5,6 @@ use Rattle.ac_automaton.specs.Masking.{masked_in}
 use Rattle.ac_automaton.specs.Masking.Words.{masked_words_in}
 use Rattle.ac_automaton.specs.Stream.{CanBeCounted, CanStream}
 use Rattle.ac_automaton.specs.Stream.Mask.{MaskProgress, MasksPushed, finished_mask, fresh_mask, passed_to, ready_of}
-use Rattle.ac_automaton.specs.Stream.Overlapping.{IsListingConfigRefusal}
 use Rattle.ac_automaton.specs.declared.error.MatchErrorKind.{MatchErrorKind}
 use Rattle.ac_automaton.specs.declared.error.StreamError.{StreamError}
 use Rattle.ac_automaton.specs.declared.stream.StreamKinds.TheVariants.{OnlyStandard}
@@ -17,7 +16,7 @@ use Rattle.aho_corasick.specs.declared.ahocorasick.AhoCorasick.{AhoCorasick}
 use Rattle.ac_c.specs.declared.masking.Masking.{Masking}
 use Rattle.ac_c.specs.declared.replace.Length.{Length}
 use Rattle.ac_c.specs.declared.searching.Count.{Count}
-use Rattle.ac_c.specs.Searching.{push_of}
+use Rattle.ac_c.specs.Searching.{IsRefusedStandard, push_of}
 use Rattle.ac_c.specs.Status.{ok, no_memory, finished, refusal_status}
 
 -- ---- a text where it lies
@@ -45,19 +44,11 @@ AnswersMaskedWords ac byte before after status =
 abbrev pub masking_by : AhoCorasick → ℕ → Masking
 masking_by ac byte = record { stream = fresh_mask (as_built ac) byte }
 
--- Why there is no masking: the automaton has no start for it, or isn't of the standard kind, or has an empty pattern; or
--- memory ran out.
-abbrev pub IsRefusedMask : AhoCorasick → ℕ → Type 0
-IsRefusedMask ac status =
-    ((error : MatchErrorKind) × IsListingConfigRefusal (as_built ac) (supported_by ac) error
-    × (status ≡ refusal_status error))
-    ⊎ (CanStream OnlyStandard (as_built ac) (supported_by ac) × (status ≡ no_memory))
-
 -- the library's masking, or why there is none
 abbrev pub IsMaskingOfPieces : AhoCorasick → ℕ → Result MaskProgress ℕ → Type 0
 IsMaskingOfPieces ac byte (Ok s) =
     CanStream OnlyStandard (as_built ac) (supported_by ac) × (s ≡ fresh_mask (as_built ac) byte)
-IsMaskingOfPieces ac byte (Err status) = IsRefusedMask ac status
+IsMaskingOfPieces ac byte (Err status) = IsRefusedStandard ac status
 
 -- A finished masking takes nothing, and is unchanged. Any other takes what the library's masking takes.
 abbrev pub IsPushedTo : Masking → List ℕ → Masking → Count → Type 0

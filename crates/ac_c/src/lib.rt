@@ -11,7 +11,6 @@
 ghost use types.Logic.{sem};
 ghost use Rattle.std.specs.Prelude.{◌≡◌, IfSome, None};
 ghost use Rattle.ac_literal.specs.Packed.{bytes_of};
-ghost use Rattle.ac_automaton.specs.Stream.{IsOnCourse};
 ghost use Rattle.ac_c.specs.Build.{AnswersBuild, AreDefaults, IsShared};
 ghost use Rattle.ac_c.specs.Find.{AnswersFindIn, bounds};
 ghost use Rattle.ac_c.specs.Lent.{Lent, is_lent, lasting};
@@ -21,7 +20,8 @@ ghost use Rattle.ac_c.specs.Masker.{AnswersMaskEnd, AnswersMaskPush, AnswersMask
 ghost use Rattle.ac_c.specs.Masking.{AnswersMasked, AnswersMaskedWords};
 ghost use Rattle.ac_c.specs.Replace.{AnswersInto, AnswersText};
 ghost use Rattle.ac_c.specs.Replacer.{AnswersPushOn, AnswersReplacing, AnswersSlice, end_by, end_status};
-ghost use Rattle.ac_c.specs.Stream.{AnswersStream, AnswersNext, AnswersPush, finish_by, finish_status, view_by};
+ghost use Rattle.ac_c.specs.Searching.{IsOnItsCourse};
+ghost use Rattle.ac_c.specs.Stream.{AnswersStream, AnswersNext, AnswersPush, AnswersWordStream, finish_by, finish_status, view_by};
 ghost use Rattle.ac_c.specs.Text.{held_len};
 ghost use Rattle.ac_c.specs.Tell.{AnswersLength, TellsAbout};
 ghost use Rattle.ac_c.specs.Walk.{AnswersSome, AnswersStep, cursor};
@@ -34,6 +34,7 @@ pub mod handle;
 pub mod list;
 pub mod masker;
 pub mod masking;
+pub mod pushed;
 pub mod replace;
 pub mod replacer;
 pub mod replacing;
@@ -159,7 +160,7 @@ pub extern "C" fn dado_raw_stream_push(alloc: Global, stream: &mut Stream, piece
     with!(stream: Stream in alloc, Count::none(NO_STREAM), |search| search.push(piece))
 }
 
-/// The next matches that are decided, as many as the buffer has room for.
+/// The next matches, or words, that are decided, as many as the buffer has room for.
 #[unsafe(no_mangle)]
 pub extern "C" fn dado_raw_stream_some(
     alloc: Global,
@@ -168,7 +169,7 @@ pub extern "C" fn dado_raw_stream_some(
 ) -> Count
     ensures { AnswersNext stream.old.value stream.new.value out.old out.new result }
 {
-    with!(stream: Stream in alloc, Count::none(NO_STREAM), |search| search.next_matches(out))
+    with!(stream: Stream in alloc, Count::none(NO_STREAM), |search| search.next_items(out))
 }
 
 /// Where the held bytes lie, and where they stand in all that was passed. They lie there until the next push.
@@ -180,7 +181,7 @@ pub extern "C" fn dado_raw_stream_view(
 ) -> View
     ensures kept { stream.new.value ≡ stream.old.value }
     ensures view { result ≡ view_by stream.old.value }
-    ensures course { IfSome stream.old.value (λ s. IsOnCourse s.search) }
+    ensures course { IfSome stream.old.value IsOnItsCourse }
 {
     with!(stream: Stream in alloc, View::none(NO_STREAM), |search| {
         if let Some(first) = search.held().first() {
@@ -323,6 +324,23 @@ pub unsafe extern "C" fn dado_raw_stream_new(
 {
     let ac = at as *const AhoCorasick;
     stream::begin(&*ac, alloc, stream)
+}
+
+/// A search of pieces for whole words under a kind, which owns the automaton too.
+#[unsafe(no_mangle)]
+pub unsafe extern "C" fn dado_raw_word_stream_new(
+    at: *const Opaque,
+    kind: u32,
+    alloc: Global,
+    stream: &mut Stream,
+) -> u32
+    ghost g: { Lent }
+    requires* lent { sem 𝓛 (is_lent at g) }
+    ensures* lasts { sem 𝓛 (lasting g) }
+    ensures answer { AnswersWordStream g.automaton kind stream.old.value stream.new.value result }
+{
+    let ac = at as *const AhoCorasick;
+    stream::begin_words(&*ac, kind, alloc, stream)
 }
 
 /// A replacement of pieces by an automaton that is lent, which it owns too. What the handle held before is freed once it is made.

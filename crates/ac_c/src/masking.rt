@@ -5,16 +5,16 @@
 ghost use Rattle.std.specs.Prelude.{◌≡◌, IfErr, IfOk, OnOk};
 ghost use Rattle.ac_automaton.specs.Stream.{CanStream};
 ghost use Rattle.ac_automaton.specs.Stream.Mask.{MaskCounts};
-ghost use Rattle.ac_automaton.specs.Stream.Overlapping.{IsListingConfigRefusal};
 ghost use Rattle.ac_automaton.specs.declared.stream.StreamKinds.TheVariants.{OnlyStandard};
 ghost use Rattle.aho_corasick.specs.AhoCorasick.{as_built, supported_by};
-ghost use Rattle.ac_c.specs.Masking.{AnswersMasked, AnswersMaskedWords, IsClosedMask, IsMaskingOfPieces, IsPushedTo, IsRefusedMask, masking_by, ready_len};
+ghost use Rattle.ac_c.specs.Masking.{AnswersMasked, AnswersMaskedWords, IsClosedMask, IsMaskingOfPieces, IsPushedTo, masking_by, ready_len};
+ghost use Rattle.ac_c.specs.Searching.{IsRefusedStandard};
 
 use crate::replace::Length;
-use crate::searching::Count;
+use crate::searching::{Count, shared_standard};
 use crate::status::{FINISHED, NO_MEMORY, OK, TOO_MANY_BYTES, refused};
 use ac_automaton::stream::mask::StreamMask;
-use aho_corasick::{AhoCorasick, MatchError, ReplaceError, Steps, StreamError};
+use aho_corasick::{AhoCorasick, ReplaceError, Steps, StreamError};
 use std::alloc::Global;
 use std::ptr::NonNull;
 
@@ -45,28 +45,11 @@ pub struct Masking {
     stream: StreamMask<AhoCorasick>,
 }
 
-/// Returns an error if the automaton can't mask pieces: as it can't mask a text, or else since a pattern is empty.
-fn configured(ac: &AhoCorasick) -> Result<(), MatchError>
-    ensures can { OnOk result (CanStream OnlyStandard (as_built ac.now) (supported_by ac.now)) }
-    ensures error { IfErr result (IsListingConfigRefusal (as_built ac.now) (supported_by ac.now)) }
-{
-    ac.try_mask(&mut [], 0)?;
-    if ac.min_pattern_len() == 0 {
-        return Err(MatchError::unsupported_empty());
-    }
-    Ok(())
-}
-
 /// A masking of pieces by an automaton, which it shares.
 fn masking_of(ac: &AhoCorasick, byte: u8, alloc: Global) -> Result<StreamMask<AhoCorasick>, u32>
     ensures { IsMaskingOfPieces ac.now byte result }
 {
-    if let Err(error) = configured(ac) {
-        return Err(refused(&error));
-    }
-    let Ok(shared) = ac.clone(alloc) else {
-        return Err(NO_MEMORY);
-    };
+    let shared = shared_standard(ac, alloc)?;
     match StreamMask::new(shared, byte, alloc) {
         Ok(stream) => Ok(stream),
         Err(StreamError::Config(error)) => Err(refused(&error)),
@@ -79,7 +62,7 @@ impl Masking {
     pub fn begin(ac: &AhoCorasick, byte: u8, alloc: Global) -> Result<Box<Masking, Global>, u32>
         ensures begun { IfOk result (λ m. masking_by ac.now byte ≡ m.value) }
         ensures can { OnOk result (CanStream OnlyStandard (as_built ac.now) (supported_by ac.now)) }
-        ensures refused { IfErr result (IsRefusedMask ac.now) }
+        ensures refused { IfErr result (IsRefusedStandard ac.now) }
     {
         let stream = masking_of(ac, byte, alloc)?;
         match Box::new(alloc, Masking { stream }) {

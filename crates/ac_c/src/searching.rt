@@ -1,25 +1,39 @@
 //! A search of a text that C passes piece by piece: what is behind its handle, and what each call does.
 //!
 //! The library's search takes a piece only once all matches of what came before were returned. It holds a match back until no byte
-//! that follows can change it, and the bytes that are still undecided. A caller passes on what lies before the cut.
-ghost use Rattle.std.specs.Prelude.{◌≡◌, IfErr, IfOk, Ok, OnOk, drop};
+//! that follows can change it, and the bytes that are still undecided. A caller passes on what lies before the cut. A search for whole
+//! words is one like it, so [`Pushed`] has what both do, and the handle holds one or the other.
+ghost use Rattle.std.specs.Prelude.{◌≡◌, IfErr, IfOk, OnOk, drop};
 ghost use Rattle.ac_automaton.specs.Stream.{CanStream, IsConfigRefusal, IsOnCourse, StreamCounts, read_by};
-ghost use Rattle.ac_automaton.specs.declared.stream.StreamKinds.TheVariants.{AnyKind};
+ghost use Rattle.ac_automaton.specs.Stream.Overlapping.{IsListingConfigRefusal};
+ghost use Rattle.ac_automaton.specs.declared.stream.StreamKinds.TheVariants.{AnyKind, OnlyStandard};
 ghost use Rattle.aho_corasick.specs.AhoCorasick.{MeansSame, as_built, supported_by};
-ghost use Rattle.ac_c.specs.Searching.{AreNext, IsGiven, IsPushed, IsRefusedSearch, IsSearchOfPieces, begun_by, finished_by, is_finished, view_of};
+ghost use Rattle.ac_c.specs.Searching.{AreNext, GivesNext, IsGiven, IsOnItsCourse, IsPushed, IsRefusedSearch, IsRefusedStandard, IsSearchOfPieces, IsSearchOfWords, TakesPiece, begun_by, come_by, finished_by, finished_with, held_by, is_finished, view_in, view_of, words_begun_by};
+ghost use Rattle.ac_c.specs.Status.{no_memory};
 
 use crate::found::Found;
+use crate::pushed::PieceSearch;
 use crate::status::{FINISHED, NO_MEMORY, NONE, OK, TOO_MANY_BYTES, refused};
 use ac_automaton::stream::StreamSearch;
+use ac_automaton::stream::words::WordSearch;
 use aho_corasick::automaton::Automaton;
-use aho_corasick::{AhoCorasick, Anchored, MatchError, Steps, StreamError};
+use aho_corasick::{AhoCorasick, Anchored, MatchError, MatchKind, Steps, StreamError};
 use std::alloc::Global;
 
-/// A search of pieces under any kind, and whether it was told that no more come.
+/// A search to which pieces are pushed, and whether it was told that no more come.
 #[derive(Drop)]
-pub struct Searching {
-    search: StreamSearch<AhoCorasick>,
+pub struct Pushed<S> {
+    search: S,
     finished: bool,
+}
+
+/// A search of pieces.
+#[derive(Drop)]
+pub enum Searching {
+    /// For matches, under any kind.
+    ForMatches(Pushed<StreamSearch<AhoCorasick>>),
+    /// For whole words, under any kind.
+    ForWords(Pushed<WordSearch<AhoCorasick>>),
 }
 
 /// How many bytes of a piece were taken, or how many matches were given, and the status.
@@ -91,6 +105,34 @@ pub(crate) fn shared(ac: &AhoCorasick, alloc: Global) -> Result<AhoCorasick, u32
     }
 }
 
+/// Returns an error if the automaton has no search of pieces for all that overlaps: as it can't mask a text, or else since a pattern is
+/// empty.
+fn configured_standard(ac: &AhoCorasick) -> Result<(), MatchError>
+    ensures can { OnOk result (CanStream OnlyStandard (as_built ac.now) (supported_by ac.now)) }
+    ensures error { IfErr result (IsListingConfigRefusal (as_built ac.now) (supported_by ac.now)) }
+{
+    ac.try_mask(&mut [], 0)?;
+    if ac.min_pattern_len() == 0 {
+        return Err(MatchError::unsupported_empty());
+    }
+    Ok(())
+}
+
+/// Another owner of an automaton that can search pieces for all that overlaps.
+pub(crate) fn shared_standard(ac: &AhoCorasick, alloc: Global) -> Result<AhoCorasick, u32>
+    ensures same { IfOk result (MeansSame ac.now) }
+    ensures can { OnOk result (CanStream OnlyStandard (as_built ac.now) (supported_by ac.now)) }
+    ensures refused { IfErr result (IsRefusedStandard ac.now) }
+{
+    if let Err(error) = configured_standard(ac) {
+        return Err(refused(&error));
+    }
+    match ac.clone(alloc) {
+        Ok(shared) => Ok(shared),
+        Err(_) => Err(NO_MEMORY),
+    }
+}
+
 /// A search of pieces by an automaton, which it shares.
 fn search_by(ac: &AhoCorasick, alloc: Global) -> Result<StreamSearch<AhoCorasick>, u32>
     ensures { IsSearchOfPieces ac.now result }
@@ -103,13 +145,29 @@ fn search_by(ac: &AhoCorasick, alloc: Global) -> Result<StreamSearch<AhoCorasick
     }
 }
 
-/// Fills a buffer with the matches that come next; returns how many these are, and counts what it does.
-fn fill(search: &mut StreamSearch<AhoCorasick>, out: &mut [Found], steps: &mut Steps) -> usize
-    ensures next { AreNext search.old search.new out.old out.new result }
-    ensures cost { StreamCounts search.old search.new steps.old steps.new }
+/// A search of pieces for whole words.
+fn words_by(
+    ac: &AhoCorasick,
+    kind: MatchKind,
+    alloc: Global,
+) -> Result<WordSearch<AhoCorasick>, u32>
+    ensures { IsSearchOfWords ac.now kind result }
+{
+    let shared = shared_standard(ac, alloc)?;
+    match WordSearch::new(shared, kind, alloc) {
+        Ok(search) => Ok(search),
+        Err(StreamError::Config(error)) => Err(refused(&error)),
+        Err(_) => Err(NO_MEMORY),
+    }
+}
+
+/// Fills a buffer with the items that come next; returns how many these are, and counts what it does.
+fn fill<S: PieceSearch>(search: &mut S, out: &mut [Found], steps: &mut Steps) -> usize
+    ensures next { AreNext (S.progress search.old) (S.progress search.new) out.old out.new result }
+    ensures cost { StreamCounts (S.progress search.old) (S.progress search.new) steps.old steps.new }
 {
     for at in 0..out.len() {
-        match search.next_counted(steps) {
+        match search.next_item(steps) {
             Some(found) => out[at] = Found::from_match(&found),
             None => return at,
         }
@@ -117,63 +175,46 @@ fn fill(search: &mut StreamSearch<AhoCorasick>, out: &mut [Found], steps: &mut S
     out.len()
 }
 
-impl Searching {
-    /// A search that was passed nothing yet, in a box.
-    pub fn begin(ac: &AhoCorasick, alloc: Global) -> Result<Box<Searching, Global>, u32>
-        ensures begun { IfOk result (λ s. begun_by ac.now ≡ s.value) }
-        ensures can { OnOk result (CanStream AnyKind (as_built ac.now) (supported_by ac.now)) }
-        ensures refused { IfErr result (IsRefusedSearch ac.now) }
-    {
-        let search = search_by(ac, alloc)?;
-        let begun = Searching {
-            search,
-            finished: false,
-        };
-        match Box::new(alloc, begun) {
-            Ok(begun) => Ok(begun),
-            Err(_) => Err(NO_MEMORY),
-        }
-    }
-
+impl<S: PieceSearch> Pushed<S> {
     /// Whether it was told that no more pieces come.
     fn is_finished(&self) -> bool
-        ensures { result ≡ is_finished self.now }
+        ensures { result ≡ is_finished (come_by S.progress self.now) }
     {
-        self.finished || self.search.is_closed()
+        self.finished || self.search.has_closed()
     }
 
     /// Takes the first bytes of a piece.
-    pub fn push(&mut self, piece: &[u8]) -> Count
-        ensures { IsPushed self.old piece.now self.new result }
+    fn push(&mut self, piece: &[u8]) -> Count
+        ensures { IsPushed (come_by S.progress self.old) piece.now (come_by S.progress self.new) result }
     {
         self.push_counted(piece, &mut Steps::new())
     }
 
     /// The same; counts the bytes that it moves.
     fn push_counted(&mut self, piece: &[u8], steps: &mut Steps) -> Count
-        ensures pushed { IsPushed self.old piece.now self.new result }
-        ensures cost { StreamCounts self.old.search self.new.search steps.old steps.new }
+        ensures pushed { IsPushed (come_by S.progress self.old) piece.now (come_by S.progress self.new) result }
+        ensures cost { StreamCounts (S.progress self.old.search) (S.progress self.new.search) steps.old steps.new }
     {
         if self.is_finished() {
             return Count::none(FINISHED);
         }
-        match self.search.push_counted(piece, steps) {
+        match self.search.take(piece, steps) {
             Ok(count) => Count { count, status: OK },
             Err(_) => Count::none(TOO_MANY_BYTES),
         }
     }
 
-    /// The next matches that are decided, as many as the buffer has room for.
-    pub fn next_matches(&mut self, out: &mut [Found]) -> Count
-        ensures { IsGiven self.old self.new out.old out.new result }
+    /// The next items that are decided, as many as the buffer has room for.
+    fn next_items(&mut self, out: &mut [Found]) -> Count
+        ensures { IsGiven (come_by S.progress self.old) (come_by S.progress self.new) out.old out.new result }
     {
-        self.next_matches_counted(out, &mut Steps::new())
+        self.next_items_counted(out, &mut Steps::new())
     }
 
     /// The same; counts what it does.
-    fn next_matches_counted(&mut self, out: &mut [Found], steps: &mut Steps) -> Count
-        ensures given { IsGiven self.old self.new out.old out.new result }
-        ensures cost { StreamCounts self.old.search self.new.search steps.old steps.new }
+    fn next_items_counted(&mut self, out: &mut [Found], steps: &mut Steps) -> Count
+        ensures given { IsGiven (come_by S.progress self.old) (come_by S.progress self.new) out.old out.new result }
+        ensures cost { StreamCounts (S.progress self.old.search) (S.progress self.new.search) steps.old steps.new }
     {
         let room = out.len();
         let count = fill(&mut self.search, out, steps);
@@ -183,31 +224,120 @@ impl Searching {
         }
     }
 
-    /// The bytes that are held.
-    pub fn held(&self) -> &[u8]
-        ensures { result.now ≡ drop self.now.search.from (read_by self.now.search) }
-    {
-        self.search.held()
-    }
-
     /// Where the held bytes stand.
-    pub fn view(&self) -> View
-        ensures view { result ≡ view_of self.now }
-        ensures course { IsOnCourse self.now.search }
+    fn view(&self) -> View
+        ensures view { result ≡ view_of (come_by S.progress self.now) }
+        ensures course { IsOnCourse (S.progress self.now.search) }
     {
         View {
-            len: self.search.held().len(),
-            from: self.search.from(),
-            cut: self.search.cut(),
+            len: self.search.held_bytes().len(),
+            from: self.search.first_held(),
+            cut: self.search.decided(),
             status: OK,
         }
     }
 
     /// Tells it that no more pieces come, so that everything is decided.
-    pub fn finish(&mut self)
-        ensures { self.new ≡ finished_by self.old }
+    fn finish(&mut self)
+        ensures { come_by S.progress self.new ≡ finished_by (come_by S.progress self.old) }
     {
-        self.search.finish();
+        self.search.close();
         self.finished = true;
+    }
+}
+
+impl Searching {
+    /// A search that was passed nothing yet, in a box.
+    fn boxed(self, alloc: Global) -> Result<Box<Searching, Global>, u32>
+        ensures begun { IfOk result (λ s. s.value ≡ self) }
+        ensures refused { IfErr result (λ status. status ≡ no_memory) }
+    {
+        match Box::new(alloc, self) {
+            Ok(begun) => Ok(begun),
+            Err(_) => Err(NO_MEMORY),
+        }
+    }
+
+    /// A search for matches that was passed nothing yet, in a box.
+    pub fn begin(ac: &AhoCorasick, alloc: Global) -> Result<Box<Searching, Global>, u32>
+        ensures begun { IfOk result (λ s. begun_by ac.now ≡ s.value) }
+        ensures can { OnOk result (CanStream AnyKind (as_built ac.now) (supported_by ac.now)) }
+        ensures refused { IfErr result (IsRefusedSearch ac.now) }
+    {
+        let search = search_by(ac, alloc)?;
+        let begun = Pushed {
+            search,
+            finished: false,
+        };
+        Searching::ForMatches(begun).boxed(alloc)
+    }
+
+    /// A search for whole words that was passed nothing yet, in a box.
+    pub fn begin_words(
+        ac: &AhoCorasick,
+        kind: MatchKind,
+        alloc: Global,
+    ) -> Result<Box<Searching, Global>, u32>
+        ensures begun { IfOk result (λ s. words_begun_by ac.now kind ≡ s.value) }
+        ensures can { OnOk result (CanStream OnlyStandard (as_built ac.now) (supported_by ac.now)) }
+        ensures refused { IfErr result (IsRefusedStandard ac.now) }
+    {
+        let search = words_by(ac, kind, alloc)?;
+        let begun = Pushed {
+            search,
+            finished: false,
+        };
+        Searching::ForWords(begun).boxed(alloc)
+    }
+
+    /// Takes the first bytes of a piece.
+    pub fn push(&mut self, piece: &[u8]) -> Count
+        ensures { TakesPiece self.old piece.now self.new result }
+    {
+        match self {
+            Searching::ForMatches(search) => search.push(piece),
+            Searching::ForWords(search) => search.push(piece),
+        }
+    }
+
+    /// The next matches, or words, that are decided, as many as the buffer has room for.
+    pub fn next_items(&mut self, out: &mut [Found]) -> Count
+        ensures { GivesNext self.old self.new out.old out.new result }
+    {
+        match self {
+            Searching::ForMatches(search) => search.next_items(out),
+            Searching::ForWords(search) => search.next_items(out),
+        }
+    }
+
+    /// The bytes that are held.
+    pub fn held(&self) -> &[u8]
+        ensures { result.now ≡ held_by self.now }
+    {
+        match self {
+            Searching::ForMatches(search) => search.search.held(),
+            Searching::ForWords(search) => search.search.held(),
+        }
+    }
+
+    /// Where the held bytes stand.
+    pub fn view(&self) -> View
+        ensures view { result ≡ view_in self.now }
+        ensures course { IsOnItsCourse self.now }
+    {
+        match self {
+            Searching::ForMatches(search) => search.view(),
+            Searching::ForWords(search) => search.view(),
+        }
+    }
+
+    /// Tells it that no more pieces come, so that everything is decided.
+    pub fn finish(&mut self)
+        ensures { self.new ≡ finished_with self.old }
+    {
+        match self {
+            Searching::ForMatches(search) => search.finish(),
+            Searching::ForWords(search) => search.finish(),
+        }
     }
 }

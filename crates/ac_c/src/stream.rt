@@ -1,10 +1,11 @@
 //! What C holds of a search of pieces: a pointer to it, or null.
 ghost use Rattle.std.specs.Prelude.{◌≡◌, Some, None, option_map};
-ghost use Rattle.ac_c.specs.Stream.{AnswersStream, HeldStream, stream_coded};
+ghost use Rattle.ac_c.specs.Stream.{AnswersStream, AnswersWordStream, HeldStream, stream_coded};
 
+use crate::build::kind_by;
 use crate::searching::Searching;
 use crate::slot::Slot;
-use crate::status::OK;
+use crate::status::{BAD_KIND, OK};
 use aho_corasick::AhoCorasick;
 use std::alloc::Global;
 use std::marker::Model;
@@ -89,6 +90,22 @@ pub fn begin(ac: &AhoCorasick, alloc: Global, stream: &mut Stream) -> u32
     ensures { AnswersStream ac.now stream.old.value stream.new.value result }
 {
     match Searching::begin(ac, alloc) {
+        Ok(search) => {
+            *stream = Stream::from_box(search);
+            OK
+        }
+        Err(status) => status,
+    }
+}
+
+/// A search of pieces for whole words under the kind of this number into a handle, as C sees it. It is another owner of the automaton.
+pub fn begin_words(ac: &AhoCorasick, kind: u32, alloc: Global, stream: &mut Stream) -> u32
+    ensures { AnswersWordStream ac.now kind stream.old.value stream.new.value result }
+{
+    let Some(kind) = kind_by(kind) else {
+        return BAD_KIND;
+    };
+    match Searching::begin_words(ac, kind, alloc) {
         Ok(search) => {
             *stream = Stream::from_box(search);
             OK

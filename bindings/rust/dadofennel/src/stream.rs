@@ -8,6 +8,8 @@ use std::io::{self, Read, Write};
 use std::marker::PhantomData;
 use std::ops::Range;
 
+use dadofennel_sys::dado_status;
+
 use crate::ahocorasick::{supported, unfailing};
 use crate::handle::{status_text, Pieces};
 use crate::iter::{found, Batch};
@@ -57,7 +59,31 @@ impl AhoCorasick {
     /// The matches of what a reader has. See `stream_find_iter`.
     pub fn try_stream_find_iter<R: Read>(&self, rdr: R) -> Result<StreamFindIter<'_, R>, MatchError> {
         self.streams()?;
-        Ok(StreamFindIter(Stream::new(self, rdr)))
+        Ok(StreamFindIter(Stream::new(self.handle().stream(), rdr)))
+    }
+
+    /// The whole words under a kind of what a reader has, with places counted from its first byte: those of `find_word_iter` in all that it
+    /// has. A word is found once the byte after it was read; under a leftmost kind, once no byte that may follow can change it either.
+    ///
+    /// It takes the memory that `stream_find_iter` takes. An item is an error where the reader returns one.
+    ///
+    /// ```
+    /// use dadofennel::{AhoCorasick, MatchKind};
+    ///
+    /// let ac = AhoCorasick::new(["new", "new york"])?;
+    /// let text = "new yorker, new york".as_bytes();
+    /// let words: Result<Vec<_>, _> = ac.stream_find_word_iter(MatchKind::LeftmostLongest, text).collect();
+    /// assert_eq!(vec![0..3, 12..20], words?.iter().map(|word| word.range()).collect::<Vec<_>>());
+    /// # Ok::<(), Box<dyn std::error::Error>>(())
+    /// ```
+    pub fn stream_find_word_iter<R: Read>(&self, kind: MatchKind, rdr: R) -> StreamFindWordIter<'_, R> {
+        supported(self.try_stream_find_word_iter(kind, rdr))
+    }
+
+    /// The whole words under a kind of what a reader has. See `stream_find_word_iter`.
+    pub fn try_stream_find_word_iter<R: Read>(&self, kind: MatchKind, rdr: R) -> Result<StreamFindWordIter<'_, R>, MatchError> {
+        self.words()?;
+        Ok(StreamFindIter(Stream::new(self.handle().word_stream(kind.number()), rdr)))
     }
 
     /// Writes what a reader has, with each match replaced. See `stream_replace_all`. A `MatchError` is an error of the kind
@@ -81,7 +107,7 @@ impl AhoCorasick {
         F: FnMut(&Match, &[u8], &mut W) -> io::Result<()>,
     {
         self.streams().map_err(|error| io::Error::new(io::ErrorKind::Other, error))?;
-        let mut stream = Stream::new(self, rdr);
+        let mut stream = Stream::new(self.handle().stream(), rdr);
         while let Some(piece) = stream.next()? {
             match piece {
                 Piece::Text(range) => wtr.write_all(stream.bytes(range))?,
@@ -105,6 +131,9 @@ impl AhoCorasick {
 /// The matches of what a reader has. See `AhoCorasick::stream_find_iter`.
 #[derive(Debug)]
 pub struct StreamFindIter<'a, R>(Stream<'a, R>);
+
+/// The whole words of what a reader has. See `AhoCorasick::stream_find_word_iter`.
+pub type StreamFindWordIter<'a, R> = StreamFindIter<'a, R>;
 
 impl<R: Read> Iterator for StreamFindIter<'_, R> {
     type Item = io::Result<Match>;
@@ -148,8 +177,8 @@ struct Stream<'a, R> {
 }
 
 impl<'a, R: Read> Stream<'a, R> {
-    fn new(ac: &'a AhoCorasick, reader: R) -> Stream<'a, R> {
-        let pieces = ac.handle().stream().unwrap_or_else(|status| panic!("a stream: {}", status_text(status)));
+    fn new(pieces: Result<Pieces, dado_status>, reader: R) -> Stream<'a, R> {
+        let pieces = pieces.unwrap_or_else(|status| panic!("a stream: {}", status_text(status)));
         let (buffer, batch, found) = (vec![0; READ_AT_ONCE], Batch::default(), None);
         Stream { ac: PhantomData, reader, pieces, buffer, len: 0, pushed: 0, given: 0, batch, found, ended: false }
     }

@@ -2,11 +2,12 @@
 
 use std::iter::FusedIterator;
 
+use dadofennel_sys as sys;
+
 use crate::ahocorasick::{supported, unfailing};
 use crate::handle::Handle;
 use crate::iter::{found, place_of, Batch};
 use crate::{AhoCorasick, Anchored, Match, MatchError, MatchKind};
-use dadofennel_sys as sys;
 
 /// Whole words: the occurrences with no word byte beside them. A word byte is an ASCII letter, a digit, `_`, or a byte from 0x80 on, as
 /// those of a character beyond ASCII are. The crate `aho-corasick` has no such calls.
@@ -74,7 +75,7 @@ impl AhoCorasick {
     }
 
     /// An error where the automaton can't search for words.
-    fn words(&self) -> Result<(), MatchError> {
+    pub(crate) fn words(&self) -> Result<(), MatchError> {
         self.lists(Anchored::No)?;
         if self.min_pattern_len() == 0 {
             return Err(MatchError::unsupported_empty());

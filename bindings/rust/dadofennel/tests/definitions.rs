@@ -281,7 +281,7 @@ fn is_word_byte(byte: Option<&u8>) -> bool {
 /// Under each kind, beside the occurrences with no word byte beside them.
 #[test]
 fn words() {
-    cases(|_, case| {
+    cases(|rng, case| {
         let text = case.text.as_bytes();
         let can =
             case.kind == MatchKind::Standard && case.start_kind != StartKind::Anchored && !case.patterns.contains(&String::new());
@@ -295,7 +295,10 @@ fn words() {
                 left.retain(|it| it.start() >= best.end());
             }
             let words = case.ac.try_find_word_iter(kind, text).map(Iterator::collect::<Vec<_>>);
-            assert_eq!(if can { Some(wanted) } else { None }, words.ok(), "{:?} {}", kind, case.shown());
+            assert_eq!(if can { Some(&wanted) } else { None }, words.as_ref().ok(), "{:?} {}", kind, case.shown());
+            let reader = Pieces { text, size: rng.one(&[1, 2, 7, 100]), fails_after: 0 };
+            let read = case.ac.try_stream_find_word_iter(kind, reader).map(|it| it.collect::<Result<Vec<_>, _>>().unwrap());
+            assert_eq!(words.ok(), read.ok(), "{:?} {}", kind, case.shown());
         }
     });
 }

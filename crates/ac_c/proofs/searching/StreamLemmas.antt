@@ -1,4 +1,4 @@
--- The matches that a search of pieces returns one by one, with no push in between.
+-- The items that a search of pieces returns one by one, with no push in between.
 use Rattle.std.proofs.Common.{◌≡◌, ◌≢◌, ℕ, ◌+◌, ◌<◌, ◌≤◌, List, [], ◌∷◌, ◌++◌, length, take, append_assoc, length-append, rules, refl, sym, ap, subst, ◌∙◌, arith}
 use Rattle.std.specs.List.{concat}
 use Rattle.std.proofs.Math.ListN.{set}
@@ -7,25 +7,24 @@ use Rattle.std.proofs.lemmas.List.Elements.{All-nil, All-push}
 use Rattle.ac_input.specs.declared.search.MatchKind.{MatchKind}
 use Rattle.ac_input.specs.declared.search.MatchKind.TheVariants.{Standard}
 use Rattle.ac_input.specs.Occurrence.{Occurrence}
-use Rattle.ac_automaton.specs.Stream.{AreAllGiven, CanBeCounted, IsHeldItem, ReadsNothing, StreamProgress, read_by, Picks}
+use Rattle.ac_automaton.specs.Stream.{AreAllGiven, CanBeCounted, IsHeldItem, LieApart, ReadsNothing, Sequence, StreamProgress, read_by}
 use Rattle.ac_c.specs.declared.found.Found.{Found}
 use Rattle.ac_c.specs.Found.{shown}
 use Rattle.ac_c.specs.Searching.{AreShown, Returns}
-use Rattle.ac_automaton.proofs.stream.SequenceLemmas.{picks≢occurrences}
 
 -- the kind of a search's automaton
-abbrev kind_in : StreamProgress Picks → MatchKind
+abbrev kind_in : {q : Sequence} → StreamProgress q → MatchKind
 kind_in s = s.built.dictionary.kind
 
-same-kind : (s t : StreamProgress Picks) → ReadsNothing s t → kind_in s ≡ Standard → kind_in t ≡ Standard
+same-kind : {q : Sequence} (s t : StreamProgress q) → ReadsNothing s t → kind_in s ≡ Standard → kind_in t ≡ Standard
 same-kind s t a e = ap (λ b. b.dictionary.kind) a.built ∙ e
 
-pub reads-itself : (s : StreamProgress Picks) → ReadsNothing s s
+pub reads-itself : {q : Sequence} (s : StreamProgress q) → ReadsNothing s s
 reads-itself s =
     record { on = λ e. omega arith; last = omega arith; closed = refl; built = refl; pieces = refl; from = refl }
 
 -- if nothing is read in each of two steps, nothing is read over both
-pub reads-on : (s t u : StreamProgress Picks) → ReadsNothing s t → ReadsNothing t u → ReadsNothing s u
+pub reads-on : {q : Sequence} (s t u : StreamProgress q) → ReadsNothing s t → ReadsNothing t u → ReadsNothing s u
 reads-on s t u a b = record {
   on = λ e. let x : s.at ≤ t.at = a.on e in let y : t.at ≤ u.at = b.on (same-kind s t a e) in omega arith;
   last = let x : s.last ≤ t.last = a.last in let y : t.last ≤ u.last = b.last in omega arith;
@@ -35,28 +34,28 @@ reads-on s t u a b = record {
   from = b.from ∙ a.from;
 }
 
-same-read : (s t : StreamProgress Picks) → ReadsNothing s t → read_by t ≡ read_by s
+same-read : {q : Sequence} (s t : StreamProgress q) → ReadsNothing s t → read_by t ≡ read_by s
 same-read s t a = ap concat a.pieces
 
 -- if nothing is read in between, bytes that could be counted before can be counted after
-pub same-counted : (s t : StreamProgress Picks) → ReadsNothing s t → CanBeCounted (read_by s) → CanBeCounted (read_by t)
+pub same-counted : {q : Sequence} (s t : StreamProgress q) → ReadsNothing s t → CanBeCounted (read_by s) → CanBeCounted (read_by t)
 same-counted s t a counted = subst CanBeCounted (sym (same-read s t a)) counted
 
--- if nothing is read in between, a match among the held bytes was among them before
-held-before : (s t : StreamProgress Picks) (o : Occurrence) → ReadsNothing s t → IsHeldItem t o → IsHeldItem s o
-held-before s t o a h = record {
+-- if nothing is read in between, an item among the held bytes was among them before
+held-before : {q : Sequence} (s t : StreamProgress q) (o : Occurrence) → LieApart q → ReadsNothing s t → IsHeldItem t o → IsHeldItem s o
+held-before s t o apart a h = record {
   pattern = subst (λ b. o.pattern < length b.dictionary.patterns) a.built h.pattern;
   held = λ e. subst (λ n. n ≤ o.start) a.from (h.held e);
   behind = let x : s.last ≤ t.last = a.last in let y : t.last ≤ o.start = h.behind in omega arith;
   some = h.some;
   new = λ picks e. let x : s.at ≤ t.at = a.on e in let y : t.at < o.end = h.new picks (same-kind s t a e) in
       omega arith;
-  past = λ e. absurd (picks≢occurrences e);
+  past = λ e. absurd (subst LieApart e apart);
   within = subst (λ xs. o.end ≤ length xs) (same-read s t a) h.within;
 }
 
--- no step returns no match
-pub returns-none : (s : StreamProgress Picks) → Returns s s []
+-- no step returns no item
+pub returns-none : {q : Sequence} (s : StreamProgress q) → Returns s s []
 returns-none s =
     record {
       nothing = reads-itself s;
@@ -65,14 +64,14 @@ returns-none s =
       some = λ some. absurd (some refl);
     }
 
--- a further step that returns no match leaves the matches returned as they are
-pub returns-rest : (s t u : StreamProgress Picks) (os : List Occurrence) → Returns s t os → ReadsNothing t u
+-- a further step that returns no item leaves the items returned as they are
+pub returns-rest : {q : Sequence} (s t u : StreamProgress q) (os : List Occurrence) → Returns s t os → ReadsNothing t u
     → u.given ≡ t.given → Returns s u os
 returns-rest s t u os h b given =
     record { nothing = reads-on s t u h.nothing b; given = given ∙ h.given; held = h.held; some = h.some }
 
--- if matches of what was read are left now, some were left before
-left-before : (s t : StreamProgress Picks) (os : List Occurrence) → (os ≡ [] → t ≡ s) → ((os ≢ []) → ¬ AreAllGiven s)
+-- if items of what was read are left now, some were left before
+left-before : {q : Sequence} (s t : StreamProgress q) (os : List Occurrence) → (os ≡ [] → t ≡ s) → ((os ≢ []) → ¬ AreAllGiven s)
     → ¬ AreAllGiven t → ¬ AreAllGiven s
 left-before s t [] same some left = subst (λ z. ¬ AreAllGiven z) (same refl) left
 left-before s t (o ∷ os) same some left = some (λ e. cc)
@@ -81,19 +80,19 @@ pub more-than-none : (os : List Occurrence) (o : Occurrence) → os ++ o ∷ [] 
 more-than-none [] o e = cc
 more-than-none (x ∷ os) o e = cc
 
--- one more match was returned
-pub returns-more : (s t u : StreamProgress Picks) (os : List Occurrence) (o : Occurrence) → Returns s t os
-    → (os ≡ [] → t ≡ s) → ReadsNothing t u → u.given ≡ t.given ++ o ∷ []
+-- one more item was returned
+pub returns-more : {q : Sequence} (s t u : StreamProgress q) (os : List Occurrence) (o : Occurrence) → LieApart q
+    → Returns s t os → (os ≡ [] → t ≡ s) → ReadsNothing t u → u.given ≡ t.given ++ o ∷ []
     → IsHeldItem t o → CanBeCounted (read_by t) → ¬ AreAllGiven t → Returns s u (os ++ o ∷ [])
-returns-more s t u os o h same b given held counted left = record {
+returns-more s t u os o apart h same b given held counted left = record {
   nothing = reads-on s t u h.nothing b;
   given = given ∙ (ap (λ xs. xs ++ o ∷ []) h.given ∙ append_assoc s.given os (o ∷ []));
-  held = All-push (IsHeldItem s) os o h.held (held-before s t o h.nothing held);
+  held = All-push (IsHeldItem s) os o h.held (held-before s t o apart h.nothing held);
   some = λ some.
       (subst CanBeCounted (same-read s t h.nothing) counted, left-before s t os same (λ e. (h.some e).1) left);
 }
 
--- the buffer shows one more match
+-- the buffer shows one more item
 pub shown-more : (os : List Occurrence) (o : Occurrence) (old out : List Found) (at : ℕ) → at < length out
     → length out ≡ length old → AreShown os old out at
     → AreShown (os ++ o ∷ []) old (set out at (shown o)) (at + 1)

@@ -1,4 +1,4 @@
--- The first entries of the buffer are the matches returned so far. As long as there are none, the search is unchanged.
+-- The first entries of the buffer are the items returned so far. As long as there are none, the search is unchanged.
 use Rattle.std.proofs.Common.{◌≡◌, List, []}
 use Rattle.ac_input.specs.Occurrence.{Occurrence}
 use Rattle.ac_automaton.specs.Stream.{StreamCounts}
@@ -6,7 +6,8 @@ use Rattle.ac_c.specs.Searching.{AreShown, Returns}
 use Rattle.ac_c.proofs.searching.fill.Given as goal
 
 abbrev pub invariant-loop-at : goal.invariant-loop-at
-invariant-loop-at l =
-    (os : List Occurrence) × Returns l.fn.search l.search os × AreShown os l.fn.out l.out l.at
-    × (os ≡ [] → l.search ≡ l.fn.search)
-    × StreamCounts l.fn.search l.search l.fn.steps l.steps
+invariant-loop-at g l =
+    let progress = g.S.PieceSearch.progress in
+    (os : List Occurrence) × Returns (progress l.fn.search) (progress l.search) os × AreShown os l.fn.out l.out l.at
+    × (os ≡ [] → progress l.search ≡ progress l.fn.search)
+    × StreamCounts (progress l.fn.search) (progress l.search) l.fn.steps l.steps

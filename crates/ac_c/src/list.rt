@@ -195,7 +195,7 @@ fn as_listed(place: Place, out: &[Found], listed: Result<usize, u32>) -> Listed
 }
 
 /// What comes next, as C sees it.
-fn listed(ac: &AhoCorasick, haystack: &[u8], wanted: Wanted, out: &mut [Found]) -> Listed
+fn list_by(ac: &AhoCorasick, haystack: &[u8], wanted: Wanted, out: &mut [Found]) -> Listed
     ensures { AnswersWanted wanted.words ac.now haystack.now wanted.place out.old out.new result }
 {
     let given = listed_counted(ac, haystack, wanted, out, &mut Steps::new());
@@ -232,7 +232,7 @@ pub fn list(
         place,
         words: false,
     };
-    listed(ac, haystack, wanted, out)
+    list_by(ac, haystack, wanted, out)
 }
 
 /// The next whole words of a listing, overlapping ones too, as many as the buffer has room for, as C sees it.
@@ -261,5 +261,5 @@ pub fn list_words(
         last,
         begun,
     };
-    listed(ac, haystack, Wanted { place, words: true }, out)
+    list_by(ac, haystack, Wanted { place, words: true }, out)
 }

@@ -1,6 +1,5 @@
 //! What pieces are pushed to: a search for matches, or one for whole words.
-use ac_automaton::stream::StreamSearch;
-use ac_automaton::stream::words::WordSearch;
+use ac_automaton::stream::{StreamSearch, WordSearch};
 use aho_corasick::{AhoCorasick, Match, Steps, StreamError};
 
 /// A search of pieces for the items of one sequence.

@@ -55,7 +55,10 @@ impl AhoCorasick {
     /// assert_eq!(vec![0..3, 12..15, 12..20], words);
     /// # Ok::<(), Box<dyn std::error::Error>>(())
     /// ```
-    pub fn find_overlapping_word_iter<'a, 'h, B: AsRef<[u8]> + ?Sized>(&'a self, haystack: &'h B) -> FindOverlappingWordIter<'a, 'h> {
+    pub fn find_overlapping_word_iter<'a, 'h, B: AsRef<[u8]> + ?Sized>(
+        &'a self,
+        haystack: &'h B,
+    ) -> FindOverlappingWordIter<'a, 'h> {
         supported(self.try_find_overlapping_word_iter(haystack))
     }
 

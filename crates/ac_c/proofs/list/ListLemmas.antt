@@ -1,25 +1,26 @@
 -- What is left of a listing depends only on what lies at most the longest pattern's length before the end of the last
 -- occurrence.
-use Rattle.std.proofs.Common.{◌≡◌, ◌==◌, ◌&&◌, if◌then◌else◌, cond, ℕ, zero, suc, add-one, min, max, map, slice_get, length-drop, ◌+◌, ◌-◌, ◌<◌, ◌≤◌, Bool, false, true, Option, Some, None, List, [], ◌∷◌, length, drop, take, refl, sym, ap, subst, ◌∙◌, inl, inr, ⊎_elim, arith, Less, IsTrue}
+use Rattle.std.proofs.Common.{◌≡◌, ◌==◌, ◌&&◌, if◌then◌else◌, cond, ℕ, zero, suc, add-one, min, max, map, slice_get, length-drop, ◌+◌, ◌-◌, ◌<◌, ◌≤◌, Bool, false, true, Option, Some, None, Ok, List, [], ◌∷◌, length, drop, take, refl, sym, ap, subst, ◌∙◌, inl, inr, ⊎_elim, arith, Less, IsTrue}
 use Rattle.std.proofs.lemmas.Bool.{false≢true}
 use Rattle.std.proofs.lemmas.Bool.Decides.{leb_tells}
 use Rattle.ac_input.specs.declared.search.MatchKind.TheVariants.{Standard}
 use Rattle.ac_input.specs.Occurrence.{Search, Occurrence, Occurs, starting_at}
 use Rattle.ac_input.specs.Best.{preference, IsAfter}
 use Rattle.ac_input.specs.Word.{is_whole_word}
-use Rattle.ac_input.specs.Work.{longest}
+use Rattle.ac_input.specs.Work.{longest, shortest}
 use Rattle.std.specs.List.{filter}
 use Rattle.std.proofs.lemmas.List.{drop-drop}
 use Rattle.ac_input.specs.Computed.{is_after, listing_after}
 use Rattle.ac_input.specs.Input.{Asked}
 use Rattle.ac_automaton.specs.Automaton.{listing_in, searched}
 use Rattle.ac_automaton.specs.InMemory.Overlapping.OverlappingIter.{Run, rest_of}
-use Rattle.aho_corasick.specs.AhoCorasick.{as_built, patterns_of}
+use Rattle.ac_automaton.specs.InMemory.Overlapping.{CanOverlap}
+use Rattle.aho_corasick.specs.AhoCorasick.{as_built, patterns_of, supported_by}
 use Rattle.aho_corasick.specs.declared.ahocorasick.AhoCorasick.{AhoCorasick}
 use Rattle.ac_c.specs.declared.found.Found.{Found}
 use Rattle.ac_c.specs.declared.list.Place.{Place}
 use Rattle.ac_c.specs.Found.{shown}
-use Rattle.ac_c.specs.List.{AreListed, IsPlaceOver, asked_from, before_of, begins_at, left_of_listing, left_of_wanted, left_of_word_listing, place_after, seen, wanted_of}
+use Rattle.ac_c.specs.List.{AreListed, AreWantedBy, IsPlaceOver, asked_from, before_of, begins_at, left_of_listing, left_of_wanted, left_of_word_listing, place_after, seen, wanted_of}
 use Rattle.ac_c.specs.Walk.{AreGiven}
 use Rattle.ac_input.specs.Listing.{ListsAll}
 use Rattle.ac_input.proofs.lemmas.ContainsLemmas.{Contains-head, Contains-tail, Contains-cases}
@@ -137,23 +138,27 @@ listing-goes : (ac : AhoCorasick) (haystack : List ℕ) (p : Place) → p.end �
 listing-goes ac haystack p fits n o rest e =
     listing_after-drop (searched (as_built ac) (asked_from haystack p p.start)) (before_of p) n o rest fits e
 
--- what comes after an element that passes a test, of those that pass it, is what passes it after the element
+-- an element stands in a list, and what passes a test after it is this
+abbrev Stands : (Occurrence → Bool) → List Occurrence → Occurrence → List Occurrence → Type 0
+Stands test xs o rest = (m : ℕ) × (more : List Occurrence) × (drop m xs ≡ o ∷ more) × (filter test more ≡ rest)
+
+-- so it is where the list has one more element, which passes the test or not
+stands-on : (test : Occurrence → Bool) (x : Occurrence) (xs : List Occurrence) (o : Occurrence) (rest : List Occurrence)
+    (passes : Bool) (n : ℕ) → ((k : ℕ) → drop k (filter test xs) ≡ o ∷ rest → Stands test xs o rest)
+    → drop n (cond passes (x ∷ filter test xs) (filter test xs)) ≡ o ∷ rest → Stands test (x ∷ xs) o rest
+stands-on test x xs o rest true zero more e =
+    let first : x ≡ o = cc in let after : filter test xs ≡ rest = cc in
+    (zero, xs, ap (λ y. y ∷ xs) first, after)
+stands-on test x xs o rest true (suc n) more e = let f = more n e in (suc f.0, f.1, f.2, f.3)
+stands-on test x xs o rest false n more e = let f = more n e in (suc f.0, f.1, f.2, f.3)
+
+-- any of those that pass a test stands in the list
 filter-after : (test : Occurrence → Bool) (xs : List Occurrence) (n : ℕ) (o : Occurrence) (rest : List Occurrence)
-    → drop n (filter test xs) ≡ o ∷ rest
-    → (m : ℕ) × (more : List Occurrence) × (drop m xs ≡ o ∷ more) × (filter test more ≡ rest)
+    → drop n (filter test xs) ≡ o ∷ rest → Stands test xs o rest
 filter-after test [] zero o rest e = absurd (cc)
 filter-after test [] (suc n) o rest e = absurd (cc)
-filter-after test (x ∷ xs) n o rest e = step (test x) n e
-  where
-    further : (n : ℕ) → drop n (filter test xs) ≡ o ∷ rest
-        → (m : ℕ) × (more : List Occurrence) × (drop m (x ∷ xs) ≡ o ∷ more) × (filter test more ≡ rest)
-    further n e = let f = filter-after test xs n o rest e in (suc f.0, f.1, f.2, f.3)
-
-    step : (passes : Bool) (n : ℕ) → drop n (cond passes (x ∷ filter test xs) (filter test xs)) ≡ o ∷ rest
-        → (m : ℕ) × (more : List Occurrence) × (drop m (x ∷ xs) ≡ o ∷ more) × (filter test more ≡ rest)
-    step true zero e = let first : x ≡ o = cc in (zero, xs, ap (λ y. y ∷ xs) first, cc)
-    step true (suc n) e = further n e
-    step false n e = further n e
+filter-after test (x ∷ xs) n o rest e =
+    stands-on test x xs o rest (test x) n (λ k. filter-after test xs k o rest) e
 
 -- a listing of words goes on after any of its words
 words-go : (ac : AhoCorasick) (haystack : List ℕ) (p : Place) → p.end ≤ length haystack
@@ -199,20 +204,19 @@ listing-begins ac haystack p n fits le long =
     let h = begins p s n (p.begun == 0) fits (sym long) refl refl le in
     listing_after-from s (begins_at p n) (before_of p) fits refl h.0 h.1
 
+-- one more element passes both tests, or not
+filter-both_on : (one other : Occurrence → Bool) (x : Occurrence) (xs : List Occurrence) (passes : Bool)
+    → filter (λ o. one o && other o) xs ≡ filter other (filter one xs)
+    → cond (passes && other x) (x ∷ filter (λ o. one o && other o) xs) (filter (λ o. one o && other o) xs)
+    ≡ filter other (cond passes (x ∷ filter one xs) (filter one xs))
+filter-both_on one other x xs true rest = ap (λ ys. cond (other x) (x ∷ ys) ys) rest
+filter-both_on one other x xs false rest = rest
+
 -- what passes two tests is what passes the second of what passes the first
 filter-both : (one other : Occurrence → Bool) (xs : List Occurrence)
     → filter (λ o. one o && other o) xs ≡ filter other (filter one xs)
 filter-both one other [] = refl
-filter-both one other (x ∷ xs) = step (one x)
-  where
-    rest : filter (λ o. one o && other o) xs ≡ filter other (filter one xs)
-    rest = filter-both one other xs
-
-    step : (passes : Bool)
-        → cond (passes && other x) (x ∷ filter (λ o. one o && other o) xs) (filter (λ o. one o && other o) xs)
-        ≡ filter other (cond passes (x ∷ filter one xs) (filter one xs))
-    step true = ap (λ ys. cond (other x) (x ∷ ys) ys) rest
-    step false = rest
+filter-both one other (x ∷ xs) = filter-both_on one other x xs (one x) (filter-both one other xs)
 
 -- each element passes a test that is always true
 filter-all : (xs : List Occurrence) → filter (λ o. true) xs ≡ xs
@@ -248,3 +252,11 @@ listed words ac haystack p input run old new longest_is n valid long asked all g
     let count = left.count in
     (left, listing-after (left_of_wanted words ac haystack) p new n (wanted-go words ac haystack p valid.1) (omega arith)
     left.given)
+
+-- so this is what a call returns, if no pattern is empty where words are wanted
+pub wanted-by : (words : Bool) (ac : AhoCorasick) (haystack : List ℕ) (p : Place) (old new : List Found) (n : ℕ)
+    → IsPlaceOver haystack p → CanOverlap (as_built ac) (supported_by ac) (asked_from haystack p p.start)
+    → (words ≡ true → 1 ≤ shortest (patterns_of ac)) → AreListed (left_of_wanted words ac haystack) p old new n
+    → AreWantedBy words ac haystack p old new (Ok n)
+wanted-by false ac haystack p old new n valid can filled given = (valid, can, given)
+wanted-by true ac haystack p old new n valid can filled given = (valid, (can.0, can.1, filled refl), given)

@@ -7,7 +7,7 @@ use Rattle.std.proofs.lemmas.List.Elements.{All-nil, All-push}
 use Rattle.ac_input.specs.declared.search.MatchKind.{MatchKind}
 use Rattle.ac_input.specs.declared.search.MatchKind.TheVariants.{Standard}
 use Rattle.ac_input.specs.Occurrence.{Occurrence}
-use Rattle.ac_automaton.specs.Stream.{AreAllGiven, CanBeCounted, IsHeldItem, LieApart, ReadsNothing, Sequence, StreamProgress, read_by}
+use Rattle.ac_automaton.specs.Stream.{AreAllGiven, CanBeCounted, IsHeldItem, LieApart, ReadsNothing, Sequence, StreamProgress, place_of, read_by}
 use Rattle.ac_c.specs.declared.found.Found.{Found}
 use Rattle.ac_c.specs.Found.{shown}
 use Rattle.ac_c.specs.Searching.{AreShown, Returns}
@@ -43,10 +43,10 @@ same-counted s t a counted = subst CanBeCounted (sym (same-read s t a)) counted
 
 -- if nothing is read in between, an item among the held bytes was among them before
 held-before : {q : Sequence} (s t : StreamProgress q) (o : Occurrence) → LieApart q → ReadsNothing s t → IsHeldItem t o → IsHeldItem s o
-held-before s t o apart a h = record {
+held-before {q} s t o apart a h = record {
   pattern = subst (λ b. o.pattern < length b.dictionary.patterns) a.built h.pattern;
   held = λ e. subst (λ n. n ≤ o.start) a.from (h.held e);
-  behind = let x : s.last ≤ t.last = a.last in let y : t.last ≤ o.start = h.behind in omega arith;
+  behind = let x : s.last ≤ t.last = a.last in let y : t.last ≤ place_of q o = h.behind in omega arith;
   some = h.some;
   new = λ picks e. let x : s.at ≤ t.at = a.on e in let y : t.at < o.end = h.new picks (same-kind s t a e) in
       omega arith;

@@ -41,19 +41,26 @@ fn part(text: &[u8], start: usize, end: usize) -> Result<Input<'_>, Fail> {
     Ok(Input::new(text).range(start..end))
 }
 
+/// What a search of the text is given, but for its anchoring.
+fn loose<'a>(text: &Text<'a>) -> Result<Input<'a>, Fail> {
+    match *text {
+        Text::Part(text, start, end) | Text::BoundPart(text, start, end) => part(text, start, end),
+        Text::Whole(text) | Text::Bound(text) => Ok(Input::new(text)),
+        Text::Earliest(text) | Text::BoundEarliest(text) => Ok(Input::new(text).earliest(true)),
+    }
+}
+
+/// Whether a search of the text is anchored.
+fn anchoring(text: &Text<'_>) -> Anchored {
+    match text {
+        Text::Whole(_) | Text::Part(..) | Text::Earliest(_) => Anchored::No,
+        Text::Bound(_) | Text::BoundPart(..) | Text::BoundEarliest(_) => Anchored::Yes,
+    }
+}
+
 /// What a search of the text is given.
 pub fn input<'a>(text: &Text<'a>) -> Result<Input<'a>, Fail> {
-    let input = match *text {
-        Text::Part(text, start, end) | Text::BoundPart(text, start, end) => part(text, start, end)?,
-        Text::Whole(text) | Text::Bound(text) => Input::new(text),
-        Text::Earliest(text) | Text::BoundEarliest(text) => Input::new(text).earliest(true),
-    };
-    Ok(match text {
-        Text::Whole(_) | Text::Part(..) | Text::Earliest(_) => input,
-        Text::Bound(_) | Text::BoundPart(..) | Text::BoundEarliest(_) => {
-            input.anchored(Anchored::Yes)
-        }
-    })
+    Ok(loose(text)?.anchored(anchoring(text)))
 }
 
 /// The occurrence of a match.
@@ -72,18 +79,37 @@ pub fn collected<I: Iterator<Item = Match> + Drop>(
     matches.map(occurrence).collect(alloc)
 }
 
+/// The occurrences that the plain program found.
+fn picks(alloc: Global, found: &[Found]) -> Result<Vec<Pick>, AllocError> {
+    found
+        .iter()
+        .map(|it| (it.pattern, it.start, it.end))
+        .collect(alloc)
+}
+
 /// The matches of the plain program, or all occurrences.
-fn plain_matches(
+fn plain_picks(
     alloc: Global,
     plain: &Naive,
     kind: MatchKind,
     asks: Asks,
     earliest: bool,
-) -> Result<Vec<Found>, AllocError> {
+) -> Result<Vec<Pick>, AllocError> {
     match asks {
-        Asks::Walk => plain.walk(alloc, kind, earliest),
-        Asks::List => plain.listing(alloc),
+        Asks::Walk => picks(alloc, &plain.walk(alloc, kind, earliest)?),
+        Asks::List => picks(alloc, &plain.listing(alloc)?),
     }
+}
+
+/// The plain program for an input.
+fn plain<'a>(asked: Asked<'a>, input: &Input<'a>) -> Result<Naive<'a>, Fail> {
+    Ok(Naive::new(
+        asked.patterns,
+        pairing(asked.letters)?,
+        input.haystack(),
+        input.get_span(),
+        input.get_anchored(),
+    ))
 }
 
 /// What the plain program gives.
@@ -93,33 +119,8 @@ pub fn by_plain(
     asks: Asks,
     input: &Input<'_>,
 ) -> Result<Vec<Pick>, Fail> {
-    let pairing = pairing(asked.letters)?;
-    let plain = Naive::new(
-        asked.patterns,
-        pairing,
-        input.haystack(),
-        input.get_span(),
-        input.get_anchored(),
-    );
-    let found = plain_matches(alloc, &plain, asked.kind, asks, input.get_earliest())?;
-    Ok(
-        found
-            .iter()
-            .map(|it| (it.pattern, it.start, it.end))
-            .collect(alloc)?,
-    )
-}
-
-/// The plain program for a text.
-fn plain<'a>(asked: Asked<'a>, text: &'a [u8]) -> Result<Naive<'a>, Fail> {
-    let whole = Input::new(text);
-    Ok(Naive::new(
-        asked.patterns,
-        pairing(asked.letters)?,
-        text,
-        whole.get_span(),
-        whole.get_anchored(),
-    ))
+    let plain = plain(asked, input)?;
+    Ok(plain_picks(alloc, &plain, asked.kind, asks, input.get_earliest())?)
 }
 
 /// The text as the plain program masks it, all occurrences or whole words alone.
@@ -130,7 +131,7 @@ pub fn masked_by_plain(
     mask: u8,
     words: bool,
 ) -> Result<Vec<u8>, Fail> {
-    let plain = plain(asked, text)?.whole_words(words);
+    let plain = plain(asked, &Input::new(text))?.whole_words(words);
     Ok(plain.masked(alloc, mask)?)
 }
 
@@ -141,12 +142,6 @@ pub fn words_by_plain(
     asks: Asks,
     text: &[u8],
 ) -> Result<Vec<Pick>, Fail> {
-    let plain = plain(asked, text)?.whole_words(true);
-    let found = plain_matches(alloc, &plain, asked.kind, asks, false)?;
-    Ok(
-        found
-            .iter()
-            .map(|it| (it.pattern, it.start, it.end))
-            .collect(alloc)?,
-    )
+    let plain = plain(asked, &Input::new(text))?.whole_words(true);
+    Ok(plain_picks(alloc, &plain, asked.kind, asks, false)?)
 }

@@ -50,6 +50,16 @@ impl<'a> Asked<'a> {
             letters,
         }
     }
+
+    /// Whether one of the patterns is empty.
+    pub fn has_empty(&self) -> bool {
+        for pattern in self.patterns {
+            if pattern.is_empty() {
+                return true;
+            }
+        }
+        false
+    }
 }
 
 /// Whether an automaton may hold a prefilter.
@@ -239,6 +249,20 @@ fn unbuilt<T, C: Case<T>>(case: &C, error: BuildError) -> Result<(), Fail> {
     Err(error.into())
 }
 
+/// Checks the case by what was built of it, which has these starts.
+fn by_built<T, C: Case<T>, A: Search + Drop>(
+    rt: &T,
+    alloc: Global,
+    case: &C,
+    built: Result<A, BuildError>,
+    starts: StartKind,
+) -> Result<(), Fail> {
+    match built {
+        Ok(automaton) => case.check(&Trial::new(rt, alloc, &automaton, starts)),
+        Err(error) => unbuilt::<T, C>(case, error),
+    }
+}
+
 /// Checks the case by the noncontiguous automaton.
 fn by_noncontiguous<T, C: Case<T>>(
     rt: &T,
@@ -248,10 +272,8 @@ fn by_noncontiguous<T, C: Case<T>>(
     depth: usize,
 ) -> Result<(), Fail> {
     let asked = case.asked();
-    match builder(asked, prefilter, depth)?.build(alloc, asked.patterns) {
-        Ok(nfa) => case.check(&Trial::new(rt, alloc, &nfa, Both)),
-        Err(error) => unbuilt::<T, C>(case, error),
-    }
+    let built = builder(asked, prefilter, depth)?.build(alloc, asked.patterns);
+    by_built(rt, alloc, case, built, Both)
 }
 
 /// What builds the contiguous NFA.
@@ -285,10 +307,7 @@ fn by_contiguous<T, C: Case<T>>(
 ) -> Result<(), Fail> {
     let asked = case.asked();
     let builder = contiguous_builder(asked, prefilter, depth, alphabet, row_memory)?;
-    match builder.build(alloc, asked.patterns) {
-        Ok(nfa) => case.check(&Trial::new(rt, alloc, &nfa, Both)),
-        Err(error) => unbuilt::<T, C>(case, error),
-    }
+    by_built(rt, alloc, case, builder.build(alloc, asked.patterns), Both)
 }
 
 /// What builds the DFA.
@@ -318,10 +337,8 @@ fn by_dfa<T, C: Case<T>>(
     starts: StartKind,
 ) -> Result<(), Fail> {
     let asked = case.asked();
-    match dfa_builder(asked, prefilter, alphabet, starts)?.build(alloc, asked.patterns) {
-        Ok(dfa) => case.check(&Trial::new(rt, alloc, &dfa, starts)),
-        Err(error) => unbuilt::<T, C>(case, error),
-    }
+    let built = dfa_builder(asked, prefilter, alphabet, starts)?.build(alloc, asked.patterns);
+    by_built(rt, alloc, case, built, starts)
 }
 
 /// What builds the front.
@@ -339,22 +356,8 @@ pub fn front_builder(
     Ok(builder)
 }
 
-/// Checks the case by what the builder builds, which has these starts.
-fn by_front<T, C: Case<T>>(
-    rt: &T,
-    alloc: Global,
-    case: &C,
-    builder: &AhoCorasickBuilder,
-    starts: StartKind,
-) -> Result<(), Fail> {
-    match builder.build(alloc, case.asked().patterns) {
-        Ok(ac) => case.check(&Trial::new(rt, alloc, &ac, starts)),
-        Err(error) => unbuilt::<T, C>(case, error),
-    }
-}
-
 /// Checks the case by the front in these settings.
-fn by_set_front<T, C: Case<T>>(
+fn by_front<T, C: Case<T>>(
     rt: &T,
     alloc: Global,
     case: &C,
@@ -365,7 +368,13 @@ fn by_set_front<T, C: Case<T>>(
     if let Some(depth) = depth {
         builder.dense_depth(depth);
     }
-    by_front(rt, alloc, case, &builder, starts)
+    by_built(
+        rt,
+        alloc,
+        case,
+        builder.build(alloc, case.asked().patterns),
+        starts,
+    )
 }
 
 /// Checks the case by this automaton.
@@ -381,7 +390,7 @@ fn by<T, C: Case<T>>(rt: &T, alloc: Global, case: &C, engine: Engine) -> Result<
             builder
                 .prefilter(matches!(prefilter, On))
                 .byte_classes(matches!(alphabet, Classes));
-            by_set_front(rt, alloc, case, builder, starts, depth)
+            by_front(rt, alloc, case, builder, starts, depth)
         }
     }
 }
@@ -399,10 +408,20 @@ pub fn each<T, C: Case<T>>(
     Ok(())
 }
 
-/// Checks each case of a table by each automaton, in each setting.
-pub fn all<T, C: Case<T>>(rt: &T, alloc: Global, cases: &[C]) -> Result<(), Fail> {
+/// Checks each case of a table by each of these automata.
+pub fn all_by<T, C: Case<T>>(
+    rt: &T,
+    alloc: Global,
+    cases: &[C],
+    engines: &[Engine],
+) -> Result<(), Fail> {
     for case in cases {
-        each(rt, alloc, case, ENGINES)?;
+        each(rt, alloc, case, engines)?;
     }
     Ok(())
+}
+
+/// Checks each case of a table by each automaton, in each setting.
+pub fn all<T, C: Case<T>>(rt: &T, alloc: Global, cases: &[C]) -> Result<(), Fail> {
+    all_by(rt, alloc, cases, ENGINES)
 }

@@ -21,7 +21,12 @@ pub fn shows_in_turn<T: Abort, A: Search>(
 {
     for at in 0..want.len() + 2 {
         assert!(rt; automaton.try_find_overlapping(input, state).is_ok());
-        assert_eq!(rt; pick(state.get_match()), want.get(at).copied());
+        equal(
+            rt,
+            &pick(state.get_match()),
+            &want.get(at).copied(),
+            "in turn",
+        );
     }
 }
 
@@ -30,17 +35,19 @@ pub fn walks_on<T: Abort, A: Search>(rt: &T, matches: &mut FindIter<'_, '_, A>, 
     let mut steps = Steps::new();
     for at in 0..want.len() + 2 {
         let found = matches.next_counted(&mut steps);
-        assert_eq!(rt; pick(found), want.get(at).copied());
+        equal(rt, &pick(found), &want.get(at).copied(), "counted");
     }
     assert!(rt; matches.next().is_none());
 }
 
 /// Asserts that a value is this one.
 pub fn equal<T: Abort, X: PartialEq + Debug>(rt: &T, found: &X, want: &X, shows: &str) {
-    assert_eq!(rt; found, want, "{shows}");
+    if found != want {
+        rt.panic(format_args!("{shows}: it is {found:?}, and not {want:?}"));
+    }
 }
 
 /// Asserts that a list is this one.
 pub fn same<T: Abort, X: PartialEq + Debug>(rt: &T, found: &[X], want: &[X], shows: &str) {
-    assert_eq!(rt; found, want, "{shows}");
+    equal(rt, &found, &want, shows)
 }

@@ -2,8 +2,8 @@
 ghost use Rattle.std.specs.Prelude.{◌<◌};
 ghost use Rattle.ac_noncontiguous.specs.Nfa.ReadCalls.{state_len};
 
-use crate::asserts::same;
-use ac_input::primitives::StateID;
+use crate::asserts::{equal, same};
+use ac_input::primitives::{PatternID, StateID};
 use ac_input::search::MatchKind;
 use ac_noncontiguous::{Automaton, ByteClasses, NFA};
 use std::alloc::{AllocError, Global};
@@ -123,17 +123,10 @@ fn state_lists<T: Abort>(
 ) -> Result<(), AllocError>
     requires { sid < state_len nfa.now }
 {
-    let lent: Vec<usize> = nfa
-        .match_list(sid)
-        .iter()
-        .map(|it| it.as_usize())
-        .collect(alloc)?;
-    same(rt, &lent, want, shows);
-    let given: Vec<usize> = nfa
-        .iter_matches(sid)
-        .map(|it| it.as_usize())
-        .collect(alloc)?;
-    same(rt, &given, want, shows);
+    let given: Vec<PatternID> = nfa.iter_matches(sid).collect(alloc)?;
+    same(rt, &given, nfa.match_list(sid), shows);
+    let numbers: Vec<usize> = given.iter().map(|it| it.as_usize()).collect(alloc)?;
+    same(rt, &numbers, want, shows);
     Ok(())
 }
 
@@ -158,10 +151,12 @@ fn state_is<T: Abort>(
 }
 
 /// Asserts the classes of some bytes.
-fn classes_so<T: Abort>(rt: &T, classes: &ByteClasses, bytes: &[u8], want: &[u8]) {
-    assert_eq!(rt; bytes.len(), want.len());
+fn classes_so<T: Abort>(rt: &T, classes: &ByteClasses, kept: &Kept) {
+    let (bytes, want) = kept.classes;
+    equal(rt, &bytes.len(), &want.len(), kept.shows);
     for (byte, class) in bytes.iter().zip(want) {
-        assert_eq!(rt; classes.get(*byte), *class, "of {byte}");
+        let found = (*byte, classes.get(*byte));
+        equal(rt, &found, &(*byte, *class), kept.shows);
     }
 }
 
@@ -170,7 +165,7 @@ fn is_kept<T: Abort>(rt: &T, alloc: Global, nfa: &NFA, kept: &Kept) -> Result<()
     let shows = kept.shows;
     same(rt, &bounds_of(nfa), &kept.bounds, shows);
     same(rt, &[nfa.prefilter().is_some()], &[kept.prefilter.1], shows);
-    classes_so(rt, nfa.byte_classes(), kept.classes.0, kept.classes.1);
+    classes_so(rt, nfa.byte_classes(), kept);
     for state in kept.states {
         state_is(rt, alloc, nfa, state, shows)?;
     }
@@ -181,7 +176,8 @@ fn is_kept<T: Abort>(rt: &T, alloc: Global, nfa: &NFA, kept: &Kept) -> Result<()
 fn keeps<T: Abort>(rt: &T, alloc: Global, nfa: &NFA, kept: &Kept) -> Result<(), Fail> {
     is_kept(rt, alloc, nfa, kept)?;
     let copy = nfa.clone(alloc)?;
-    assert_eq!(rt; copy.memory_usage(), nfa.memory_usage());
+    let memory = (copy.memory_usage(), nfa.memory_usage());
+    equal(rt, &memory.0, &memory.1, kept.shows);
     is_kept(rt, alloc, &copy, kept)
 }
 

@@ -22,6 +22,8 @@ mod memory;
 #[cfg(test)]
 mod openings;
 #[cfg(test)]
+mod owned;
+#[cfg(test)]
 mod packed;
 #[cfg(test)]
 mod prefilters;

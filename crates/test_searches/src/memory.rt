@@ -1,5 +1,7 @@
 //! Builds that run out of memory. `rt try --test --fail-alloc N -- in_memory_that_may_end` fails the Nth allocation: the call
 //! returns an error and makes nothing. If no allocation fails, the result is complete.
+use crate::asserts::equal;
+use crate::owned::Owned;
 use crate::packed::searcher;
 use crate::prefilters::made;
 use ac_input::pairing::Pairing;
@@ -9,7 +11,7 @@ use ac_literal::packed::{self, Builder, Searcher};
 use ac_literal::prefilter::{Prefilter, PrefilterBuilder};
 use ac_noncontiguous::{Automaton, BuildError, BuildErrorKind, NFA, Search};
 use ac_tables::{contiguous, dfa};
-use std::alloc::Global;
+use std::alloc::{AllocError, Global};
 use std::process::Abort;
 use std::test::Fail;
 use test_rows::drawn::KINDS;
@@ -24,49 +26,27 @@ fn is_whole<T: Abort, A: Search>(rt: &T, automaton: &A, starts: StartKind) {
         StartKind::Anchored => (Anchored::Yes, (1, 0, 3)),
     };
     let found = automaton.try_find(&Input::new(b"abcd").anchored(anchored));
-    assert_eq!(rt; pick(found.ok().flatten()), Some(want));
+    equal(rt, &pick(found.ok().flatten()), &Some(want), "it is whole");
 }
 
 /// Asserts that the automaton is whole, and a copy of it if there is one.
-fn is_whole_in_copies<T: Abort>(rt: &T, alloc: Global, nfa: &NFA) {
-    is_whole(rt, nfa, Both);
-    if let Ok(copy) = &nfa.clone(alloc) {
-        is_whole(rt, copy, Both);
+fn is_whole_in_copies<T: Abort, A: Owned>(rt: &T, alloc: Global, automaton: &A, starts: StartKind) {
+    is_whole(rt, automaton, starts);
+    if let Ok(copy) = &automaton.copy(alloc) {
+        is_whole(rt, copy, starts);
     }
 }
 
-/// The same of the contiguous NFA, or that there was no memory for it.
-fn contiguous_is_whole_in_copies<T: Abort>(
+/// The same of what was built, or that there was no memory for it.
+fn may_be_whole<T: Abort, A: Owned>(
     rt: &T,
     alloc: Global,
-    built: &Result<contiguous::NFA, BuildError>,
-) {
-    match built {
-        Ok(nfa) => {
-            is_whole(rt, nfa, Both);
-            if let Ok(copy) = &nfa.clone(alloc) {
-                is_whole(rt, copy, Both);
-            }
-        }
-        Err(error) => assert_eq!(rt; *error.kind(), BuildErrorKind::Memory),
-    }
-}
-
-/// The same of the DFA with these starts.
-fn dfa_is_whole_in_copies<T: Abort>(
-    rt: &T,
-    alloc: Global,
-    built: &Result<dfa::DFA, BuildError>,
+    built: Result<A, BuildError>,
     starts: StartKind,
 ) {
-    match built {
-        Ok(dfa) => {
-            is_whole(rt, dfa, starts);
-            if let Ok(copy) = &dfa.clone(alloc) {
-                is_whole(rt, copy, starts);
-            }
-        }
-        Err(error) => assert_eq!(rt; *error.kind(), BuildErrorKind::Memory),
+    match &built {
+        Ok(automaton) => is_whole_in_copies(rt, alloc, automaton, starts),
+        Err(error) => equal(rt, error.kind(), &BuildErrorKind::Memory, "no memory"),
     }
 }
 
@@ -74,13 +54,14 @@ fn dfa_is_whole_in_copies<T: Abort>(
 fn tables_are_whole<T: Abort>(rt: &T, alloc: Global, nfa: &NFA, classes: bool) {
     let mut builder = contiguous::builder::Builder::new();
     builder.byte_classes(classes);
-    contiguous_is_whole_in_copies(rt, alloc, &builder.build_from_noncontiguous(alloc, nfa));
+    let built = builder.build_from_noncontiguous(alloc, nfa);
+    may_be_whole(rt, alloc, built, Both);
     let mut builder = dfa::builder::Builder::new();
     builder.byte_classes(classes);
     for starts in [Both, StartKind::Unanchored, StartKind::Anchored] {
         builder.start_kind(starts);
         let built = builder.build_from_noncontiguous(alloc, nfa);
-        dfa_is_whole_in_copies(rt, alloc, &built, starts);
+        may_be_whole(rt, alloc, built, starts);
     }
 }
 
@@ -88,11 +69,11 @@ fn tables_are_whole<T: Abort>(rt: &T, alloc: Global, nfa: &NFA, classes: bool) {
 fn in_memory_that_may_end_tables(rt: HostRuntime) {
     match &NFA::new(rt.alloc(), PATTERNS) {
         Ok(nfa) => {
-            is_whole_in_copies(&rt, rt.alloc(), nfa);
+            is_whole_in_copies(&rt, rt.alloc(), nfa, Both);
             tables_are_whole(&rt, rt.alloc(), nfa, true);
             tables_are_whole(&rt, rt.alloc(), nfa, false);
         }
-        Err(error) => assert_eq!(rt; *error.kind(), BuildErrorKind::Memory),
+        Err(error) => equal(&rt, error.kind(), &BuildErrorKind::Memory, "no memory"),
     }
 }
 
@@ -117,7 +98,7 @@ impl<T: Abort> Case<T> for Built {
             MatchKind::LeftmostLongest => (2, 1, 5),
         };
         let found = on.automaton.try_find(&Input::new(b"xABCD"))?;
-        assert_eq!(rt; pick(found), Some(want));
+        equal(rt, &pick(found), &Some(want), "it is whole");
         Ok(())
     }
 }
@@ -140,7 +121,8 @@ fn builder_finds<T: Abort>(rt: &T, builder: &Builder) {
             Some(searcher) => pick(searcher.find(b"xabcd")),
             None => None,
         };
-        assert_eq!(rt; OF_FIRST.get(builder.len()).copied(), Some(found));
+        let want = OF_FIRST.get(builder.len()).copied();
+        equal(rt, &Some(found), &want, "of so many patterns");
     }
 }
 
@@ -155,13 +137,18 @@ fn extends<T: Abort>(rt: &T, builder: &mut Builder, refused: bool) {
             assert!(rt; builder.try_add(*pattern).is_ok());
         }
     }
-    assert_eq!(rt; builder.len(), 3);
+    equal(rt, &builder.len(), &3, "it has all patterns");
     builder_finds(rt, builder);
 }
 
 /// Asserts what the packed searcher of the patterns finds.
 fn packed_finds<T: Abort>(rt: &T, searcher: &Searcher) {
-    assert_eq!(rt; pick(searcher.find(b"xabcd")), Some((2, 1, 5)));
+    equal(
+        rt,
+        &pick(searcher.find(b"xabcd")),
+        &Some((2, 1, 5)),
+        "packed search",
+    );
 }
 
 /// Asserts that the searcher is whole, and a copy of it if there is one.
@@ -175,7 +162,8 @@ fn packed_finds_in_copies<T: Abort>(rt: &T, alloc: Global, searcher: &Searcher) 
 /// Asserts where the prefilter of the patterns says that a match may begin.
 fn prefilter_finds<T: Abort>(rt: &T, prefilter: &Prefilter) {
     let span = Span { start: 0, end: 5 };
-    assert_eq!(rt; prefilter.find_in(b"xxabc", span).into_option(), Some(2));
+    let found = prefilter.find_in(b"xxabc", span).into_option();
+    equal(rt, &found, &Some(2), "the prefilter");
 }
 
 /// Asserts that the prefilter is whole, and a copy of it if there is one.
@@ -189,10 +177,16 @@ fn prefilter_finds_in_copies<T: Abort>(rt: &T, alloc: Global, prefilter: &Prefil
 /// Asserts that a builder has this many patterns, and all of them if a pattern is added once more.
 fn adds<T: Abort>(rt: &T, builder: &mut Builder, pattern: &[u8], kept: usize) {
     if builder.add(pattern).is_err() {
-        assert_eq!(rt; builder.len(), kept);
+        equal(rt, &builder.len(), &kept, "none was added");
         assert!(rt; builder.try_add(pattern).is_ok());
     }
-    assert_eq!(rt; builder.len(), kept.saturating_add(1));
+    equal(rt, &builder.len(), &kept.saturating_add(1), "one was added");
+}
+
+/// Asserts that a builder has all patterns.
+fn holds_all<T: Abort>(rt: &T, builder: &Builder) {
+    let held = (builder.len(), builder.minimum_len());
+    equal(rt, &held, &(3, 1), "how many, and the shortest");
 }
 
 /// Asserts that a builder, and a copy of it, have all patterns after one call for each. Of each call only one fails.
@@ -201,9 +195,9 @@ fn adds_each<T: Abort>(rt: &T, builder: &mut Builder) {
         adds(rt, builder, *pattern, kept);
     }
     if let Ok(copy) = &builder.clone() {
-        assert_eq!(rt; (copy.len(), copy.minimum_len()), (3, 1));
+        holds_all(rt, copy);
     }
-    assert_eq!(rt; (builder.len(), builder.minimum_len()), (3, 1));
+    holds_all(rt, builder);
 }
 
 /// Adds the patterns, each once more if it failed.
@@ -215,19 +209,43 @@ fn adds_again<T: Abort>(rt: &T, builder: &mut PrefilterBuilder) {
     }
 }
 
+/// What was built, which is there if memory didn't end: packed search and a prefilter serve the patterns.
+fn there<'b, T: Abort, X>(rt: &T, built: &'b Result<Option<X>, AllocError>) -> Option<&'b X> {
+    let built = built.as_ref().ok()?.as_ref();
+    assert!(rt; built.is_some());
+    built
+}
+
 /// Asserts that a prefilter's builder that failed to add a pattern, and then adds it, builds what it builds elsewhere.
 fn prefilter_is_added<T: Abort>(rt: &T, alloc: Global) {
     let mut builder = PrefilterBuilder::new(alloc, MatchKind::Standard);
     adds_again(rt, &mut builder);
-    if let Ok(built) = &builder.build() {
-        assert!(rt; built.is_some());
-        if let Some(prefilter) = built {
-            prefilter_finds_in_copies(rt, alloc, prefilter);
-        }
+    if let Some(prefilter) = there(rt, &builder.build()) {
+        prefilter_finds_in_copies(rt, alloc, prefilter);
     }
 }
 
-/// An `Err` says that memory ended: there is no other. What was built is there, since packed search and a prefilter serve the patterns.
+/// Asserts what prefilters find, by each way to make one.
+fn prefilters_find<T: Abort>(rt: &T, alloc: Global) {
+    prefilter_is_added(rt, alloc);
+    if let Some(prefilter) = there(
+        rt,
+        &made(alloc, MatchKind::Standard, Pairing::none(), PATTERNS),
+    ) {
+        prefilter_finds_in_copies(rt, alloc, prefilter);
+    }
+}
+
+/// Asserts what packed searchers find, by each way to make one.
+fn searchers_find<T: Abort>(rt: &T, alloc: Global) {
+    there(rt, &Searcher::new(alloc, PATTERNS));
+    let longest = packed::MatchKind::LeftmostLongest;
+    if let Some(searcher) = there(rt, &searcher(alloc, PATTERNS, longest)) {
+        packed_finds_in_copies(rt, alloc, searcher);
+    }
+}
+
+/// An `Err` says that memory ended: there is no other.
 #[test]
 fn in_memory_that_may_end_literals(rt: HostRuntime) {
     let mut builder = Builder::new(rt.alloc());
@@ -237,20 +255,6 @@ fn in_memory_that_may_end_literals(rt: HostRuntime) {
     let refused = builder.extend(PATTERNS).is_err();
     extends(&rt, &mut builder, refused);
     adds_each(&rt, &mut Builder::new(rt.alloc()));
-    if let Ok(built) = &Searcher::new(rt.alloc(), PATTERNS) {
-        assert!(rt; built.is_some());
-    }
-    prefilter_is_added(&rt, rt.alloc());
-    if let Ok(built) = &searcher(rt.alloc(), PATTERNS, packed::MatchKind::LeftmostLongest) {
-        assert!(rt; built.is_some());
-        if let Some(searcher) = built {
-            packed_finds_in_copies(&rt, rt.alloc(), searcher);
-        }
-    }
-    if let Ok(built) = &made(rt.alloc(), MatchKind::Standard, Pairing::none(), PATTERNS) {
-        assert!(rt; built.is_some());
-        if let Some(prefilter) = built {
-            prefilter_finds_in_copies(&rt, rt.alloc(), prefilter);
-        }
-    }
+    prefilters_find(&rt, rt.alloc());
+    searchers_find(&rt, rt.alloc());
 }

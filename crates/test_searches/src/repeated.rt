@@ -1,6 +1,7 @@
 //! Long runs of one letter: long patterns of it, many patterns of it, and long texts.
 //!
 //! A search that begins anew at each place, or that compares a pattern with the text at each, takes the product of their lengths here.
+use crate::asserts::equal;
 use crate::rows::{Row, hold, table_of};
 use ac_input::search::{Input, MatchKind};
 use ac_noncontiguous::Search;
@@ -273,7 +274,7 @@ fn many_patterns(rt: HostRuntime) -> Result<(), Fail> {
     growing_hold(&rt, alloc, 129, standard, Walk, &places)?;
     short_one_holds(&rt, alloc, &places)?;
     let all = all_of_128(alloc)?;
-    assert_eq!(rt; all.len(), 119872);
+    equal(&rt, &all.len(), &119872, "all of 128 patterns");
     growing_hold(&rt, alloc, 128, standard, List, &all)
 }
 

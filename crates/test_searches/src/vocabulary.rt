@@ -1,6 +1,7 @@
 //! The types of searches and their results: kinds, spans, matches, inputs, numbers, bytes, pairings, errors.
 //!
 //! Single facts stand in a list, and are asserted at once: where one is false, the failure shows the list.
+use crate::asserts::same;
 use ac_input::primitives::PatternID;
 use ac_input::search::{Anchored, Candidate, Input, Match, MatchKind, Span, StartKind};
 use ac_input::steps::Steps;
@@ -47,7 +48,7 @@ fn kinds_and_matches(rt: HostRuntime) {
         Candidate::Match(found).into_option() == Some(2),
         Candidate::PossibleStartOfMatch(7).into_option() == Some(7),
     ];
-    assert_eq!(rt; facts, [true; 23]);
+    same(&rt, &facts, &[true; 23], "kinds and matches");
 }
 
 #[test]
@@ -76,7 +77,7 @@ fn spans(rt: HostRuntime) {
         Span { start: 6, end: 6 }.of(b"foobar") == b"".as_slice(),
         Span { start: 1, end: 3 }.of_text("aéb") == "é",
     ];
-    assert_eq!(rt; facts, [true; 15]);
+    same(&rt, &facts, &[true; 15], "spans");
 }
 
 /// Where the span of an input starts and ends.
@@ -123,7 +124,7 @@ fn inputs(rt: HostRuntime) {
         input.get_span() == Span { start: 7, end: 6 },
         input.get_range() == (7..6),
     ];
-    assert_eq!(rt; facts, [true; 11]);
+    same(&rt, &facts, &[true; 11], "inputs");
     for (start, end, done) in OVER {
         assert!(rt; Input::new(b"ab").range(start..end).is_done() == done);
     }

@@ -1,5 +1,6 @@
 //! What the tables hold: the words of the contiguous NFA, and the rows of the DFA.
-use crate::asserts::same;
+use crate::asserts::{equal, same};
+use crate::owned::shape_of;
 use ac_input::search::StartKind::{self, Anchored, Both, Unanchored};
 use ac_noncontiguous::NFA;
 use ac_tables::{contiguous, dfa};
@@ -44,8 +45,8 @@ fn words_of(alloc: Global, row: &Words, from: &NFA) -> Result<[usize; 2], Fail> 
     builder
         .dense_depth(row.dense_depth)
         .byte_classes(row.byte_classes);
-    let made = builder.build_from_noncontiguous(alloc, from)?.words().len();
-    Ok([builder.build(alloc, INSIDE)?.words().len(), made])
+    let made = shape_of(builder.build_from_noncontiguous(alloc, from))?;
+    Ok([shape_of(builder.build(alloc, INSIDE))?, made])
 }
 
 /// Which starts the DFA has; whether bytes have classes; how many states there are, their stride, and how many transitions.
@@ -83,20 +84,14 @@ const ROWS: &[Rows] = &[
     },
 ];
 
-/// What a DFA says of its table.
-fn sizes_of(dfa: &dfa::DFA) -> [usize; 3] {
-    [dfa.state_len(), dfa.stride(), dfa.transitions().len()]
-}
-
-/// The sizes of the DFA, made of patterns and made of the noncontiguous one, and which starts it has.
-fn rows_of(alloc: Global, row: &Rows, from: &NFA) -> Result<([[usize; 3]; 2], StartKind), Fail> {
+/// The sizes and the starts of the DFA, made of patterns and made of the noncontiguous one.
+fn rows_of(alloc: Global, row: &Rows, from: &NFA) -> Result<[([usize; 3], StartKind); 2], Fail> {
     let mut builder = dfa::builder::Builder::new();
     builder
         .start_kind(row.starts)
         .byte_classes(row.byte_classes);
-    let made = sizes_of(&builder.build_from_noncontiguous(alloc, from)?);
-    let built = builder.build(alloc, INSIDE)?;
-    Ok(([sizes_of(&built), made], built.start_kind()))
+    let made = shape_of(builder.build_from_noncontiguous(alloc, from))?;
+    Ok([shape_of(builder.build(alloc, INSIDE))?, made])
 }
 
 /// Patterns of which `a` has transitions by the classes 1, 2 and 5, and no match.
@@ -105,31 +100,39 @@ const THREE_CLASSES: &[&[u8]] = &[b"aa", b"ab", b"ae", b"c", b"d"];
 /// The classes 1, 2 and 5 in one word, the last of them twice: the bytes 01 02 05 05, the first in the lowest bits.
 const CLASSES: u32 = 84214273;
 
+/// How many transitions stand two words before the word of the three classes, and in how many places that is.
+fn packed_classes(words: &[u32]) -> (Option<u32>, usize) {
+    let at = words.iter().position(|word| *word == CLASSES);
+    let kind = at.and_then(|at| words.get(at.checked_sub(2)?));
+    let times = words.iter().filter(|word| **word == CLASSES).count();
+    (kind.map(|kind| *kind & 255), times)
+}
+
 /// Asserts that the word of the three classes stands in one place, two words after the number of the transitions.
 fn classes_are_packed<T: Abort>(rt: &T, alloc: Global) -> Result<(), Fail> {
     let nfa = contiguous::builder::Builder::new()
         .dense_depth(1)
         .build(alloc, THREE_CLASSES)?;
-    let words = nfa.words();
-    let at = words.iter().position(|word| *word == CLASSES);
-    let kind = at.and_then(|at| words.get(at.checked_sub(2)?));
-    let few = kind.map(|kind| *kind & 255);
-    let times = words.iter().filter(|word| **word == CLASSES).count();
-    assert_eq!(rt; (few, times), (Some(3), 1));
+    let found = packed_classes(nfa.words());
+    equal(rt, &found, &(Some(3), 1), "the word of the three classes");
+    Ok(())
+}
+
+/// Asserts what the rows say of tables that are made of patterns, and of this automaton.
+fn tables_hold<T: Abort>(rt: &T, alloc: Global, from: &NFA) -> Result<(), Fail> {
+    for row in WORDS {
+        let words = words_of(alloc, row, from)?;
+        same(rt, &words, &[row.words; 2], row.shows);
+    }
+    for row in ROWS {
+        let shapes = rows_of(alloc, row, from)?;
+        same(rt, &shapes, &[(row.sizes, row.starts); 2], row.shows);
+    }
     Ok(())
 }
 
 #[test]
 fn what_tables_hold(rt: HostRuntime) -> Result<(), Fail> {
-    let from = &NFA::new(rt.alloc(), INSIDE)?;
-    for row in WORDS {
-        let words = words_of(rt.alloc(), row, from)?;
-        same(&rt, &words, &[row.words; 2], row.shows);
-    }
-    for row in ROWS {
-        let (sizes, starts) = rows_of(rt.alloc(), row, from)?;
-        same(&rt, &sizes, &[row.sizes; 2], row.shows);
-        same(&rt, &[starts], &[row.starts], row.shows);
-    }
+    tables_hold(&rt, rt.alloc(), &NFA::new(rt.alloc(), INSIDE)?)?;
     classes_are_packed(&rt, rt.alloc())
 }

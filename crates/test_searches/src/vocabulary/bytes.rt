@@ -1,7 +1,7 @@
 //! Bytes: sets and classes of them, cases of letters, and pairings.
 ghost use Rattle.std.specs.Prelude.{◌≤◌};
 
-use crate::asserts::same;
+use crate::asserts::{equal, same};
 use ac_input::alphabet::{ByteClassSet, ByteClasses, ByteSet, opposite_ascii_case};
 use ac_input::pairing::{Pairing, PairingError};
 use std::process::Abort;
@@ -86,14 +86,14 @@ fn sets_and_classes(rt: HostRuntime) {
         few.elements(3).next() == None,
         few.element_ranges(3).next() == None,
     ];
-    assert_eq!(rt; facts, [true; 14]);
+    same(&rt, &facts, &[true; 14], "sets and classes");
 }
 
 /// Asserts that these bytes are partners, or that one has none where it stands beside itself.
 fn pairs<T: Abort>(rt: &T, pairing: &Pairing, want: &[(u8, u8)]) {
     for (byte, partner) in want {
-        assert_eq!(rt; pairing.other(*byte), *partner, "of {byte}");
-        assert_eq!(rt; pairing.other(*partner), *byte, "of {partner}");
+        let found = (pairing.other(*partner), pairing.other(*byte));
+        equal(rt, &found, &(*byte, *partner), "partners");
     }
 }
 
@@ -121,7 +121,7 @@ fn pairings(rt: HostRuntime) {
         &[(0, 255), (0x31, 0x30), (1, 1)],
     );
     for (byte, other) in CASES {
-        assert_eq!(rt; opposite_ascii_case(byte), other);
+        equal(&rt, &opposite_ascii_case(byte), &other, "the other case");
     }
     let facts = [
         none.is_none(),
@@ -133,5 +133,5 @@ fn pairings(rt: HostRuntime) {
         twice(&[(7, 7)]) == Some(PairingError::Twice(7)),
         twice(&[(0x30, 0x31)]) == None,
     ];
-    assert_eq!(rt; facts, [true; 8]);
+    same(&rt, &facts, &[true; 8], "pairings");
 }

@@ -1,4 +1,5 @@
 //! The numbers of patterns and states, which end at 2147483646.
+use crate::asserts::{equal, same};
 use ac_input::primitives::{PatternID, SmallIndex, StateID};
 
 /// Which conversions of a number succeed.
@@ -76,10 +77,20 @@ fn numbers(rt: HostRuntime) {
         (2147483647, false),
         (u32::MAX, false),
     ] {
-        assert_eq!(rt; taken(number), [fits; 12], "{number}");
+        equal(
+            &rt,
+            &(number, taken(number)),
+            &(number, [fits; 12]),
+            "what fits",
+        );
     }
-    assert_eq!(rt; conversions(), [true; 9]);
-    assert_eq!(rt; greatest_and_least(), [true; 18]);
+    same(&rt, &conversions(), &[true; 9], "conversions");
+    same(
+        &rt,
+        &greatest_and_least(),
+        &[true; 18],
+        "the greatest and the least",
+    );
     let facts = [
         SmallIndex::new(2147483647).err().map(|it| it.attempted()) == PAST,
         PatternID::new(2147483647).err().map(|it| it.attempted()) == PAST,
@@ -87,5 +98,5 @@ fn numbers(rt: HostRuntime) {
         SmallIndex::new(usize::MAX).err().map(|it| it.attempted()) == Some(u64::MAX),
         PatternID::try_from(u64::MAX).err().map(|it| it.attempted()) == Some(u64::MAX),
     ];
-    assert_eq!(rt; facts, [true; 5]);
+    same(&rt, &facts, &[true; 5], "what doesn't fit");
 }

@@ -1,4 +1,5 @@
 //! What errors say.
+use crate::asserts::{equal, same};
 use ac_input::pairing::PairingError;
 use ac_input::primitives::{PatternID, SmallIndex, StateID};
 use ac_input::search::MatchKind;
@@ -13,7 +14,7 @@ use std::process::Abort;
 /// Asserts what the error says.
 fn says<T: Abort, E: Display>(rt: &T, alloc: Global, error: &E, want: &str) {
     let said = error.to_string(alloc).expect(rt, "there is memory");
-    assert_eq!(rt; said.as_str(), want);
+    equal(rt, &said.as_str(), &want, "the text of an error");
 }
 
 /// Asserts the text of a search error, by itself, and as the error of a replacement and of a stream.
@@ -63,7 +64,8 @@ fn makers_make<T: Abort>(rt: &T) {
         MatchError::unsupported_empty(),
     ];
     let kinds = made.map(|error| *error.kind());
-    assert_eq!(rt; kinds, REFUSALS.map(|(kind, _)| kind));
+    let want = REFUSALS.map(|(kind, _)| kind);
+    same(rt, &kinds, &want, "what each maker makes");
 }
 
 /// Asserts the error of the number past the greatest one.

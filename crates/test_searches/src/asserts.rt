@@ -1,11 +1,14 @@
 //! What the tests of searches assert of results.
+ghost use Rattle.std.specs.Iterator.{IsFinite};
 ghost use Rattle.ac_automaton.specs.InMemory.Overlapping.{CameFrom};
 
-use ac_input::search::Input;
+use ac_input::search::{Input, Match};
 use ac_input::steps::Steps;
 use ac_noncontiguous::{FindIter, OverlappingState, Search};
+use std::alloc::{AllocError, Global};
 use std::fmt::Debug;
 use std::process::Abort;
+use test_rows::answers::collected;
 use test_rows::engines::{Pick, pick};
 
 /// Asserts that one call of an overlapping search after another shows these, and then none for good.
@@ -38,6 +41,21 @@ pub fn walks_on<T: Abort, A: Search>(rt: &T, matches: &mut FindIter<'_, '_, A>, 
         equal(rt, &pick(found), &want.get(at).copied(), "counted");
     }
     assert!(rt; matches.next().is_none());
+}
+
+/// Asserts that an iterator gives these.
+pub fn gives<T: Abort, I: Iterator<Item = Match> + Drop>(
+    rt: &T,
+    alloc: Global,
+    matches: I,
+    want: &[Pick],
+    shows: &str,
+) -> Result<(), AllocError>
+    requires can { I.can_next matches }
+    requires ends { IsFinite (I.remaining matches) }
+{
+    same(rt, &collected(alloc, matches)?, want, shows);
+    Ok(())
 }
 
 /// Asserts that a value is this one.

@@ -6,7 +6,7 @@
 ghost use Rattle.ac_automaton.specs.InMemory.Overlapping.{CanOverlap};
 ghost use Rattle.aho_corasick.specs.AhoCorasick.{as_built, supported_by};
 
-use crate::asserts::{equal, same};
+use crate::asserts::{equal, gives, same};
 use crate::rows::{Row, SUBJECTS, Table};
 use ac_input::search::{Input, MatchKind, StartKind};
 use ac_input::steps::Steps;
@@ -15,7 +15,7 @@ use aho_corasick::{AhoCorasick, AhoCorasickKind, OverlappingState};
 use std::alloc::{AllocError, Global};
 use std::process::Abort;
 use std::test::Fail;
-use test_rows::answers::{Asks, collected, input};
+use test_rows::answers::{Asks, input};
 use test_rows::engines::{Asked, Case, Letters, front_builder, pick, serves};
 use test_rows::fronts::{OwnCase, all_own};
 
@@ -55,14 +55,17 @@ fn walk_holds<T: Abort>(
     requires { supported_by ac.now asked.now.anchored }
 {
     find_holds(rt, ac, asked, row)?;
-    let given = collected(alloc, ac.find_iter(asked.clone()?))?;
-    same(rt, &given, row.gives, row.shows);
-    let given = collected(alloc, ac.try_find_iter(asked.clone()?)?)?;
-    same(rt, &given, row.gives, row.shows);
-    let given = collected(alloc, ac.find_iter_ahead(asked.clone()?))?;
-    same(rt, &given, row.gives, row.shows);
-    let given = collected(alloc, ac.try_find_iter_ahead(asked.clone()?)?)?;
-    same(rt, &given, row.gives, row.shows);
+    let (want, shows) = (row.gives, row.shows);
+    gives(rt, alloc, ac.find_iter(asked.clone()?), want, shows)?;
+    gives(rt, alloc, ac.try_find_iter(asked.clone()?)?, want, shows)?;
+    gives(rt, alloc, ac.find_iter_ahead(asked.clone()?), want, shows)?;
+    gives(
+        rt,
+        alloc,
+        ac.try_find_iter_ahead(asked.clone()?)?,
+        want,
+        shows,
+    )?;
     Ok(())
 }
 
@@ -99,10 +102,10 @@ fn list_holds<T: Abort>(
 {
     turns_hold(rt, ac, asked, row)?;
     if !asked.get_anchored().is_anchored() {
-        let given = collected(alloc, ac.find_overlapping_iter(asked.clone()?))?;
-        same(rt, &given, row.gives, row.shows);
-        let given = collected(alloc, ac.try_find_overlapping_iter(asked.clone()?)?)?;
-        same(rt, &given, row.gives, row.shows);
+        let list = ac.find_overlapping_iter(asked.clone()?);
+        gives(rt, alloc, list, row.gives, row.shows)?;
+        let list = ac.try_find_overlapping_iter(asked.clone()?)?;
+        gives(rt, alloc, list, row.gives, row.shows)?;
     }
     Ok(())
 }
@@ -183,6 +186,18 @@ fn is_served<T: Abort>(rt: &T, ac: &AhoCorasick, row: &Served, count: usize) {
     same(rt, &found, &[count, row.shortest, row.longest], shows);
 }
 
+/// Asserts it of a clone.
+fn copy_is_served<T: Abort>(
+    rt: &T,
+    alloc: Global,
+    ac: &AhoCorasick,
+    row: &Served,
+    count: usize,
+) -> Result<(), Fail> {
+    is_served(rt, &ac.clone(alloc)?, row, count);
+    Ok(())
+}
+
 /// Asserts it of the automaton of these patterns, and of a clone.
 fn serves_so<T: Abort>(rt: &T, alloc: Global, row: &Served) -> Result<(), Fail> {
     let patterns = repeated(alloc, row.patterns, row.times)?;
@@ -193,8 +208,7 @@ fn serves_so<T: Abort>(rt: &T, alloc: Global, row: &Served) -> Result<(), Fail> 
     };
     let ac = front_builder(asked, row.named, row.starts)?.build(alloc, &patterns)?;
     is_served(rt, &ac, row, patterns.len());
-    is_served(rt, &ac.clone(alloc)?, row, patterns.len());
-    Ok(())
+    copy_is_served(rt, alloc, &ac, row, patterns.len())
 }
 
 /// Four words for one start, of which a DFA serves.

@@ -10,13 +10,7 @@ use test_rows::engines::{Asked, Case, Letters, Trial, all};
 use test_rows::fronts::{OwnCase, each_own};
 
 /// Why the calls of a search return an error, if they do: those that find and walk, the overlapping one, and its iterator.
-#[derive(Clone, Copy, Debug, PartialEq, Eq)]
-struct Refusals {
-    find: Option<MatchErrorKind>,
-    walk: Option<MatchErrorKind>,
-    overlap: Option<MatchErrorKind>,
-    list: Option<MatchErrorKind>,
-}
+type Refusals = [Option<MatchErrorKind>; 4];
 
 /// The one pattern.
 const PATTERNS: &[&[u8]] = &[b"a"];
@@ -39,30 +33,29 @@ fn reason(error: MatchError) -> MatchErrorKind {
 fn refusals_of<A: Search>(automaton: &A, input: &Input<'_>) -> Result<Refusals, Fail> {
     let mut state = OverlappingState::start();
     let overlap = automaton.try_find_overlapping(input, &mut state).err();
-    Ok(Refusals {
-        find: automaton.try_find(input).err().map(reason),
-        walk: automaton.try_find_iter(input.clone()?).err().map(reason),
-        overlap: overlap.map(reason),
-        list: automaton
+    Ok([
+        automaton.try_find(input).err().map(reason),
+        automaton.try_find_iter(input.clone()?).err().map(reason),
+        overlap.map(reason),
+        automaton
             .try_find_overlapping_iter(input.clone()?)
             .err()
             .map(reason),
-    })
+    ])
 }
 
 /// The error of a search by the front's own calls.
 fn own_refusals_of(ac: &AhoCorasick, input: &Input<'_>) -> Result<Refusals, Fail> {
     let mut state = OverlappingState::start();
     let overlap = ac.try_find_overlapping(input.clone()?, &mut state).err();
-    Ok(Refusals {
-        find: ac.try_find(input.clone()?).err().map(reason),
-        walk: ac.try_find_iter(input.clone()?).err().map(reason),
-        overlap: overlap.map(reason),
-        list: ac
-            .try_find_overlapping_iter(input.clone()?)
+    Ok([
+        ac.try_find(input.clone()?).err().map(reason),
+        ac.try_find_iter(input.clone()?).err().map(reason),
+        overlap.map(reason),
+        ac.try_find_overlapping_iter(input.clone()?)
             .err()
             .map(reason),
-    })
+    ])
 }
 
 /// The search error of a replacement, if the error isn't for memory.
@@ -156,55 +149,27 @@ impl<T: Abort> OwnCase<T> for Row {
     }
 }
 
-const NONE: Refusals = Refusals {
-    find: None,
-    walk: None,
-    overlap: None,
-    list: None,
-};
+const NONE: Refusals = [None; 4];
 
-const NO_START: Refusals = Refusals {
-    find: Some(MatchErrorKind::InvalidInputUnanchored),
-    walk: Some(MatchErrorKind::InvalidInputUnanchored),
-    overlap: Some(MatchErrorKind::InvalidInputUnanchored),
-    list: Some(MatchErrorKind::InvalidInputUnanchored),
-};
+const NO_START: Refusals = [Some(MatchErrorKind::InvalidInputUnanchored); 4];
 
-const NO_ANCHORED_START: Refusals = Refusals {
-    find: Some(MatchErrorKind::InvalidInputAnchored),
-    walk: Some(MatchErrorKind::InvalidInputAnchored),
-    overlap: Some(MatchErrorKind::InvalidInputAnchored),
-    list: Some(MatchErrorKind::InvalidInputAnchored),
-};
+const NO_ANCHORED_START: Refusals = [Some(MatchErrorKind::InvalidInputAnchored); 4];
 
-const ANCHORED_LIST: Refusals = Refusals {
-    find: None,
-    walk: None,
-    overlap: None,
-    list: Some(MatchErrorKind::InvalidInputAnchored),
-};
+const ANCHORED_LIST: Refusals = [None, None, None, Some(MatchErrorKind::InvalidInputAnchored)];
 
-const FIRST: Refusals = Refusals {
-    find: None,
-    walk: None,
-    overlap: Some(MatchErrorKind::UnsupportedOverlapping {
-        got: MatchKind::LeftmostFirst,
-    }),
-    list: Some(MatchErrorKind::UnsupportedOverlapping {
-        got: MatchKind::LeftmostFirst,
-    }),
-};
+/// Why there are no overlapping occurrences for the first pattern at a place.
+const NO_FIRST_OVERLAP: Option<MatchErrorKind> = Some(MatchErrorKind::UnsupportedOverlapping {
+    got: MatchKind::LeftmostFirst,
+});
 
-const LONGEST: Refusals = Refusals {
-    find: None,
-    walk: None,
-    overlap: Some(MatchErrorKind::UnsupportedOverlapping {
-        got: MatchKind::LeftmostLongest,
-    }),
-    list: Some(MatchErrorKind::UnsupportedOverlapping {
-        got: MatchKind::LeftmostLongest,
-    }),
-};
+const FIRST: Refusals = [None, None, NO_FIRST_OVERLAP, NO_FIRST_OVERLAP];
+
+/// The same for the longest pattern at a place.
+const NO_LONGEST_OVERLAP: Option<MatchErrorKind> = Some(MatchErrorKind::UnsupportedOverlapping {
+    got: MatchKind::LeftmostLongest,
+});
+
+const LONGEST: Refusals = [None, None, NO_LONGEST_OVERLAP, NO_LONGEST_OVERLAP];
 
 const ROWS: &[Row] = &[
     Row {

@@ -2,7 +2,7 @@
 //!
 //! The rows stand in tables, one for each list of patterns, by subject. Each row is run by the plain program, by packed search where
 //! that serves, and by each automaton that has a start for it: by its own calls, and by a reference to it.
-use crate::asserts::{equal, same, shows_in_turn, walks_on};
+use crate::asserts::{equal, gives, same, shows_in_turn, walks_on};
 use crate::packed::searcher;
 use ac_input::search::{Input, MatchKind, Span};
 use ac_literal::packed::{self, Searcher};
@@ -53,10 +53,10 @@ fn walk_holds<T: Abort, A: Search>(
     row: &Row<'_>,
 ) -> Result<(), Fail> {
     is_first(rt, pick(automaton.try_find(&input)?), row);
-    let given = collected(alloc, automaton.try_find_iter(input.clone()?)?)?;
-    same(rt, &given, row.gives, row.shows);
-    let given = collected(alloc, automaton.try_find_iter_ahead(input.clone()?)?)?;
-    same(rt, &given, row.gives, row.shows);
+    let walk = automaton.try_find_iter(input.clone()?)?;
+    gives(rt, alloc, walk, row.gives, row.shows)?;
+    let ahead = automaton.try_find_iter_ahead(input.clone()?)?;
+    gives(rt, alloc, ahead, row.gives, row.shows)?;
     walks_on(rt, &mut automaton.try_find_iter(input)?, row.gives);
     Ok(())
 }
@@ -72,8 +72,8 @@ fn list_holds<T: Abort, A: Search>(
     let mut state = OverlappingState::start();
     shows_in_turn(rt, automaton, &input, &mut state, row.gives);
     if !input.get_anchored().is_anchored() {
-        let given = collected(alloc, automaton.try_find_overlapping_iter(input)?)?;
-        same(rt, &given, row.gives, row.shows);
+        let list = automaton.try_find_overlapping_iter(input)?;
+        gives(rt, alloc, list, row.gives, row.shows)?;
     }
     Ok(())
 }

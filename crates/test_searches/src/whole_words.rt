@@ -12,7 +12,7 @@ use test_rows::answers::Asks::Walk;
 use test_rows::answers::{collected, words_by_plain};
 use test_rows::drawn::{EACH_OF_LETTERS, KINDS, from_there, letters_of, patterns_of};
 use test_rows::engines::Letters::{Cased, Folded};
-use test_rows::engines::{Asked, Case, ENGINES, FEW, Letters, Pick, Trial, each};
+use test_rows::engines::{Asked, Case, ENGINES, FEW, Letters, Pick, Trial, all_by, each};
 
 /// A text, and its whole words under a kind. A row that was drawn with an empty pattern is left out, since these are refused.
 #[derive(Clone, Copy)]
@@ -30,7 +30,7 @@ impl<T: Abort> Case<T> for Words<'_> {
     }
 
     fn check<A: Search>(&self, on: &Trial<'_, T, A>) -> Result<(), Fail> {
-        if !on.searches() || self.asked.patterns.iter().any(|it| it.is_empty()) {
+        if !on.searches() || self.asked.has_empty() {
             return Ok(());
         }
         let words = on.automaton.try_find_word_iter(self.kind, self.text)?;
@@ -209,25 +209,13 @@ impl<T: Abort> Case<T> for Refused {
     }
 }
 
-fn each_row<T: Abort>(rt: &T, alloc: Global) -> Result<(), Fail> {
-    for row in ROWS {
-        rows_have_these_words(rt, alloc, row)?;
-    }
-    Ok(())
-}
-
-fn each_refusal<T: Abort>(rt: &T, alloc: Global) -> Result<(), Fail> {
-    for row in REFUSED {
-        each(rt, alloc, row, FEW)?;
-    }
-    Ok(())
-}
-
 #[test]
 fn whole_words(rt: HostRuntime) -> Result<(), Fail> {
     let alloc = rt.alloc();
-    each_row(&rt, alloc)?;
-    each_refusal(&rt, alloc)?;
+    for row in ROWS {
+        rows_have_these_words(&rt, alloc, row)?;
+    }
+    all_by(&rt, alloc, REFUSED, FEW)?;
     for seed in 0..30 {
         seed_is_alike(&rt, alloc, seed)?;
     }

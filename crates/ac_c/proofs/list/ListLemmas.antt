@@ -249,9 +249,11 @@ listed words ac haystack p input run old new longest_is n valid long asked all g
     ∙ listing-begins ac haystack p longest_is valid.1 valid.0 long in
     let left : AreGiven (left_of_wanted words ac haystack p) old new n =
     subst (λ os. AreGiven os old new n) (wanted-left words ac haystack p run later) given in
-    let count = left.count in
-    (left, listing-after (left_of_wanted words ac haystack) p new n (wanted-go words ac haystack p valid.1) (omega arith)
-    left.given)
+    let count = left.count in (
+      left,
+      listing-after (left_of_wanted words ac haystack) p new n (wanted-go words ac haystack p valid.1) (omega arith)
+          left.given,
+    )
 
 -- so this is what a call returns, if no pattern is empty where words are wanted
 pub wanted-by : (words : Bool) (ac : AhoCorasick) (haystack : List ℕ) (p : Place) (old new : List Found) (n : ℕ)

@@ -1,5 +1,5 @@
-/* Whole words, one after another, in pieces, all of them, and masked: rows, batches of each size, texts beside a loop that compares each pattern at
- * each place, and each status. */
+/* Whole words, one after another, in pieces, all of them, and masked: rows, batches of each size, texts beside a loop that compares each
+ * pattern at each place, and each status. */
 #include "check.h"
 
 static const uint32_t KINDS[] = {DADO_STANDARD, DADO_LEFTMOST_FIRST, DADO_LEFTMOST_LONGEST};

@@ -83,7 +83,10 @@ def often():
 class Watched:
     """Lets other threads have a turn before each call with an automaton, and then looks whether it was freed. Counts the builds."""
 
-    CALLS = ("find_in", "some", "overlapping_some", "words_some", "overlapping_words_some", "replace", "mask", "mask_words", "stream_new", "word_stream_new", "engine", "memory")
+    CALLS = (
+        "find_in", "some", "overlapping_some", "words_some", "overlapping_words_some", "replace", "mask", "mask_words", "stream_new",
+        "word_stream_new", "engine", "memory",
+    )
 
     def __init__(self):
         self.freed, self.builds, self._patches = [], [], []

@@ -106,7 +106,8 @@ AreNext s t old new n =
     × (n < length old → CanBeCounted (read_by s) → AreAllGiven t)
 
 -- as C sees it
-abbrev pub IsGiven : {q : Sequence} → Pushed (StreamProgress q) → Pushed (StreamProgress q) → List Found → List Found → Count → Type 0
+abbrev pub IsGiven : {q : Sequence} → Pushed (StreamProgress q) → Pushed (StreamProgress q) → List Found → List Found
+    → Count → Type 0
 IsGiven s t old new given =
     AreNext s.search t.search old new given.count × (t.finished ≡ s.finished)
     × (given.status ≡ given_status (length old) given.count)

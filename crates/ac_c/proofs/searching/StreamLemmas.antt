@@ -42,7 +42,8 @@ pub same-counted : {q : Sequence} (s t : StreamProgress q) → ReadsNothing s t 
 same-counted s t a counted = subst CanBeCounted (sym (same-read s t a)) counted
 
 -- if nothing is read in between, an item among the held bytes was among them before
-held-before : {q : Sequence} (s t : StreamProgress q) (o : Occurrence) → LieApart q → ReadsNothing s t → IsHeldItem t o → IsHeldItem s o
+held-before : {q : Sequence} (s t : StreamProgress q) (o : Occurrence) → LieApart q → ReadsNothing s t
+    → IsHeldItem t o → IsHeldItem s o
 held-before {q} s t o apart a h = record {
   pattern = subst (λ b. o.pattern < length b.dictionary.patterns) a.built h.pattern;
   held = λ e. subst (λ n. n ≤ o.start) a.from (h.held e);
@@ -71,7 +72,8 @@ returns-rest s t u os h b given =
     record { nothing = reads-on s t u h.nothing b; given = given ∙ h.given; held = h.held; some = h.some }
 
 -- if items of what was read are left now, some were left before
-left-before : {q : Sequence} (s t : StreamProgress q) (os : List Occurrence) → (os ≡ [] → t ≡ s) → ((os ≢ []) → ¬ AreAllGiven s)
+left-before : {q : Sequence} (s t : StreamProgress q) (os : List Occurrence) → (os ≡ [] → t ≡ s) → ((os ≢ [])
+    → ¬ AreAllGiven s)
     → ¬ AreAllGiven t → ¬ AreAllGiven s
 left-before s t [] same some left = subst (λ z. ¬ AreAllGiven z) (same refl) left
 left-before s t (o ∷ os) same some left = some (λ e. cc)

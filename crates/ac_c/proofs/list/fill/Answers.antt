@@ -38,7 +38,8 @@ pub loop-at-preserved : goal.loop-at-preserved
 loop-at-preserved c =
     let i = c.loop-at.invariant in
     let next : drop c.loop-at.at (wanted_of c.args.haystack.now c.args.wanted c.args.matches.now)
-    ≡ c.in-Some.found ∷ wanted_of c.args.haystack.now c.args.wanted c.next_wanted.new.matches = sym i.rest ∙ c.in-Some.ensures.wanted in
+    ≡ c.in-Some.found ∷ wanted_of c.args.haystack.now c.args.wanted c.next_wanted.new.matches =
+    sym i.rest ∙ c.in-Some.ensures.wanted in
     record {
       rest = fill-rest _ c.loop-at.at c.in-Some.found _ next;
       enough = fill-enough _ c.loop-at.at c.in-Some.found _ next;

@@ -89,21 +89,21 @@ left_of_wanted false = left_of_listing
 left_of_wanted true = left_of_word_listing
 
 -- the next of those left are in the buffer, and the place after them has the rest; `left` is what is left at a place
-abbrev pub AreListed : (Place → List Occurrence) → Place → List Found → List Found → ℕ → Type 0
-AreListed left p old new n = AreGiven (left p) old new n × (left (place_after p new n) ≡ drop n (left p))
+abbrev pub AreNextListed : (Place → List Occurrence) → Place → List Found → List Found → ℕ → Type 0
+AreNextListed left p old new n = AreGiven (left p) old new n × (left (place_after p new n) ≡ drop n (left p))
 
 -- the next occurrences of a listing, and its place after them; or why it doesn't go on, and the buffer is unchanged
 abbrev pub IsListedBy : AhoCorasick → List ℕ → Place → List Found → List Found → Result ℕ ℕ → Type 0
 IsListedBy ac haystack p old new (Ok count) =
     IsPlaceOver haystack p × CanOverlap (as_built ac) (supported_by ac) (asked_from haystack p p.start)
-    × AreListed (left_of_listing ac haystack) p old new count
+    × AreNextListed (left_of_listing ac haystack) p old new count
 IsListedBy ac haystack p old new (Err status) = IsRefusedListing ac haystack p status × (new ≡ old)
 
 -- the next words of a listing of words
 abbrev pub AreWordsListedBy : AhoCorasick → List ℕ → Place → List Found → List Found → Result ℕ ℕ → Type 0
 AreWordsListedBy ac haystack p old new (Ok count) =
     IsPlaceOver haystack p × CanFindWords (as_built ac) (supported_by ac)
-    × AreListed (left_of_word_listing ac haystack) p old new count
+    × AreNextListed (left_of_word_listing ac haystack) p old new count
 AreWordsListedBy ac haystack p old new (Err status) = IsRefusedWordListing ac haystack p status × (new ≡ old)
 
 -- the one or the other

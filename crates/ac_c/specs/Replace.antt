@@ -18,16 +18,16 @@ use Rattle.ac_c.specs.Text.{HeldText}
 use Rattle.ac_c.specs.Walking.{WalksOn, WalksToEnd}
 
 -- a haystack with each of these replaced by the replacement of its pattern
-abbrev pub text_of : List ℕ → List (Bor (List ℕ)) → List Occurrence → List ℕ
-text_of haystack replacements os = replaced_from 0 haystack (map (λ r. r.now) replacements) os
+abbrev pub text_with : List ℕ → List (Bor (List ℕ)) → List Occurrence → List ℕ
+text_with haystack replacements os = replaced_from 0 haystack (map (λ r. r.now) replacements) os
 
 -- the same with each match of the haystack
 abbrev pub text_by : AhoCorasick → List ℕ → List (Bor (List ℕ)) → List ℕ
-text_by ac haystack replacements = text_of haystack replacements (matches_in (as_built ac) haystack)
+text_by ac haystack replacements = text_with haystack replacements (matches_in (as_built ac) haystack)
 
 -- the same with each match that is left of a walk
 abbrev pub text_along : List ℕ → List (Bor (List ℕ)) → Walk → List ℕ
-text_along haystack replacements w = text_of haystack replacements (left_of w)
+text_along haystack replacements w = text_with haystack replacements (left_of w)
 
 -- the matches that are left of a walk lie in order in the haystack, and each has a replacement
 abbrev pub AreReplaceable : List ℕ → List (Bor (List ℕ)) → Walk → Type 0

@@ -65,8 +65,8 @@ IsSearchOfWords ac kind (Err status) = IsRefusedStandard ac status
 -- ---- what a push takes
 
 -- a search as it is seen, where `progress` says how far it has come
-abbrev pub come_by : {S : Type 0} {q : Sequence} → (S → StreamProgress q) → Pushed S → Pushed (StreamProgress q)
-come_by progress s = record { search = progress s.search; finished = s.finished }
+abbrev pub seen_by : {S : Type 0} {q : Sequence} → (S → StreamProgress q) → Pushed S → Pushed (StreamProgress q)
+seen_by progress s = record { search = progress s.search; finished = s.finished }
 
 -- whether the search was told that no more pieces come
 abbrev pub is_finished : {q : Sequence} → Pushed (StreamProgress q) → Bool
@@ -129,10 +129,10 @@ finished_by s = record { search = closed_by s.search; finished = true }
 -- ---- for matches, or for words
 
 -- the first bytes of a piece were taken, or why none were
-abbrev pub TakesPiece : Searching → List ℕ → Searching → Count → Type 0
-TakesPiece (ForMatches s) piece new taken =
+abbrev pub TakesPushed : Searching → List ℕ → Searching → Count → Type 0
+TakesPushed (ForMatches s) piece new taken =
     (t : Pushed (StreamProgress Picks)) × (new ≡ ForMatches t) × IsPushed s piece t taken
-TakesPiece (ForWords s) piece new taken =
+TakesPushed (ForWords s) piece new taken =
     (t : Pushed (StreamProgress Words)) × (new ≡ ForWords t) × IsPushed s piece t taken
 
 -- the next matches, or words, are in the buffer

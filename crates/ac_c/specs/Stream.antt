@@ -15,7 +15,7 @@ use Rattle.ac_c.specs.declared.searching.Count.{Count}
 use Rattle.ac_c.specs.declared.searching.Searching.{Searching}
 use Rattle.ac_c.specs.declared.searching.View.{View}
 use Rattle.ac_c.specs.Build.{kind_by}
-use Rattle.ac_c.specs.Searching.{GivesNext, IsRefusedSearch, IsRefusedStandard, TakesPiece, begun_by, finished_with, view_in, words_begun_by}
+use Rattle.ac_c.specs.Searching.{GivesNext, IsRefusedSearch, IsRefusedStandard, TakesPushed, begun_by, finished_with, view_in, words_begun_by}
 use Rattle.ac_c.specs.Status.{ok, bad_kind, no_stream}
 
 -- a search of pieces, or none
@@ -49,7 +49,7 @@ counts_none = record { count = 0; status = no_stream }
 -- the first bytes of a piece were taken, or why none were; or the handle holds no search
 abbrev pub AnswersPush : List ℕ → HeldStream → HeldStream → Count → Type 0
 AnswersPush piece None new taken = (new ≡ None) × (taken ≡ counts_none)
-AnswersPush piece (Some s) new taken = (t : Searching) × (new ≡ Some t) × TakesPiece s piece t taken
+AnswersPush piece (Some s) new taken = (t : Searching) × (new ≡ Some t) × TakesPushed s piece t taken
 
 -- the next matches, or words, are in the buffer; or the handle holds no search, and the buffer is unchanged
 abbrev pub AnswersNext : HeldStream → HeldStream → List Found → List Found → Count → Type 0

@@ -8,7 +8,7 @@ ghost use Rattle.ac_automaton.specs.Stream.{CanStream, IsConfigRefusal, IsOnCour
 ghost use Rattle.ac_automaton.specs.Stream.Overlapping.{IsListingConfigRefusal};
 ghost use Rattle.ac_automaton.specs.declared.stream.StreamKinds.TheVariants.{AnyKind, OnlyStandard};
 ghost use Rattle.aho_corasick.specs.AhoCorasick.{MeansSame, as_built, supported_by};
-ghost use Rattle.ac_c.specs.Searching.{AreNext, GivesNext, IsGiven, IsOnItsCourse, IsPushed, IsRefusedSearch, IsRefusedStandard, IsSearchOfPieces, IsSearchOfWords, TakesPiece, begun_by, come_by, finished_by, finished_with, held_by, is_finished, view_in, view_of, words_begun_by};
+ghost use Rattle.ac_c.specs.Searching.{AreNext, GivesNext, IsGiven, IsOnItsCourse, IsPushed, IsRefusedSearch, IsRefusedStandard, IsSearchOfPieces, IsSearchOfWords, TakesPushed, begun_by, seen_by, finished_by, finished_with, held_by, is_finished, view_in, view_of, words_begun_by};
 ghost use Rattle.ac_c.specs.Status.{no_memory};
 
 use crate::found::Found;
@@ -177,21 +177,21 @@ fn fill<S: PieceSearch>(search: &mut S, out: &mut [Found], steps: &mut Steps) ->
 impl<S: PieceSearch> Pushed<S> {
     /// Whether it was told that no more pieces come.
     fn is_finished(&self) -> bool
-        ensures { result ≡ is_finished (come_by S.progress self.now) }
+        ensures { result ≡ is_finished (seen_by S.progress self.now) }
     {
         self.finished || self.search.has_closed()
     }
 
     /// Takes the first bytes of a piece.
     fn push(&mut self, piece: &[u8]) -> Count
-        ensures { IsPushed (come_by S.progress self.old) piece.now (come_by S.progress self.new) result }
+        ensures { IsPushed (seen_by S.progress self.old) piece.now (seen_by S.progress self.new) result }
     {
         self.push_counted(piece, &mut Steps::new())
     }
 
     /// The same; counts the bytes that it moves.
     fn push_counted(&mut self, piece: &[u8], steps: &mut Steps) -> Count
-        ensures pushed { IsPushed (come_by S.progress self.old) piece.now (come_by S.progress self.new) result }
+        ensures pushed { IsPushed (seen_by S.progress self.old) piece.now (seen_by S.progress self.new) result }
         ensures cost { StreamCounts (S.progress self.old.search) (S.progress self.new.search) steps.old steps.new }
     {
         if self.is_finished() {
@@ -205,14 +205,14 @@ impl<S: PieceSearch> Pushed<S> {
 
     /// The next items that are decided, as many as the buffer has room for.
     fn next_items(&mut self, out: &mut [Found]) -> Count
-        ensures { IsGiven (come_by S.progress self.old) (come_by S.progress self.new) out.old out.new result }
+        ensures { IsGiven (seen_by S.progress self.old) (seen_by S.progress self.new) out.old out.new result }
     {
         self.next_items_counted(out, &mut Steps::new())
     }
 
     /// The same; counts what it does.
     fn next_items_counted(&mut self, out: &mut [Found], steps: &mut Steps) -> Count
-        ensures given { IsGiven (come_by S.progress self.old) (come_by S.progress self.new) out.old out.new result }
+        ensures given { IsGiven (seen_by S.progress self.old) (seen_by S.progress self.new) out.old out.new result }
         ensures cost { StreamCounts (S.progress self.old.search) (S.progress self.new.search) steps.old steps.new }
     {
         let room = out.len();
@@ -225,7 +225,7 @@ impl<S: PieceSearch> Pushed<S> {
 
     /// Where the held bytes stand.
     fn view(&self) -> View
-        ensures view { result ≡ view_of (come_by S.progress self.now) }
+        ensures view { result ≡ view_of (seen_by S.progress self.now) }
         ensures course { IsOnCourse (S.progress self.now.search) }
     {
         View {
@@ -238,7 +238,7 @@ impl<S: PieceSearch> Pushed<S> {
 
     /// Tells it that no more pieces come, so that everything is decided.
     fn finish(&mut self)
-        ensures { come_by S.progress self.new ≡ finished_by (come_by S.progress self.old) }
+        ensures { seen_by S.progress self.new ≡ finished_by (seen_by S.progress self.old) }
     {
         self.search.close();
         self.finished = true;
@@ -291,7 +291,7 @@ impl Searching {
 
     /// Takes the first bytes of a piece.
     pub fn push(&mut self, piece: &[u8]) -> Count
-        ensures { TakesPiece self.old piece.now self.new result }
+        ensures { TakesPushed self.old piece.now self.new result }
     {
         match self {
             Searching::ForMatches(search) => search.push(piece),

@@ -20,7 +20,7 @@ use Rattle.aho_corasick.specs.declared.ahocorasick.AhoCorasick.{AhoCorasick}
 use Rattle.ac_c.specs.declared.found.Found.{Found}
 use Rattle.ac_c.specs.declared.list.Place.{Place}
 use Rattle.ac_c.specs.Found.{shown}
-use Rattle.ac_c.specs.List.{AreListed, AreWantedBy, IsPlaceOver, asked_from, before_of, begins_at, left_of_listing, left_of_wanted, left_of_word_listing, place_after, seen, wanted_of}
+use Rattle.ac_c.specs.List.{AreNextListed, AreWantedBy, IsPlaceOver, asked_from, before_of, begins_at, left_of_listing, left_of_wanted, left_of_word_listing, place_after, seen, wanted_of}
 use Rattle.ac_c.specs.Walk.{AreGiven}
 use Rattle.ac_input.specs.Listing.{ListsAll}
 use Rattle.ac_input.proofs.lemmas.ContainsLemmas.{Contains-head, Contains-tail, Contains-cases}
@@ -242,7 +242,7 @@ pub listed : (words : Bool) (ac : AhoCorasick) (haystack : List ℕ) (p : Place)
     (old new : List Found) (longest_is n : ℕ) → IsPlaceOver haystack p → longest_is ≡ longest (patterns_of ac)
     → input ≡ asked_from haystack p (begins_at p longest_is) → rest_of run ≡ listing_in (as_built ac) input
     → AreGiven (wanted_of haystack (record { place = p; words = words }) run) old new n
-    → AreListed (left_of_wanted words ac haystack) p old new n
+    → AreNextListed (left_of_wanted words ac haystack) p old new n
 listed words ac haystack p input run old new longest_is n valid long asked all given =
     let later : filter (is_after (before_of p)) (rest_of run) ≡ left_of_listing ac haystack p =
     ap (filter (is_after (before_of p))) (all ∙ ap (listing_in (as_built ac)) asked)
@@ -258,7 +258,7 @@ listed words ac haystack p input run old new longest_is n valid long asked all g
 -- so this is what a call returns, if no pattern is empty where words are wanted
 pub wanted-by : (words : Bool) (ac : AhoCorasick) (haystack : List ℕ) (p : Place) (old new : List Found) (n : ℕ)
     → IsPlaceOver haystack p → CanOverlap (as_built ac) (supported_by ac) (asked_from haystack p p.start)
-    → (words ≡ true → 1 ≤ shortest (patterns_of ac)) → AreListed (left_of_wanted words ac haystack) p old new n
+    → (words ≡ true → 1 ≤ shortest (patterns_of ac)) → AreNextListed (left_of_wanted words ac haystack) p old new n
     → AreWantedBy words ac haystack p old new (Ok n)
 wanted-by false ac haystack p old new n valid can filled given = (valid, can, given)
 wanted-by true ac haystack p old new n valid can filled given = (valid, (can.0, can.1, filled refl), given)

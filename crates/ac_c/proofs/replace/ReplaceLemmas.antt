@@ -14,7 +14,7 @@ use Rattle.ac_automaton.specs.InMemory.Replace.{LieInOrder, matches_in}
 use Rattle.ac_automaton.proofs.lemmas.ReplaceLemmas.{matches-lie}
 use Rattle.aho_corasick.specs.AhoCorasick.{as_built, pattern_count}
 use Rattle.aho_corasick.specs.declared.ahocorasick.AhoCorasick.{AhoCorasick}
-use Rattle.ac_c.specs.Replace.{CostsLen, IsLenBy, IsLenOf, IsReplaced, begun_with, is_long, text_of, walk_over}
+use Rattle.ac_c.specs.Replace.{CostsLen, IsLenBy, IsLenOf, IsReplaced, begun_with, is_long, text_with, walk_over}
 use Rattle.ac_c.specs.Walking.{IsAccounted, WalksOn}
 use Rattle.ac_c.proofs.walking.WalkingLemmas.{begun-accounted, walks-none}
 
@@ -168,8 +168,8 @@ len-cost ahead ac x w before after r is cost long =
 
 -- the length of the text of all matches, or why it has none, answers for the haystack
 pub len-answers : (ac : AhoCorasick) (x : List ℕ) (rs : List (Bor (List ℕ))) (os : List Occurrence) (r : Result ℕ ℕ)
-    → IsReplaced ac rs → os ≡ matches_in (as_built ac) x → IsLenOf (text_of x rs os) r → IsLenBy ac x rs r
+    → IsReplaced ac rs → os ≡ matches_in (as_built ac) x → IsLenOf (text_with x rs os) r → IsLenBy ac x rs r
 len-answers ac x rs os (Ok len) is all h =
-    (is, subst (λ qs. IsLenOf (text_of x rs qs) (Ok len)) all h)
+    (is, subst (λ qs. IsLenOf (text_with x rs qs) (Ok len)) all h)
 len-answers ac x rs os (Err status) is all h =
-    inl (is, subst (λ qs. IsLenOf (text_of x rs qs) (Err status)) all h)
+    inl (is, subst (λ qs. IsLenOf (text_with x rs qs) (Err status)) all h)

@@ -3,14 +3,14 @@ use Rattle.std.proofs.Common.{◌≤◌, length, map}
 use Rattle.ac_input.specs.Text.{replaced_from}
 use Rattle.ac_automaton.specs.InMemory.Iter.{left_of}
 use Rattle.ac_automaton.specs.InMemory.Replace.{LieInOrder}
-use Rattle.ac_c.specs.Replace.{text_of}
+use Rattle.ac_c.specs.Replace.{text_with}
 use Rattle.ac_c.proofs.replace.ReplaceLemmas.{IsWritten}
 use Rattle.ac_c.specs.Walking.{WalksTo}
 use Rattle.ac_c.proofs.replace.write_text.Given as goal
 
 abbrev pub invariant-loop-found : goal.invariant-loop-found
 invariant-loop-found g l = let walk = g.W.Walking.walk in record {
-  written : IsWritten (text_of l.haystack l.replacements (left_of (walk l.fn.matches))) l.fn.out l.out l.len
+  written : IsWritten (text_with l.haystack l.replacements (left_of (walk l.fn.matches))) l.fn.out l.out l.len
       (replaced_from l.at l.haystack (map (λ r. r.now) l.replacements) (left_of (walk l.matches)));
   lies : LieInOrder (length l.replacements) (length l.haystack) l.at (left_of (walk l.matches));
   within : l.at ≤ length l.haystack;

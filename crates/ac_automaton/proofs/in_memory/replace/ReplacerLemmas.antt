@@ -1,5 +1,5 @@
 -- How the chain of a closure's calls goes on, call by call.
-use Rattle.std.proofs.Common.{◌≡◌, ℕ, ◌+◌, ◌<◌, arith, Bool, true, false, List, ◌∷◌, ◌++◌, Some, None, Result, Ok, Err, drop, refl, sym, ap, ◌∙◌, subst, inl, inr, Bor, MutBor}
+use Rattle.std.proofs.Common.{◌≡◌, ℕ, ◌+◌, ◌<◌, arith, Bool, true, false, List, [], ◌∷◌, ◌++◌, Some, None, Result, Ok, Err, drop, refl, sym, ap, ◌∙◌, subst, inl, inr, Bor, MutBor}
 use Rattle.std.specs.Prelude.{slice_range}
 use Rattle.std.specs.Fn.{Called}
 use Rattle.std.specs.declared.alloc.AllocError.{AllocError}
@@ -106,6 +106,15 @@ comes-first {Call} {x} {f} {old} is = record {
 
 module _ {F : Type 0} (Call : Calls F) (x : List ℕ) (all : List Occurrence) (first : F) (begun : List ℕ) (at : ℕ)
     (os : List Occurrence) (f : F) (old : List ℕ) (h : ComesTo Call x all first begun at os f old) where
+  -- no occurrence is left, and the rest of the text is appended
+  pub comes-to_end : {end new : List ℕ} → os ≡ [] → new ≡ old ++ end → end ≡ drop at x
+      → (last : F) × IsChain Call x 0 all first begun last new
+  comes-to_end {new = new} none e rest_is = (
+    f,
+    h.ends f new
+        (subst (λ qs. IsChain Call x at qs f old f new) (sym none) (refl, e ∙ ap (λ t. old ++ t) rest_is)),
+  )
+
   module _ (rest : List Occurrence) (o : Occurrence) (is : os ≡ o ∷ rest) where
     -- after a call that returns true, the chain goes on with the rest of the occurrences
     pub comes-further : (mid : F) (answered : List ℕ)

@@ -1,8 +1,9 @@
 -- The text between two matches is copied, and each match is replaced.
-use Rattle.std.proofs.Common.{◌≡◌, refl, arith}
+use Rattle.std.proofs.Common.{◌≡◌, ◌++◌, map, refl, ap, ◌∙◌, arith}
+use Rattle.std.proofs.lemmas.List.{take_rest}
 use Rattle.ac_automaton.specs.InMemory.Iter.{left_of}
 use Rattle.ac_automaton.specs.InMemory.Replace.{matches_in}
-use Rattle.ac_automaton.proofs.lemmas.ReplaceLemmas.{matches-lie, same-input}
+use Rattle.ac_automaton.proofs.lemmas.ReplaceLemmas.{matches-lie, replaced-end, same-input, unanchored}
 use Rattle.ac_automaton.proofs.in_memory.replace.replace_all_bytes.Goals as goal
 
 pub loop-found-init : goal.loop-found-init
@@ -16,3 +17,12 @@ loop-found-init g c =
       lies = rw (c.requires, all) (matches-lie b x);
       within = omega arith;
     }
+
+pub returns : goal.returns
+returns g c =
+    let x = c.args.haystack.now in
+    let made = c.loop-found.replaced.items in (
+      unanchored (g.A.Automaton.supports c.args.automaton.now) c.in_ok-matches.ensures.answer.0 c.new.ensures,
+      c.in_ok-extend_from_slice-3.ensures.items ∙ ap (λ t. made ++ t) (take_rest x c.loop-found.at)
+          ∙ replaced-end c.loop-found.at x (map (λ r. r.now) c.args.replacements.now) made c.in_default.ensures.steps.0 c.loop-found.invariant.order,
+    )

@@ -6,7 +6,7 @@ use Rattle.std.proofs.lemmas.Result.{err_from_is_err_and}
 use Rattle.ac_automaton.specs.InMemory.Iter.{left_of}
 use Rattle.ac_automaton.specs.InMemory.Replace.{cuts_none, matches_in, text_left_of, text_matches_in}
 use Rattle.ac_automaton.proofs.lemmas.ReplaceLemmas.{boundary-end, matches-lie, lies-filter, lies-first, same-input, unanchored}
-use Rattle.ac_automaton.proofs.in_memory.replace.ReplacerLemmas.{callable-after, takes-one, told, told-refused, comes-first, comes-further, comes-to_false, comes-to_false_refused, comes-to_call_refused}
+use Rattle.ac_automaton.proofs.in_memory.replace.ReplacerLemmas.{callable-after, takes-one, told, told-refused, comes-first, comes-further, comes-to_false, comes-to_false_refused, comes-to_call_refused, comes-to_end}
 use Rattle.ac_automaton.proofs.in_memory.replace.replace_all_with.Goals as goal
 
 pub loop-found-init : goal.loop-found-init
@@ -64,8 +64,7 @@ pub returns-then-not-goes_on : goal.returns-then-not-goes_on
 returns-then-not-goes_on g c =
     let before = c.loop-found.invariant in
     let seen : text_left_of c.args.haystack.now c.loop-found.matches
-    ≡ c.in-Some.found ∷ text_left_of c.args.haystack.now c.next_whole.new.matches = c.in-Some.ensures.gives in
-    (
+    ≡ c.in-Some.found ∷ text_left_of c.args.haystack.now c.next_whole.new.matches = c.in-Some.ensures.gives in (
       unanchored (g.A.Automaton.supports c.args.automaton.now) c.in_ok-matches.ensures.answer.0 c.new.ensures,
       comes-to_false _ _ _ _ _ _ _ _ _ before.comes _ _ seen _ _
           (told c.call.ensures (c.in_ok-goes_on.was ∙ ap Ok c.if-not-goes_on.true)
@@ -89,3 +88,10 @@ returns-in_err-push_str-2 g c =
           (c.in_ok-push_str.ensures.bytes ∙ rw (c.range.ensures.value, c.start.ensures.value)))
           c.in_err-push_str-2.ensures.bytes,
     )
+
+pub returns : goal.returns
+returns g c = (
+  unanchored (g.A.Automaton.supports c.args.automaton.now) c.in_ok-matches.ensures.answer.0 c.new.ensures,
+  comes-to_end _ _ _ _ _ _ _ _ _ c.loop-found.invariant.comes c.in_default.ensures.gives.0
+      c.in_ok-push_str-3.ensures.bytes c.range_from-2.ensures.value,
+)

@@ -5,7 +5,7 @@ use Rattle.std.proofs.lemmas.Result.{err_from_is_err_and}
 use Rattle.ac_automaton.specs.InMemory.Iter.{left_of}
 use Rattle.ac_automaton.specs.InMemory.Replace.{matches_in}
 use Rattle.ac_automaton.proofs.lemmas.ReplaceLemmas.{matches-lie, lies-first, same-input, unanchored}
-use Rattle.ac_automaton.proofs.in_memory.replace.ReplacerLemmas.{callable-next, replied, refused, comes-first, comes-further, comes-to_false, comes-to_false_refused, comes-to_call_refused}
+use Rattle.ac_automaton.proofs.in_memory.replace.ReplacerLemmas.{callable-next, replied, refused, comes-first, comes-further, comes-to_false, comes-to_false_refused, comes-to_call_refused, comes-to_end}
 use Rattle.ac_automaton.proofs.in_memory.replace.replace_all_with_bytes.Goals as goal
 
 pub loop-found-init : goal.loop-found-init
@@ -58,8 +58,7 @@ returns-in_err-goes_on g c =
 pub returns-then-not-goes_on : goal.returns-then-not-goes_on
 returns-then-not-goes_on g c =
     let before = c.loop-found.invariant in
-    let seen : left_of c.loop-found.matches ≡ c.in-Some.found ∷ left_of c.next.new.self = c.in-Some.ensures.steps in
-    (
+    let seen : left_of c.loop-found.matches ≡ c.in-Some.found ∷ left_of c.next.new.self = c.in-Some.ensures.steps in (
       unanchored (g.A.Automaton.supports c.args.automaton.now) c.in_ok-matches.ensures.answer.0 c.new.ensures,
       comes-to_false _ _ _ _ _ _ _ _ _ before.comes _ _ seen _ _
           (replied c.replace_with.ensures (c.in_ok-goes_on.was ∙ ap Ok c.if-not-goes_on.true) refl
@@ -83,3 +82,10 @@ returns-in_err-extend_from_slice-2 g c =
           (c.in_ok-extend_from_slice.ensures.items ∙ rw c.start.ensures.value))
           c.in_err-extend_from_slice-2.ensures.items,
     )
+
+pub returns : goal.returns
+returns g c = (
+  unanchored (g.A.Automaton.supports c.args.automaton.now) c.in_ok-matches.ensures.answer.0 c.new.ensures,
+  comes-to_end _ _ _ _ _ _ _ _ _ c.loop-found.invariant.comes c.in_default.ensures.steps.0
+      c.in_ok-extend_from_slice-3.ensures.items (take_rest c.args.haystack.now c.loop-found.at),
+)

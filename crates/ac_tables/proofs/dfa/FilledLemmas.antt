@@ -253,11 +253,12 @@ pub rows-starts : (p : RowPlan) (old new : List ℕ) → IsFit p
 rows-starts p old new fit h f =
     let start = (special_in p.nfa).start_unanchored_id in
     let past = fit.source.starts.0 in
-    rows-more p start 2 start 2 (start + 2) start (start + 1) old new refl fit
-    (λ done. ⊎_elim (λ (l : start < 2). omega (arith, l, past))
-    (λ (r : (start ≤ start) × (start < start)). omega (arith, r.1)) done,
-    λ done. ⊎_elim (λ (l : start + 1 < 2). omega (arith, l, past))
-    (λ (r : (start ≤ start + 1) × (start + 1 < start)). omega (arith, r.1)) done)
+    rows-more p start 2 start 2 (start + 2) start (start + 1) old new refl fit (
+      λ done. ⊎_elim (λ (l : start < 2). omega (arith, l, past))
+          (λ (r : (start ≤ start) × (start < start)). omega (arith, r.1)) done,
+      λ done. ⊎_elim (λ (l : start + 1 < 2). omega (arith, l, past))
+          (λ (r : (start ≤ start + 1) × (start + 1 < start)). omega (arith, r.1)) done,
+    )
     (inr (omega arith, omega arith), inr (omega arith, omega arith))
     (λ sid done. ⊎_elim (λ (l : sid < 2). inl l) (λ (r : (start ≤ sid) × (sid < start)). inr (r.0, omega (arith, r.1)))
     done)

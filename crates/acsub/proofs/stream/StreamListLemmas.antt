@@ -130,7 +130,7 @@ module _ {K W : Type 0} (contents : W → Option (List ℕ)) (output : K → Lis
       decided in
       let begun = pumped-begun contents output (λ k. listing_lines) accepts (λ k. lines-piecewise) q b z empty
       (lines_of q b.dictionary) (λ x text. IsDecidedList (Decides q b.dictionary x) text) whole front last result
-            pumps.0 in
+      pumps.0 in
       record {
         lists = pumped-writes contents output (λ k. listing_lines) accepts (λ k. lines-piecewise) q b z empty
             (lines_of q b.dictionary) (λ x text. IsDecidedList (Decides q b.dictionary x) text) whole front last result

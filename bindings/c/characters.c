@@ -81,14 +81,15 @@ static int is_plain(const uint8_t *codes, size_t count) {
     return 1;
 }
 
-dado_status dado_narrow(const void *text, uint32_t width, size_t len, const uint8_t *codes, size_t count, uint8_t other, uint8_t *out) {
+dado_status dado_narrow(const void *text, uint32_t width, size_t len, const uint8_t *codes, size_t count, uint8_t other, void *out) {
+    uint8_t *to = (uint8_t *)out;
     int plain;
     if ((len != 0 && (text == NULL || out == NULL)) || (codes == NULL && count != 0)) return DADO_BAD_ARGUMENT;
     plain = is_plain(codes, count);
     switch (width) {
-    case 1: narrow_1((const uint8_t *)text, len, codes, count, other, plain, out); return DADO_OK;
-    case 2: narrow_2((const uint16_t *)text, len, codes, count, other, plain, out); return DADO_OK;
-    case 4: narrow_4((const uint32_t *)text, len, codes, count, other, plain, out); return DADO_OK;
+    case 1: narrow_1((const uint8_t *)text, len, codes, count, other, plain, to); return DADO_OK;
+    case 2: narrow_2((const uint16_t *)text, len, codes, count, other, plain, to); return DADO_OK;
+    case 4: narrow_4((const uint32_t *)text, len, codes, count, other, plain, to); return DADO_OK;
     default: return DADO_BAD_ARGUMENT;
     }
 }
@@ -108,7 +109,8 @@ static size_t characters(const uint8_t *at, size_t len) {
     return begin;
 }
 
-dado_status dado_in_characters(const uint8_t *text, size_t len, dado_counted *counted, dado_match *matches, size_t *count) {
+dado_status dado_in_characters(const void *text, size_t len, dado_counted *counted, dado_match *matches, size_t *count) {
+    const uint8_t *bytes = (const uint8_t *)text;
     size_t given, kept = 0, i;
     if (counted == NULL || count == NULL || (matches == NULL && *count != 0) || (text == NULL && len != 0)) return DADO_BAD_ARGUMENT;
     given = *count;
@@ -116,10 +118,10 @@ dado_status dado_in_characters(const uint8_t *text, size_t len, dado_counted *co
     for (i = 0; i < given; i++) {
         dado_match it = matches[i];
         if (it.end > len || it.start > it.end || it.end < counted->bytes) return DADO_BAD_SPAN;
-        if (it.end < len && begins_none(text[it.end])) continue;
-        counted->characters += characters(text + counted->bytes, it.end - counted->bytes);
+        if (it.end < len && begins_none(bytes[it.end])) continue;
+        counted->characters += characters(bytes + counted->bytes, it.end - counted->bytes);
         counted->bytes = it.end;
-        it.start = counted->characters - characters(text + it.start, it.end - it.start);
+        it.start = counted->characters - characters(bytes + it.start, it.end - it.start);
         it.end = counted->characters;
         matches[kept++] = it;
         *count = kept;

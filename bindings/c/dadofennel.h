@@ -5,7 +5,7 @@
  * on how many patterns there are. Patterns and haystacks are bytes of any value. Patterns are numbered from 0 in the order in
  * which they are given; places are counted in bytes from 0, and the end of a match is the place after its last byte.
  *
- *     dado_bytes patterns[] = {{(const uint8_t *)"fox", 3}, {(const uint8_t *)"brown", 5}};
+ *     dado_bytes patterns[] = {DADO_LITERAL("fox"), DADO_LITERAL("brown")};
  *     dado_automaton *ac = NULL;
  *     if (dado_build(patterns, 2, NULL, &ac, NULL) == DADO_OK) {
  *         dado_cursor cursor = dado_cursor_over(0, len);
@@ -23,7 +23,8 @@
  *   array or a haystack of length 0 may be NULL. An automaton that is NULL gives DADO_NO_AUTOMATON.
  * - Threads. A search reads an automaton and writes nothing of it, so any number of threads may search with one at the same time.
  *   No thread may free it, or build over it, before all searches with it have returned. No call waits for another, and there is
- *   no state but what the caller holds. With the same stream, replacer or masker, one call at a time; threads may pass it on.
+ *   no state but what the caller holds, and the choice of dado_cpu. With the same stream, replacer or masker, one call at a time;
+ *   threads may pass it on.
  * - Memory. Where a call says that it takes memory, it is of `malloc`, and DADO_NO_MEMORY says that there was none. Nothing is
  *   lost then: the automaton, text, stream, replacer or masker that the call was to replace is still there. All other calls take none. A
  *   haystack is never copied; a stream copies each piece once.
@@ -31,8 +32,8 @@
  *   of which calls. Neither the time of a call is proved, nor how much memory it takes.
  * - Bytes that a call is given must stay the same until it returns, and what it writes to must not overlap what it reads.
  *
- * What is proved of this library, and what a caller in C must not do, is in docs/TRUST.md. The functions `dado_raw_` are those that
- * are proved; each function here tests for NULL what they can't, and calls one of them.
+ * What is proved of this library, and what a caller in C must not do, is in docs/TRUST.md. Each function here tests its pointers for
+ * NULL, and calls a function that is proved.
  */
 #ifndef DADOFENNEL_H
 #define DADOFENNEL_H
@@ -40,13 +41,16 @@
 #include <stddef.h>
 #include <stdint.h>
 
+/* The version of this header. That of the library that runs is dado_version(). */
 #define DADO_VERSION "1.0.0"
+#define DADO_VERSION_MAJOR 1
+#define DADO_VERSION_MINOR 0
+#define DADO_VERSION_PATCH 0
 
-/* The functions below are inline, and symbols of the library too. GNU C before C99 says that in other words. */
-#if defined(__GNUC_GNU_INLINE__) && !defined(__cplusplus)
-#define DADO_INLINE extern __inline__
+#ifdef __GNUC__
+#define DADO_INLINE static __inline__
 #else
-#define DADO_INLINE inline
+#define DADO_INLINE static inline
 #endif
 
 #ifdef __cplusplus
@@ -113,6 +117,25 @@ typedef struct dado_bytes {
     size_t len;
 } dado_bytes;
 
+/* The bytes of a string literal without its 0, to begin a variable with. */
+#ifdef __cplusplus
+#define DADO_LITERAL(text) {reinterpret_cast<const uint8_t *>("" text), sizeof(text) - 1}
+#else
+#define DADO_LITERAL(text) {(const uint8_t *)("" text), sizeof(text) - 1}
+#endif
+
+/* The first `len` bytes at `at`, whatever its type. */
+DADO_INLINE dado_bytes dado_bytes_of(const void *at, size_t len) {
+    dado_bytes bytes;
+#ifdef __cplusplus
+    bytes.at = static_cast<const uint8_t *>(at);
+#else
+    bytes.at = (const uint8_t *)at;
+#endif
+    bytes.len = len;
+    return bytes;
+}
+
 /* Two bytes that match each other. */
 typedef struct dado_pair {
     uint8_t a, b;
@@ -128,7 +151,8 @@ typedef struct dado_match {
 typedef struct dado_automaton dado_automaton;
 
 /*
- * How an automaton is built. Begin with dado_settings_default() and change what you need.
+ * How an automaton is built. Begin with dado_settings_default() and change what you need, so that fields which a later version adds
+ * are there, too. They are added at the end, and the library is told how many bytes the caller's header has of them.
  *
  * kind          which of several overlapping occurrences is the match: DADO_STANDARD at first. Overlapping matches need it.
  * start_kind    which searches it is for: DADO_UNANCHORED at first
@@ -217,129 +241,26 @@ typedef struct dado_replacer dado_replacer;
 /* A masking of a text that comes in pieces. A caller holds a pointer to it, which is NULL before it is made and after it is freed. */
 typedef struct dado_masker dado_masker;
 
-/* ---- The proved exports, which the functions below call. Their pointers are never NULL, except a haystack or an array of length 0.
- * `at` is an automaton that is not freed during the call; a handle is a variable that holds an automaton or NULL. ---- */
-
-typedef struct dado_raw_settings {
-    uint32_t kind, start_kind, engine;
-    uint32_t fold, prefilter, byte_classes;
-    size_t dense_depth, row_memory;
-} dado_raw_settings;
-
-typedef struct dado_raw_found {
-    dado_match found;             /* where the status is DADO_OK */
-    dado_status status;
-} dado_raw_found;
-
-typedef struct dado_raw_step {
-    dado_cursor cursor;           /* where the walk stands after the call */
-    dado_match found;             /* where the status is DADO_OK */
-    dado_status status;
-} dado_raw_step;
-
-typedef struct dado_raw_some {
-    dado_cursor cursor;           /* where the walk stands after the call */
-    size_t count;                 /* how many matches were written */
-    dado_status status;
-} dado_raw_some;
-
-typedef struct dado_raw_listed {
-    dado_place place;             /* where the listing stands after the call */
-    size_t count;                 /* how many occurrences were written */
-    dado_status status;
-} dado_raw_listed;
-
-typedef struct dado_raw_given {
-    size_t from;                  /* from where the walk goes on */
-    size_t count;                 /* how many words were written */
-    dado_status status;
-} dado_raw_given;
-
-typedef struct dado_raw_length {
-    size_t len;
-    dado_status status;
-} dado_raw_length;
-
-typedef struct dado_raw_about {
-    size_t patterns, shortest, longest, memory;
-    uint32_t kind, start_kind, engine;
-} dado_raw_about;
-
-typedef struct dado_raw_count {
-    size_t count;
-    dado_status status;
-} dado_raw_count;
-
-typedef struct dado_raw_view {
-    size_t len, from, cut;
-    dado_status status;
-} dado_raw_view;
-
-dado_raw_settings dado_raw_settings_default(void);
-dado_status dado_raw_build(const dado_bytes *patterns, size_t count, const dado_raw_settings *settings, const dado_pair *pairs,
-                           size_t pair_count, dado_automaton **handle, dado_fault *fault);
-dado_status dado_raw_share(const dado_automaton *at, dado_automaton **other);
-void dado_raw_free(dado_automaton **handle);
-dado_raw_found dado_raw_find(const dado_automaton *at, const uint8_t *haystack, size_t len, size_t start, size_t end,
-                             uint32_t anchored, uint32_t earliest);
-dado_raw_step dado_raw_next(const dado_automaton *at, const uint8_t *haystack, size_t len, size_t start, size_t end, size_t last,
-                            uint32_t anchored, uint32_t earliest);
-dado_raw_some dado_raw_walk(const dado_automaton *at, const uint8_t *haystack, size_t len, size_t start, size_t end, size_t last,
-                            uint32_t anchored, uint32_t earliest, dado_match *out, size_t room);
-dado_raw_listed dado_raw_list(const dado_automaton *at, const uint8_t *haystack, size_t len, size_t start, size_t end,
-                              size_t last_start, size_t last_end, uint32_t last_pattern, uint32_t begun, dado_match *out, size_t room);
-dado_raw_listed dado_raw_list_words(const dado_automaton *at, const uint8_t *haystack, size_t len, size_t start, size_t end,
-                                    size_t last_start, size_t last_end, uint32_t last_pattern, uint32_t begun, dado_match *out,
-                                    size_t room);
-dado_raw_given dado_raw_words(const dado_automaton *at, uint32_t kind, const uint8_t *haystack, size_t len, size_t from, dado_match *out,
-                              size_t room);
-dado_raw_length dado_raw_replace_into(const dado_automaton *at, const uint8_t *haystack, size_t len, const dado_bytes *replacements,
-                                      size_t count, uint8_t *out, size_t room);
-dado_status dado_raw_replace(const dado_automaton *at, const uint8_t *haystack, size_t len, const dado_bytes *replacements,
-                             size_t count, void **owner);
-void dado_raw_text_view(void **owner, const uint8_t **at, size_t *len);
-void dado_raw_text_free(void **owner);
-dado_status dado_raw_stream_new(const dado_automaton *at, dado_stream **stream);
-dado_status dado_raw_word_stream_new(const dado_automaton *at, uint32_t kind, dado_stream **stream);
-dado_raw_count dado_raw_stream_push(dado_stream **stream, const uint8_t *piece, size_t len);
-dado_raw_count dado_raw_stream_some(dado_stream **stream, dado_match *out, size_t room);
-dado_raw_view dado_raw_stream_view(dado_stream **stream, const uint8_t **at);
-dado_status dado_raw_stream_finish(dado_stream **stream);
-void dado_raw_stream_free(dado_stream **stream);
-dado_status dado_raw_replacer_new(const dado_automaton *at, dado_replacer **replacer);
-dado_raw_count dado_raw_replacer_push(dado_replacer **replacer, const uint8_t *piece, size_t len);
-dado_raw_length dado_raw_replacer_next(dado_replacer **replacer, const dado_bytes *replacements, size_t count, const uint8_t **at);
-dado_status dado_raw_replacer_finish(dado_replacer **replacer);
-void dado_raw_replacer_free(dado_replacer **replacer);
-dado_status dado_raw_mask(const dado_automaton *at, uint8_t *text, size_t len, uint8_t byte);
-dado_status dado_raw_mask_words(const dado_automaton *at, uint8_t *text, size_t len, uint8_t byte);
-dado_status dado_raw_masker_new(const dado_automaton *at, uint8_t byte, dado_masker **masker);
-dado_raw_count dado_raw_masker_push(dado_masker **masker, const uint8_t *piece, size_t len);
-dado_raw_length dado_raw_masker_ready(dado_masker **masker, const uint8_t **at);
-dado_status dado_raw_masker_finish(dado_masker **masker);
-void dado_raw_masker_free(dado_masker **masker);
-dado_raw_length dado_raw_pattern_len(const dado_automaton *at, uint32_t pattern);
-dado_raw_about dado_raw_tell(const dado_automaton *at);
-
 /* ---- Building and freeing ---- */
 
-/* The settings at first: standard matches, unanchored searches, the engine chosen by the library, no pairs. */
-DADO_INLINE dado_settings dado_settings_default(void) {
-    dado_raw_settings first = dado_raw_settings_default();
-    dado_settings settings = {first.kind, first.start_kind, first.engine, first.fold, first.prefilter, first.byte_classes,
-                              first.dense_depth, first.row_memory, NULL, 0};
-    return settings;
-}
+/*
+ * The settings at first, to the `size` bytes at `settings`: standard matches, unanchored searches, the engine chosen by the library, no
+ * pairs. Bytes after the fields that this library has are 0.
+ *
+ * DADO_OK. DADO_BAD_ARGUMENT: `settings` is NULL, or `size` is less than that of version 1.0: nothing is written. It takes no memory.
+ */
+dado_status dado_settings_fill(dado_settings *settings, size_t size);
 
 /*
  * Builds an automaton of `count` patterns, and puts it at `*handle`. An automaton that was there is freed, once the new one is
- * built. `*handle` must be NULL or an automaton; a variable that was never set is neither.
+ * built. `size` is how many bytes the settings have. `*handle` must be NULL or an automaton; a variable that was never set is neither.
  *
  * An empty pattern occurs at every place. The same pattern may be given several times. No patterns at all make an automaton that
  * finds nothing. With `settings` NULL, those of dado_settings_default() are taken. The patterns are not needed after the call.
  *
  * On any status but DADO_OK, `*handle` is unchanged. What is known of the fault is written to `*fault` on every status, if that isn't
- * NULL. The statuses, in the order in which they are tested: DADO_BAD_ARGUMENT: `handle`, or an array that isn't empty, is NULL;
+ * NULL. The statuses, in the order in which they are tested: DADO_BAD_ARGUMENT: `handle`, or an array that isn't empty, is NULL, or
+ * `size` is less than that of version 1.0, or a byte after the settings that this library has isn't 0, so that a later one is asked for;
  * DADO_BAD_KIND, DADO_BAD_START_KIND, DADO_BAD_ENGINE, DADO_BAD_PAIRS. Up to here no memory is taken. Then, of the first pattern that
  * passes a limit of the library, DADO_TOO_MANY_PATTERNS, DADO_PATTERN_TOO_LONG or DADO_TOO_MANY_STATES; at last DADO_TOO_MANY_STATES,
  * where the patterns pass the limit of the engine that was named. DADO_NO_MEMORY may come in the place of these.
@@ -347,21 +268,28 @@ DADO_INLINE dado_settings dado_settings_default(void) {
  * Takes memory. Time and memory are in proportion to the bytes of the patterns; for a DFA times the classes of bytes, at most 256.
  * With the same `*handle`, one call at a time.
  */
-DADO_INLINE dado_status dado_build(const dado_bytes *patterns, size_t count, const dado_settings *settings, dado_automaton **handle,
-                              dado_fault *fault) {
-    dado_raw_settings chosen = dado_raw_settings_default();
-    dado_fault none = {0, 0};
-    if (fault != NULL) *fault = none;
-    if (handle == NULL || (patterns == NULL && count != 0)) return DADO_BAD_ARGUMENT;
-    if (settings != NULL) {
-        dado_raw_settings given = {settings->kind, settings->start_kind, settings->engine, settings->fold, settings->prefilter,
-                                   settings->byte_classes, settings->dense_depth, settings->row_memory};
-        if (settings->pairs == NULL && settings->pair_count != 0) return DADO_BAD_ARGUMENT;
-        chosen = given;
-    }
-    return dado_raw_build(patterns, count, &chosen, settings == NULL ? NULL : settings->pairs,
-                          settings == NULL ? 0 : settings->pair_count, handle, fault == NULL ? &none : fault);
+dado_status dado_build_sized(const dado_bytes *patterns, size_t count, const dado_settings *settings, size_t size, dado_automaton **handle,
+                             dado_fault *fault);
+
+/*
+ * The two calls for settings of this header, whose size they pass on. As symbols of the library they take those of version 1.0, and always
+ * will: who declares them without this header, in another language, and wants a later field, calls the two above.
+ */
+#ifdef DADO_LIBRARY
+dado_settings dado_settings_default(void);
+dado_status dado_build(const dado_bytes *patterns, size_t count, const dado_settings *settings, dado_automaton **handle, dado_fault *fault);
+#else
+DADO_INLINE dado_settings dado_settings_default(void) {
+    dado_settings settings;
+    (void)dado_settings_fill(&settings, sizeof settings);
+    return settings;
 }
+
+DADO_INLINE dado_status dado_build(const dado_bytes *patterns, size_t count, const dado_settings *settings, dado_automaton **handle,
+                                   dado_fault *fault) {
+    return dado_build_sized(patterns, count, settings, sizeof *settings, handle, fault);
+}
+#endif
 
 /*
  * Puts another handle of the same automaton at `*other`: a second owner, which is freed on its own. What was there is freed. The
@@ -371,19 +299,13 @@ DADO_INLINE dado_status dado_build(const dado_bytes *patterns, size_t count, con
  * DADO_NO_AUTOMATON if `ac` is NULL, DADO_NO_MEMORY if there is none: `*other` is unchanged then. Takes a few bytes of memory.
  * `*other` must be a variable of its own, not the one that holds `ac`.
  */
-DADO_INLINE dado_status dado_share(const dado_automaton *ac, dado_automaton **other) {
-    if (other == NULL) return DADO_BAD_ARGUMENT;
-    if (ac == NULL) return DADO_NO_AUTOMATON;
-    return dado_raw_share(ac, other);
-}
+dado_status dado_share(const dado_automaton *ac, dado_automaton **other);
 
 /*
  * Frees the automaton at `*handle`, if there is one, and sets `*handle` to NULL. So a second call does nothing. With the same
  * `*handle`, one call at a time, and not while a search with it runs.
  */
-DADO_INLINE void dado_free(dado_automaton **handle) {
-    if (handle != NULL) dado_raw_free(handle);
-}
+void dado_free(dado_automaton **handle);
 
 /* ---- One match ---- */
 
@@ -397,38 +319,21 @@ DADO_INLINE void dado_free(dado_automaton **handle) {
  * It looks at no more than two states for each byte of the span, or at one with a DFA. Under the standard kind it reads no further
  * than the match ends. It takes no memory. Any number of threads at the same time.
  */
-DADO_INLINE dado_status dado_find_in(const dado_automaton *ac, const uint8_t *haystack, size_t len, dado_span span, dado_match *found) {
-    dado_raw_found answer;
-    if (ac == NULL) return DADO_NO_AUTOMATON;
-    if (found == NULL || (haystack == NULL && len != 0)) return DADO_BAD_ARGUMENT;
-    answer = dado_raw_find(ac, haystack, len, span.start, span.end, span.anchored, span.earliest);
-    if (answer.status == DADO_OK) *found = answer.found;
-    return answer.status;
-}
+dado_status dado_find_in(const dado_automaton *ac, const void *haystack, size_t len, dado_span span, dado_match *found);
 
 /* The match of the whole haystack, by a search that isn't anchored: dado_find_in. */
-DADO_INLINE dado_status dado_find(const dado_automaton *ac, const uint8_t *haystack, size_t len, dado_match *found) {
-    dado_span whole = {0, len, 0, 0};
-    return dado_find_in(ac, haystack, len, whole, found);
-}
+dado_status dado_find(const dado_automaton *ac, const void *haystack, size_t len, dado_match *found);
 
 /*
  * Whether some pattern occurs in the haystack: DADO_OK if so, DADO_NONE if not, or a status of dado_find_in. Under a leftmost kind it
  * may read less than dado_find, since the first end of a match that it meets will do.
  */
-DADO_INLINE dado_status dado_is_match(const dado_automaton *ac, const uint8_t *haystack, size_t len) {
-    dado_span whole = {0, len, 0, 1};
-    dado_match found;
-    return dado_find_in(ac, haystack, len, whole, &found);
-}
+dado_status dado_is_match(const dado_automaton *ac, const void *haystack, size_t len);
 
 /* ---- One match after another ---- */
 
 /* The walk over the bytes from `start` to `end` of a haystack, at its beginning: neither anchored nor earliest. */
-DADO_INLINE dado_cursor dado_cursor_over(size_t start, size_t end) {
-    dado_cursor cursor = {start, end, SIZE_MAX, 0, 0};
-    return cursor;
-}
+dado_cursor dado_cursor_over(size_t start, size_t end);
 
 /*
  * The next match of a walk, to `*found`. A walk takes the match of its span, goes on where that ends, and so on, so no two of its
@@ -445,15 +350,7 @@ DADO_INLINE dado_cursor dado_cursor_over(size_t start, size_t end) {
  * leftmost kind a search may read past a match, by as much as the longest pattern, and these bytes are read again. It takes no
  * memory. Any number of threads at the same time, each with a cursor of its own.
  */
-DADO_INLINE dado_status dado_next(const dado_automaton *ac, const uint8_t *haystack, size_t len, dado_cursor *cursor, dado_match *found) {
-    dado_raw_step step;
-    if (ac == NULL) return DADO_NO_AUTOMATON;
-    if (cursor == NULL || found == NULL || (haystack == NULL && len != 0)) return DADO_BAD_ARGUMENT;
-    step = dado_raw_next(ac, haystack, len, cursor->start, cursor->end, cursor->last, cursor->anchored, cursor->earliest);
-    if (step.status == DADO_OK) *found = step.found;
-    if (step.status == DADO_OK || step.status == DADO_NONE) *cursor = step.cursor;
-    return step.status;
-}
+dado_status dado_next(const dado_automaton *ac, const void *haystack, size_t len, dado_cursor *cursor, dado_match *found);
 
 /*
  * The next matches of a walk, as many as `out` has room for: the first `*count` of `room` are written, and `*cursor` is set to where
@@ -469,26 +366,13 @@ DADO_INLINE dado_status dado_next(const dado_automaton *ac, const uint8_t *hayst
  * it reads ahead, it also looks at one for each of at most 8192 bytes after these, and the next call looks at those again. It takes no
  * memory. Threads as with dado_next.
  */
-DADO_INLINE dado_status dado_some(const dado_automaton *ac, const uint8_t *haystack, size_t len, dado_cursor *cursor, dado_match *out,
-                             size_t room, size_t *count) {
-    dado_raw_some some;
-    if (count == NULL) return DADO_BAD_ARGUMENT;
-    *count = 0;
-    if (ac == NULL) return DADO_NO_AUTOMATON;
-    if (cursor == NULL || (out == NULL && room != 0) || (haystack == NULL && len != 0)) return DADO_BAD_ARGUMENT;
-    some = dado_raw_walk(ac, haystack, len, cursor->start, cursor->end, cursor->last, cursor->anchored, cursor->earliest, out, room);
-    if (some.status == DADO_OK || some.status == DADO_NONE) *cursor = some.cursor;
-    *count = some.count;
-    return some.status;
-}
+dado_status dado_some(const dado_automaton *ac, const void *haystack, size_t len, dado_cursor *cursor, dado_match *out, size_t room,
+                      size_t *count);
 
 /* ---- Every occurrence ---- */
 
 /* The listing of all occurrences in the bytes from `start` to `end` of a haystack, at its beginning. */
-DADO_INLINE dado_place dado_place_over(size_t start, size_t end) {
-    dado_place place = {start, end, {0, 0, 0}, 0};
-    return place;
-}
+dado_place dado_place_over(size_t start, size_t end);
 
 /*
  * The next occurrences of a listing, overlapping ones too, in the order of end, start and number, as many as `out` has room for: the
@@ -505,19 +389,8 @@ DADO_INLINE dado_place dado_place_over(size_t start, size_t end) {
  * for each of at most 8192 bytes after the last occurrence that it gives, and the next call looks at those again. So take a few hundred
  * occurrences at a time. It takes no memory. Any number of threads at the same time.
  */
-DADO_INLINE dado_status dado_overlapping_some(const dado_automaton *ac, const uint8_t *haystack, size_t len, dado_place *place,
-                                         dado_match *out, size_t room, size_t *count) {
-    dado_raw_listed listed;
-    if (count == NULL) return DADO_BAD_ARGUMENT;
-    *count = 0;
-    if (ac == NULL) return DADO_NO_AUTOMATON;
-    if (place == NULL || (out == NULL && room != 0) || (haystack == NULL && len != 0)) return DADO_BAD_ARGUMENT;
-    listed = dado_raw_list(ac, haystack, len, place->start, place->end, place->last.start, place->last.end, place->last.pattern,
-                           place->begun, out, room);
-    if (listed.status == DADO_OK || listed.status == DADO_NONE) *place = listed.place;
-    *count = listed.count;
-    return listed.status;
-}
+dado_status dado_overlapping_some(const dado_automaton *ac, const void *haystack, size_t len, dado_place *place, dado_match *out,
+                                  size_t room, size_t *count);
 
 /* ---- Whole words ---- */
 
@@ -541,18 +414,8 @@ DADO_INLINE dado_status dado_overlapping_some(const dado_automaton *ac, const ui
  * are written, or at one with a DFA. Under a leftmost kind it looks as often at up to as many bytes after each word as the longest pattern
  * has, and one. It takes no memory. Any number of threads at the same time.
  */
-DADO_INLINE dado_status dado_words_some(const dado_automaton *ac, uint32_t kind, const uint8_t *haystack, size_t len, size_t *from,
-                                   dado_match *out, size_t room, size_t *count) {
-    dado_raw_given given;
-    if (count == NULL) return DADO_BAD_ARGUMENT;
-    *count = 0;
-    if (ac == NULL) return DADO_NO_AUTOMATON;
-    if (from == NULL || (out == NULL && room != 0) || (haystack == NULL && len != 0)) return DADO_BAD_ARGUMENT;
-    given = dado_raw_words(ac, kind, haystack, len, *from, out, room);
-    *from = given.from;
-    *count = given.count;
-    return given.status;
-}
+dado_status dado_words_some(const dado_automaton *ac, uint32_t kind, const void *haystack, size_t len, size_t *from, dado_match *out,
+                            size_t room, size_t *count);
 
 /*
  * The next whole words of a listing, overlapping ones too, in the order of end, start and number, as many as `out` has room for: the
@@ -567,19 +430,8 @@ DADO_INLINE dado_status dado_words_some(const dado_automaton *ac, uint32_t kind,
  * It costs what dado_overlapping_some costs for the occurrences up to the last word that it gives, or for all if fewer than `room` are
  * written. It takes no memory. Any number of threads at the same time.
  */
-DADO_INLINE dado_status dado_overlapping_words_some(const dado_automaton *ac, const uint8_t *haystack, size_t len, dado_place *place,
-                                               dado_match *out, size_t room, size_t *count) {
-    dado_raw_listed listed;
-    if (count == NULL) return DADO_BAD_ARGUMENT;
-    *count = 0;
-    if (ac == NULL) return DADO_NO_AUTOMATON;
-    if (place == NULL || (out == NULL && room != 0) || (haystack == NULL && len != 0)) return DADO_BAD_ARGUMENT;
-    listed = dado_raw_list_words(ac, haystack, len, place->start, place->end, place->last.start, place->last.end, place->last.pattern,
-                                 place->begun, out, room);
-    if (listed.status == DADO_OK || listed.status == DADO_NONE) *place = listed.place;
-    *count = listed.count;
-    return listed.status;
-}
+dado_status dado_overlapping_words_some(const dado_automaton *ac, const void *haystack, size_t len, dado_place *place, dado_match *out,
+                                        size_t room, size_t *count);
 
 /* ---- Replacement ---- */
 
@@ -596,25 +448,11 @@ DADO_INLINE dado_status dado_overlapping_words_some(const dado_automaton *ac, co
  * searches looks at no more than two states for each byte, or at one with a DFA, whether it reads ahead or not. Takes no memory. To ask
  * for the length alone, pass NULL and 0. dado_replace searches once, and takes memory. Any number of threads at the same time.
  */
-DADO_INLINE dado_status dado_replace_into(const dado_automaton *ac, const uint8_t *haystack, size_t len, const dado_bytes *replacements,
-                                     size_t count, uint8_t *out, size_t room, size_t *needed) {
-    dado_raw_length made;
-    if (needed == NULL) return DADO_BAD_ARGUMENT;
-    *needed = 0;
-    if (ac == NULL) return DADO_NO_AUTOMATON;
-    if ((haystack == NULL && len != 0) || (replacements == NULL && count != 0) || (out == NULL && room != 0)) return DADO_BAD_ARGUMENT;
-    made = dado_raw_replace_into(ac, haystack, len, replacements, count, out, room);
-    *needed = made.len;
-    return made.status;
-}
+dado_status dado_replace_into(const dado_automaton *ac, const void *haystack, size_t len, const dado_bytes *replacements, size_t count,
+                              void *out, size_t room, size_t *needed);
 
 /* Frees the text, if there is one, and sets `*text` to DADO_NO_TEXT. So a second call does nothing. */
-DADO_INLINE void dado_text_free(dado_text *text) {
-    dado_text none = DADO_NO_TEXT;
-    if (text == NULL) return;
-    dado_raw_text_free(&text->owner);
-    *text = none;
-}
+void dado_text_free(dado_text *text);
 
 /*
  * The same text, in memory of the library, to `*text`: DADO_NO_TEXT, or a text of an earlier call, which is freed once the new one is
@@ -623,20 +461,8 @@ DADO_INLINE void dado_text_free(dado_text *text) {
  * DADO_TOO_MANY_BYTES, and DADO_BAD_ARGUMENT if `text` is NULL; on any but DADO_OK `*text` is unchanged. Takes memory. Any number of
  * threads at the same time, each with a text of its own.
  */
-DADO_INLINE dado_status dado_replace(const dado_automaton *ac, const uint8_t *haystack, size_t len, const dado_bytes *replacements,
-                                size_t count, dado_text *text) {
-    dado_text made = DADO_NO_TEXT;
-    dado_status status;
-    if (text == NULL) return DADO_BAD_ARGUMENT;
-    if (ac == NULL) return DADO_NO_AUTOMATON;
-    if ((haystack == NULL && len != 0) || (replacements == NULL && count != 0)) return DADO_BAD_ARGUMENT;
-    status = dado_raw_replace(ac, haystack, len, replacements, count, &made.owner);
-    if (status != DADO_OK) return status;
-    dado_raw_text_view(&made.owner, &made.at, &made.len);
-    dado_text_free(text);
-    *text = made;
-    return DADO_OK;
-}
+dado_status dado_replace(const dado_automaton *ac, const void *haystack, size_t len, const dado_bytes *replacements, size_t count,
+                         dado_text *text);
 
 /* ---- Text that comes in pieces ---- */
 
@@ -670,11 +496,7 @@ DADO_INLINE dado_status dado_replace(const dado_automaton *ac, const uint8_t *ha
  *
  * Takes 64 KiB of memory, or 8 times as much as the longest pattern has, and no more in the calls after that.
  */
-DADO_INLINE dado_status dado_stream_new(const dado_automaton *ac, dado_stream **stream) {
-    if (stream == NULL) return DADO_BAD_ARGUMENT;
-    if (ac == NULL) return DADO_NO_AUTOMATON;
-    return dado_raw_stream_new(ac, stream);
-}
+dado_status dado_stream_new(const dado_automaton *ac, dado_stream **stream);
 
 /*
  * Makes a stream of the whole words of a text under `kind`: they are those of the whole text by dado_words_some, wherever one piece ends
@@ -688,11 +510,7 @@ DADO_INLINE dado_status dado_stream_new(const dado_automaton *ac, dado_stream **
  *
  * Takes 64 KiB of memory, or 8 times one byte more than the longest pattern has, and no more in the calls after that.
  */
-DADO_INLINE dado_status dado_word_stream_new(const dado_automaton *ac, uint32_t kind, dado_stream **stream) {
-    if (stream == NULL) return DADO_BAD_ARGUMENT;
-    if (ac == NULL) return DADO_NO_AUTOMATON;
-    return dado_raw_word_stream_new(ac, kind, stream);
-}
+dado_status dado_word_stream_new(const dado_automaton *ac, uint32_t kind, dado_stream **stream);
 
 /*
  * Takes the first bytes of a piece, after all that was pushed before; how many, to `*taken`. The piece isn't needed after the call.
@@ -705,15 +523,7 @@ DADO_INLINE dado_status dado_word_stream_new(const dado_automaton *ac, uint32_t 
  *
  * It copies each byte once, and moves a seventh of all bytes at most. It takes no memory. What dado_stream_view said is no longer so.
  */
-DADO_INLINE dado_status dado_stream_push(dado_stream **stream, const uint8_t *piece, size_t len, size_t *taken) {
-    dado_raw_count pushed;
-    if (taken == NULL) return DADO_BAD_ARGUMENT;
-    *taken = 0;
-    if (stream == NULL || (piece == NULL && len != 0)) return DADO_BAD_ARGUMENT;
-    pushed = dado_raw_stream_push(stream, piece, len);
-    *taken = pushed.count;
-    return pushed.status;
-}
+dado_status dado_stream_push(dado_stream **stream, const void *piece, size_t len, size_t *taken);
 
 /*
  * The next matches that are decided, as many as `out` has room for: the first `*count` of `room` are written. Under the standard kind a
@@ -730,15 +540,7 @@ DADO_INLINE dado_status dado_stream_push(dado_stream **stream, const uint8_t *pi
  * once more than it would be without reading ahead; and after each match at most as many bytes as the longest pattern has, and one, are
  * read again. It takes no memory.
  */
-DADO_INLINE dado_status dado_stream_some(dado_stream **stream, dado_match *out, size_t room, size_t *count) {
-    dado_raw_count given;
-    if (count == NULL) return DADO_BAD_ARGUMENT;
-    *count = 0;
-    if (stream == NULL || (out == NULL && room != 0)) return DADO_BAD_ARGUMENT;
-    given = dado_raw_stream_some(stream, out, room);
-    *count = given.count;
-    return given.status;
-}
+dado_status dado_stream_some(dado_stream **stream, dado_match *out, size_t room, size_t *count);
 
 /*
  * What the stream holds, to `*held`. The bytes lie there until the next push, or until the stream is freed. They reach up to all that
@@ -748,14 +550,7 @@ DADO_INLINE dado_status dado_stream_some(dado_stream **stream, dado_match *out, 
  * DADO_OK. DADO_BAD_ARGUMENT: `stream` or `held` is NULL; DADO_NO_STREAM: `*stream` is NULL. `*held` is written at DADO_OK alone; `at` is
  * NULL if `len` is 0. It takes no memory and no time to speak of.
  */
-DADO_INLINE dado_status dado_stream_view(dado_stream **stream, dado_held *held) {
-    const uint8_t *at = NULL;
-    dado_raw_view view;
-    if (stream == NULL || held == NULL) return DADO_BAD_ARGUMENT;
-    view = dado_raw_stream_view(stream, &at);
-    if (view.status == DADO_OK) held->at = at, held->len = view.len, held->from = view.from, held->cut = view.cut;
-    return view.status;
-}
+dado_status dado_stream_view(dado_stream **stream, dado_held *held);
 
 /*
  * Tells the stream that nothing more comes, so that everything is decided: dado_stream_some gives all matches that are left, and each
@@ -763,14 +558,10 @@ DADO_INLINE dado_status dado_stream_view(dado_stream **stream, dado_held *held) 
  *
  * DADO_OK. DADO_BAD_ARGUMENT: `stream` is NULL; DADO_NO_STREAM: `*stream` is NULL. It takes no memory.
  */
-DADO_INLINE dado_status dado_stream_finish(dado_stream **stream) {
-    return stream == NULL ? (dado_status)DADO_BAD_ARGUMENT : dado_raw_stream_finish(stream);
-}
+dado_status dado_stream_finish(dado_stream **stream);
 
 /* Frees the stream at `*stream`, if there is one, and sets `*stream` to NULL. So a second call does nothing. */
-DADO_INLINE void dado_stream_free(dado_stream **stream) {
-    if (stream != NULL) dado_raw_stream_free(stream);
-}
+void dado_stream_free(dado_stream **stream);
 
 /* ---- Replacement of text that comes in pieces ---- */
 
@@ -805,11 +596,7 @@ DADO_INLINE void dado_stream_free(dado_stream **stream) {
  *
  * Takes 64 KiB of memory, or 8 times as much as the longest pattern has, and no more in the calls after that.
  */
-DADO_INLINE dado_status dado_replacer_new(const dado_automaton *ac, dado_replacer **replacer) {
-    if (replacer == NULL) return DADO_BAD_ARGUMENT;
-    if (ac == NULL) return DADO_NO_AUTOMATON;
-    return dado_raw_replacer_new(ac, replacer);
-}
+dado_status dado_replacer_new(const dado_automaton *ac, dado_replacer **replacer);
 
 /*
  * Takes the first bytes of a piece, after all that was pushed before; how many, to `*taken`. The piece isn't needed after the call.
@@ -823,15 +610,7 @@ DADO_INLINE dado_status dado_replacer_new(const dado_automaton *ac, dado_replace
  * It copies each byte once, and moves a seventh of all bytes at most. It takes no memory. A slice of the text that was given before
  * isn't there any more.
  */
-DADO_INLINE dado_status dado_replacer_push(dado_replacer **replacer, const uint8_t *piece, size_t len, size_t *taken) {
-    dado_raw_count pushed;
-    if (taken == NULL) return DADO_BAD_ARGUMENT;
-    *taken = 0;
-    if (replacer == NULL || (piece == NULL && len != 0)) return DADO_BAD_ARGUMENT;
-    pushed = dado_raw_replacer_push(replacer, piece, len);
-    *taken = pushed.count;
-    return pushed.status;
-}
+dado_status dado_replacer_push(dado_replacer **replacer, const void *piece, size_t len, size_t *taken);
 
 /*
  * The next slice of the replaced text, as far as it is decided, to `*slice`. `replacements` has one for each pattern; they may be other
@@ -849,14 +628,7 @@ DADO_INLINE dado_status dado_replacer_push(dado_replacer **replacer, const uint8
  * once more than it would be without reading ahead; and after each match at most as many bytes as the longest pattern has, and one, are
  * read again. It takes no memory.
  */
-DADO_INLINE dado_status dado_replacer_next(dado_replacer **replacer, const dado_bytes *replacements, size_t count, dado_bytes *slice) {
-    const uint8_t *at = (const uint8_t *)"";
-    dado_raw_length given;
-    if (replacer == NULL || slice == NULL || (replacements == NULL && count != 0)) return DADO_BAD_ARGUMENT;
-    given = dado_raw_replacer_next(replacer, replacements, count, &at);
-    if (given.status == DADO_OK) slice->at = at, slice->len = given.len;
-    return given.status;
-}
+dado_status dado_replacer_next(dado_replacer **replacer, const dado_bytes *replacements, size_t count, dado_bytes *slice);
 
 /*
  * Tells the replacer that nothing more comes, so that everything is decided: dado_replacer_next hands out the text to its end, and each
@@ -864,14 +636,10 @@ DADO_INLINE dado_status dado_replacer_next(dado_replacer **replacer, const dado_
  *
  * DADO_OK. DADO_BAD_ARGUMENT: `replacer` is NULL; DADO_NO_REPLACER: `*replacer` is NULL. It takes no memory.
  */
-DADO_INLINE dado_status dado_replacer_finish(dado_replacer **replacer) {
-    return replacer == NULL ? (dado_status)DADO_BAD_ARGUMENT : dado_raw_replacer_finish(replacer);
-}
+dado_status dado_replacer_finish(dado_replacer **replacer);
 
 /* Frees the replacer at `*replacer`, if there is one, and sets `*replacer` to NULL. So a second call does nothing. */
-DADO_INLINE void dado_replacer_free(dado_replacer **replacer) {
-    if (replacer != NULL) dado_raw_replacer_free(replacer);
-}
+void dado_replacer_free(dado_replacer **replacer);
 
 /* ---- Masking ---- */
 
@@ -885,11 +653,7 @@ DADO_INLINE void dado_replacer_free(dado_replacer **replacer) {
  *
  * It looks at one or two states for each byte, or at one with a DFA. It takes no memory.
  */
-DADO_INLINE dado_status dado_mask(const dado_automaton *ac, uint8_t *text, size_t len, uint8_t byte) {
-    if (ac == NULL) return DADO_NO_AUTOMATON;
-    if (text == NULL && len != 0) return DADO_BAD_ARGUMENT;
-    return dado_raw_mask(ac, text, len, byte);
-}
+dado_status dado_mask(const dado_automaton *ac, void *text, size_t len, uint8_t byte);
 
 /*
  * Masks the whole words of a text where it lies: each byte that lies in an occurrence with no word byte beside it becomes `byte`, words
@@ -902,11 +666,7 @@ DADO_INLINE dado_status dado_mask(const dado_automaton *ac, uint8_t *text, size_
  *
  * It looks at one or two states for each byte, or at one with a DFA. Takes memory until it returns: a copy of the text.
  */
-DADO_INLINE dado_status dado_mask_words(const dado_automaton *ac, uint8_t *text, size_t len, uint8_t byte) {
-    if (ac == NULL) return DADO_NO_AUTOMATON;
-    if (text == NULL && len != 0) return DADO_BAD_ARGUMENT;
-    return dado_raw_mask_words(ac, text, len, byte);
-}
+dado_status dado_mask_words(const dado_automaton *ac, void *text, size_t len, uint8_t byte);
 
 /*
  * A masker is pushed a text piece by piece, and hands out the masked text, as far as no later byte changes it. However the text is cut,
@@ -939,11 +699,7 @@ DADO_INLINE dado_status dado_mask_words(const dado_automaton *ac, uint8_t *text,
  *
  * Takes memory: one buffer of 64 KiB, or of eight of the longest pattern if that is more.
  */
-DADO_INLINE dado_status dado_masker_new(const dado_automaton *ac, uint8_t byte, dado_masker **masker) {
-    if (masker == NULL) return DADO_BAD_ARGUMENT;
-    if (ac == NULL) return DADO_NO_AUTOMATON;
-    return dado_raw_masker_new(ac, byte, masker);
-}
+dado_status dado_masker_new(const dado_automaton *ac, uint8_t byte, dado_masker **masker);
 
 /*
  * Takes the first bytes of a piece, after all that was pushed before, and masks them; how many, to `*taken`. The piece isn't needed
@@ -957,15 +713,7 @@ DADO_INLINE dado_status dado_masker_new(const dado_automaton *ac, uint8_t byte, 
  * All calls together look at no more than two states for each byte that was pushed, or at one with a DFA. A call copies each byte once,
  * and moves a seventh of all bytes at most. It takes no memory.
  */
-DADO_INLINE dado_status dado_masker_push(dado_masker **masker, const uint8_t *piece, size_t len, size_t *taken) {
-    dado_raw_count pushed;
-    if (taken == NULL) return DADO_BAD_ARGUMENT;
-    *taken = 0;
-    if (masker == NULL || (piece == NULL && len != 0)) return DADO_BAD_ARGUMENT;
-    pushed = dado_raw_masker_push(masker, piece, len);
-    *taken = pushed.count;
-    return pushed.status;
-}
+dado_status dado_masker_push(dado_masker **masker, const void *piece, size_t len, size_t *taken);
 
 /*
  * The masked bytes that are ready, to `*slice`: those after the ones that were ready before the last push, up to the bytes that may
@@ -974,14 +722,7 @@ DADO_INLINE dado_status dado_masker_push(dado_masker **masker, const uint8_t *pi
  * DADO_OK: also where there are none, and `slice->at` is never NULL. DADO_BAD_ARGUMENT: `masker` or `slice` is NULL; DADO_NO_MASKER:
  * `*masker` is NULL. `*slice` is written at DADO_OK alone. It takes no memory and no time to speak of.
  */
-DADO_INLINE dado_status dado_masker_ready(dado_masker **masker, dado_bytes *slice) {
-    const uint8_t *at = (const uint8_t *)"";
-    dado_raw_length ready;
-    if (masker == NULL || slice == NULL) return DADO_BAD_ARGUMENT;
-    ready = dado_raw_masker_ready(masker, &at);
-    if (ready.status == DADO_OK) slice->at = at, slice->len = ready.len;
-    return ready.status;
-}
+dado_status dado_masker_ready(dado_masker **masker, dado_bytes *slice);
 
 /*
  * Tells the masker that nothing more comes: the bytes that waited are ready, in the place of what was ready before, and each push is
@@ -989,56 +730,52 @@ DADO_INLINE dado_status dado_masker_ready(dado_masker **masker, dado_bytes *slic
  *
  * DADO_OK. DADO_BAD_ARGUMENT: `masker` is NULL; DADO_NO_MASKER: `*masker` is NULL. It takes no memory.
  */
-DADO_INLINE dado_status dado_masker_finish(dado_masker **masker) {
-    return masker == NULL ? (dado_status)DADO_BAD_ARGUMENT : dado_raw_masker_finish(masker);
-}
+dado_status dado_masker_finish(dado_masker **masker);
 
 /* Frees the masker at `*masker`, if there is one, and sets `*masker` to NULL. So a second call does nothing. */
-DADO_INLINE void dado_masker_free(dado_masker **masker) {
-    if (masker != NULL) dado_raw_masker_free(masker);
-}
+void dado_masker_free(dado_masker **masker);
 
 /* ---- Queries. They take no memory and no time to speak of; any number of threads at the same time. ---- */
 
 /* How many bytes the pattern of this number has, to `*len`. DADO_NO_AUTOMATON; DADO_BAD_ARGUMENT: `len` is NULL; DADO_BAD_PATTERN: there
  * is no such pattern. `*len` is written at DADO_OK alone. */
-DADO_INLINE dado_status dado_pattern_len(const dado_automaton *ac, uint32_t pattern, size_t *len) {
-    dado_raw_length told;
-    if (ac == NULL) return DADO_NO_AUTOMATON;
-    if (len == NULL) return DADO_BAD_ARGUMENT;
-    told = dado_raw_pattern_len(ac, pattern);
-    if (told.status == DADO_OK) *len = told.len;
-    return told.status;
-}
+dado_status dado_pattern_len(const dado_automaton *ac, uint32_t pattern, size_t *len);
 
 /* How many patterns it was built of; 0 for NULL. */
-DADO_INLINE size_t dado_pattern_count(const dado_automaton *ac) { return ac == NULL ? 0 : dado_raw_tell(ac).patterns; }
+size_t dado_pattern_count(const dado_automaton *ac);
 
 /* How many bytes the shortest pattern has; SIZE_MAX where there is none, and for NULL. */
-DADO_INLINE size_t dado_shortest(const dado_automaton *ac) { return ac == NULL ? SIZE_MAX : dado_raw_tell(ac).shortest; }
+size_t dado_shortest(const dado_automaton *ac);
 
 /* How many bytes the longest pattern has; 0 where there is none, and for NULL. */
-DADO_INLINE size_t dado_longest(const dado_automaton *ac) { return ac == NULL ? 0 : dado_raw_tell(ac).longest; }
+size_t dado_longest(const dado_automaton *ac);
 
 /* The kind that it was built for: DADO_STANDARD or a leftmost one; DADO_STANDARD for NULL. */
-DADO_INLINE uint32_t dado_kind(const dado_automaton *ac) { return ac == NULL ? (uint32_t)DADO_STANDARD : dado_raw_tell(ac).kind; }
+uint32_t dado_kind(const dado_automaton *ac);
 
 /* Which searches it was built for: DADO_UNANCHORED, DADO_ANCHORED or DADO_BOTH; DADO_UNANCHORED for NULL. */
-DADO_INLINE uint32_t dado_start_kind(const dado_automaton *ac) {
-    return ac == NULL ? (uint32_t)DADO_UNANCHORED : dado_raw_tell(ac).start_kind;
-}
+uint32_t dado_start_kind(const dado_automaton *ac);
 
 /* What searches: DADO_NONCONTIGUOUS, DADO_CONTIGUOUS or DADO_DFA; DADO_AUTO for NULL. */
-DADO_INLINE uint32_t dado_engine(const dado_automaton *ac) { return ac == NULL ? (uint32_t)DADO_AUTO : dado_raw_tell(ac).engine; }
+uint32_t dado_engine(const dado_automaton *ac);
 
 /* About how many bytes of memory it holds; 0 for NULL. */
-DADO_INLINE size_t dado_memory(const dado_automaton *ac) { return ac == NULL ? 0 : dado_raw_tell(ac).memory; }
+size_t dado_memory(const dado_automaton *ac);
 
 /* The text of a status, in English, without a full stop; never NULL, and never freed. */
 const char *dado_error_text(dado_status status);
 
 /* The version of the library that runs, such as "1.0.0"; DADO_VERSION is that of this header. */
 const char *dado_version(void);
+
+/*
+ * For which processors the code is compiled that serves: "x86-64-v2", or "x86-64-v3" with vectors of 32 bytes; "generic" where the library
+ * has one code for all of its machine. The first call of the library chooses by the processor, for all threads and for good. Both codes
+ * have the same proof, and give the same results.
+ *
+ * For tests alone: with x86-64-v2 in the environment's variable DADOFENNEL_CPU, before the first call, the first serves on every processor.
+ */
+const char *dado_cpu(void);
 
 #ifdef __cplusplus
 }

@@ -23,7 +23,7 @@ extern "C" {
  * DADO_OK. DADO_BAD_ARGUMENT: `width` is none of these, or `text` or `out` is NULL where `len` isn't 0, or `codes` where `count` isn't:
  * nothing is written.
  */
-dado_status dado_narrow(const void *text, uint32_t width, size_t len, const uint8_t *codes, size_t count, uint8_t other, uint8_t *out);
+dado_status dado_narrow(const void *text, uint32_t width, size_t len, const uint8_t *codes, size_t count, uint8_t other, void *out);
 
 /* How many characters the first `bytes` bytes of a text have. Begin with {0, 0}. */
 typedef struct dado_counted {
@@ -41,7 +41,7 @@ typedef struct dado_counted {
  *
  * It reads each byte between one end and the next once, and each match.
  */
-dado_status dado_in_characters(const uint8_t *text, size_t len, dado_counted *counted, dado_match *matches, size_t *count);
+dado_status dado_in_characters(const void *text, size_t len, dado_counted *counted, dado_match *matches, size_t *count);
 
 /* Adds `by` to the places of `count` matches, which may be NULL where that is 0: those of a part of a text become those of the whole. */
 void dado_move(dado_match *matches, size_t count, size_t by);

@@ -3,10 +3,8 @@
 #include <dadofennel.h>
 #include <stdio.h>
 
-#define WORD(text) {(const uint8_t *)(text), sizeof(text) - 1}
-
-static const dado_bytes WORDS[] = {WORD("fox"), WORD("foxglove"), WORD("quick")};
-static const dado_bytes INSTEAD[] = {WORD("sloth"), WORD("rose"), WORD("slow")};
+static const dado_bytes WORDS[] = {DADO_LITERAL("fox"), DADO_LITERAL("foxglove"), DADO_LITERAL("quick")};
+static const dado_bytes INSTEAD[] = {DADO_LITERAL("sloth"), DADO_LITERAL("rose"), DADO_LITERAL("slow")};
 
 /* Writes what is decided. */
 static dado_status write_decided(dado_replacer **replacer) {
@@ -18,7 +16,7 @@ static dado_status write_decided(dado_replacer **replacer) {
 }
 
 int main(void) {
-    static uint8_t piece[4096];
+    static char piece[4096];
     dado_settings settings = dado_settings_default();
     dado_automaton *ac = NULL;
     dado_replacer *replacer = NULL;

@@ -187,6 +187,15 @@ extern "C" {
         handle: *mut *mut dado_automaton,
         fault: *mut dado_fault,
     ) -> dado_status;
+    pub fn dado_settings_fill(settings: *mut dado_settings, size: usize) -> dado_status;
+    pub fn dado_build_sized(
+        patterns: *const dado_bytes,
+        count: usize,
+        settings: *const dado_settings,
+        size: usize,
+        handle: *mut *mut dado_automaton,
+        fault: *mut dado_fault,
+    ) -> dado_status;
     pub fn dado_share(ac: *const dado_automaton, other: *mut *mut dado_automaton) -> dado_status;
     pub fn dado_free(handle: *mut *mut dado_automaton);
     pub fn dado_find_in(
@@ -297,4 +306,5 @@ extern "C" {
     pub fn dado_memory(ac: *const dado_automaton) -> usize;
     pub fn dado_error_text(status: dado_status) -> *const c_char;
     pub fn dado_version() -> *const c_char;
+    pub fn dado_cpu() -> *const c_char;
 }

@@ -177,5 +177,6 @@ def make(installed, dist, version, glibc, when):
                 shared(folder, name, soversion)
             settle(folder, when)
             environment = dict(os.environ, SOURCE_DATE_EPOCH=str(when))
-            words = ["dpkg-deb", "--root-owner-group", "-Zxz", "--threads-max=1", "--build", folder, f"{dist}/{name}_{version}_{ARCHITECTURE}.deb"]
+            words = ["dpkg-deb", "--root-owner-group", "-Zxz", "--threads-max=1", "--build", folder]
+            words += [f"{dist}/{name}_{version}_{ARCHITECTURE}.deb"]
             subprocess.run(words, stdout=subprocess.DEVNULL, check=True, env=environment)

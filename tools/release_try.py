@@ -15,6 +15,7 @@ SUITE = "bookworm"
 CRATE = f"{launch.REPOSITORY}/crates/acsub"
 NEEDED = ["gcc", "libc6-dev", "pkg-config", "cmake", "make"]
 BUILDS = "/usr/share/doc/libdadofennel-dev/examples"
+ENVIRONMENT = {"PATH": "/usr/sbin:/usr/bin:/sbin:/bin", "LC_ALL": "C", "DEBIAN_FRONTEND": "noninteractive", "HOME": "/"}
 
 CMAKE = """\
 cmake_minimum_required(VERSION 3.13)
@@ -42,10 +43,10 @@ class Room:
 
     def run(self, *words, given="", folder="/", **variables):
         """Runs a command below the folder, and returns what it wrote, what it said and its status."""
-        environment = {"PATH": "/usr/sbin:/usr/bin:/sbin:/bin", "LC_ALL": "C", "DEBIAN_FRONTEND": "noninteractive", "HOME": "/", **variables}
         begin = ["env", "--chdir", folder] if folder != "/" else []
         change = ["chroot", self.folder] if os.geteuid() == 0 else ["unshare", "-r", "chroot", self.folder]
-        ran = subprocess.run([*change, *begin, *words], input=given.encode(), stdout=subprocess.PIPE, stderr=subprocess.PIPE, env=environment)
+        how = {"input": given.encode(), "stdout": subprocess.PIPE, "stderr": subprocess.PIPE, "env": {**ENVIRONMENT, **variables}}
+        ran = subprocess.run([*change, *begin, *words], **how)
         return ran.stdout.decode(errors="replace"), ran.stderr.decode(errors="replace"), ran.returncode
 
     def must(self, *words, **how):
@@ -89,12 +90,12 @@ def sums_hold(room, dist):
 def is_bare(room):
     """There is no toolchain, and no compiler."""
     for name in ("rt", "rattle", "cc", "gcc", "clang"):
-        if any(os.path.lexists(f"{room.folder}/{at}/{name}") for at in ("bin", "usr/bin", "usr/sbin", "usr/local/bin", "opt/rattle/bin")):
+        if any(os.path.lexists(f"{room.folder}/{at}/{name}") for at in ("bin", "usr/bin", "usr/sbin", "usr/local/bin")):
             raise AssertionError(f"{name} is there")
 
 
 def program_works(room, program, version):
-    """The stored run of the program, a row of each mode, a fault, and a processor that is too old is not tried here."""
+    """The stored run of the program, a row of each mode, a long run, and a fault."""
     with open(f"{CRATE}/stdin") as given, open(f"{CRATE}/stdout") as expected, open(f"{CRATE}/args") as words:
         equal(room.must(program, *words.read().split(), given=given.read(), folder="/rows"), expected.read())
     equal(room.must(program, "--version").strip(), f"acsub {version}")
@@ -146,6 +147,11 @@ def by_cmake(room, prefix, examples, version, out):
         equal(room.must(f"{out}/made/pieces_{form}", given=GIVEN), PIECES)
 
 
+def has_compiler(room):
+    room.must("apt-get", "update")
+    room.must("apt-get", "install", "-y", "--no-install-recommends", *NEEDED)
+
+
 def packages_leave_nothing(room):
     """Once the packages are gone, so is what they brought."""
     room.must("dpkg", "--purge", "acsub", "libdadofennel-dev", "libdadofennel1")
@@ -154,8 +160,9 @@ def packages_leave_nothing(room):
 
 
 def lintian_is_clean(room, packages):
-    """lintian has no error, no warning, and nothing else but what the page of the tool says."""
-    ran = subprocess.run(["lintian", "--allow-root", "--fail-on", "error,warning", *packages], stdout=subprocess.PIPE, stderr=subprocess.STDOUT)
+    """lintian has no error and no warning."""
+    words = ["lintian", "--allow-root", "--fail-on", "error,warning", *packages]
+    ran = subprocess.run(words, stdout=subprocess.PIPE, stderr=subprocess.STDOUT)
     if ran.returncode:
         raise AssertionError(ran.stdout.decode(errors="replace"))
 
@@ -178,18 +185,18 @@ def in_debian(room, dist, version):
         room.bring(f"{dist}/{it}", f"/dist/{it}")
     rows_there(room)
     room.row("a bare Debian has no toolchain and no compiler", is_bare)
-    room.row("acsub and libdadofennel1 are installed", lambda it: it.must("dpkg", "-i", f"/dist/{packages['acsub']}", f"/dist/{packages['libdadofennel1']}"))
+    both = [f"/dist/{packages[it]}" for it in ("acsub", "libdadofennel1")]
+    room.row("acsub and libdadofennel1 are installed", lambda it: it.must("dpkg", "-i", *both))
     room.row("the program of the package", program_works, "acsub", version)
     room.row("the tarball is unpacked", lambda it: it.must("tar", "-xzf", f"/dist/{name}.tar.gz", "-C", "/opt"))
     room.row("the program of the tarball", program_works, f"/opt/{name}/bin/acsub", version)
-    room.row("a compiler is installed", lambda it: (it.must("apt-get", "update"), it.must("apt-get", "install", "-y", "--no-install-recommends", *NEEDED)))
+    room.row("a compiler is installed", has_compiler)
     room.row("libdadofennel-dev is installed", lambda it: it.must("dpkg", "-i", f"/dist/{packages['libdadofennel-dev']}"))
     room.row("the package's examples, by pkg-config", by_pkg_config, "", "/usr/lib/x86_64-linux-gnu", BUILDS, "/built/package")
     room.row("the package's examples, by CMake", by_cmake, "", BUILDS, version, "/built/package-cmake")
     room.row("what the packages bring goes with them", packages_leave_nothing)
-    for prefix in (f"/opt/{name}", "/srv/moved to here"):
-        if prefix != f"/opt/{name}":
-            prefix = prefix.replace(" ", "-")
+    for prefix in (f"/opt/{name}", "/srv/moved"):
+        if prefix == "/srv/moved":
             room.must("mv", f"/opt/{name}", prefix)
         examples = f"{prefix}/share/doc/dadofennel/examples"
         room.row(f"the examples in {prefix}, by pkg-config", by_pkg_config, prefix, f"{prefix}/lib", examples, f"/built{prefix}")

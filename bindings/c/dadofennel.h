@@ -272,8 +272,9 @@ dado_status dado_build_sized(const dado_bytes *patterns, size_t count, const dad
                              dado_fault *fault);
 
 /*
- * The two calls for settings of this header, whose size they pass on. As symbols of the library they take those of version 1.0, and always
- * will: who declares them without this header, in another language, and wants a later field, calls the two above.
+ * What most callers take: the settings at first, and a build. They are the two calls above for the settings of this header, whose size they
+ * pass on. As symbols of the library they take those of version 1.0, and always will: who declares them without this header, in another
+ * language, and wants a later field, calls the two above.
  */
 #ifdef DADO_LIBRARY
 dado_settings dado_settings_default(void);

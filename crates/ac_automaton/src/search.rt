@@ -11,6 +11,7 @@ use crate::automaton::Automaton;
 use crate::error::{MatchError, ReplaceError, StreamError};
 use crate::in_memory::mask::{mask_all, mask_words};
 use crate::in_memory::overlapping::{Position, Shown};
+use crate::in_memory::replace::replace_words;
 use crate::in_memory::words::overlapping::{FindOverlappingWordIter, find_overlapping_word_iter};
 use crate::in_memory::words::{FindWordIter, find_word_iter, find_word_iter_from};
 use crate::in_memory::{find, overlapping};
@@ -44,6 +45,7 @@ pub trait Search: Automaton {
     ghost use Rattle.ac_automaton.specs.InMemory.Overlapping.OverlappingSearch.{CountsOn, HasLeft, IsAheadAt, KeepsPaying, ShowsNextAt};
     ghost use Rattle.ac_automaton.specs.InMemory.Words.{AnswersWords, AnswersWordsFrom};
     ghost use Rattle.ac_automaton.specs.InMemory.Words.Overlapping.{AnswersWordListing};
+    ghost use Rattle.ac_automaton.specs.InMemory.Words.Replace.{ReplacesWholeWords};
     ghost use Rattle.ac_automaton.specs.Masking.{CostsMask, Masks, MasksFrom};
     ghost use Rattle.ac_automaton.specs.Masking.Words.{CostsMaskWords, MasksWords};
     ghost use Rattle.ac_automaton.specs.Masking.Words.Stream.{CostsMaskWordsStream, MasksWordsStream};
@@ -247,6 +249,26 @@ pub trait Search: Automaton {
         ensures { AnswersWordListing (Self.built self.now) (Self.supports self.now) haystack.entry.now result }
     {
         find_overlapping_word_iter(self, haystack)
+    }
+
+    /// The text with each of its whole words under a kind replaced by the replacement of its pattern, as
+    /// [`try_find_word_iter`](Search::try_find_word_iter) finds them. The memory is at first as large as the text, and grows as any
+    /// `Vec` does.
+    ///
+    /// It requires one replacement for each pattern. Returns an error where `try_find_word_iter` does, and then if memory runs out.
+    final fn try_replace_words(
+        &self,
+        kind: MatchKind,
+        alloc: Global,
+        haystack: &[u8],
+        replacements: &[&[u8]],
+    ) -> Result<Vec<u8>, ReplaceError>
+    where
+        Self: Sized,
+        requires { length replacements.now ≡ length (Self.built self.now).dictionary.patterns }
+        ensures { ReplacesWholeWords (Self.built self.now) (Self.supports self.now) kind haystack.now replacements.now result }
+    {
+        replace_words(self, kind, alloc, haystack, replacements)
     }
 
     /// The whole words of a stream under a kind, one after another, as [`try_find_word_iter`](Search::try_find_word_iter) gives those of a

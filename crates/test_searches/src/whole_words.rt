@@ -1,6 +1,6 @@
 //! Whole words of texts: worked rows under each kind, refusals, and drawn texts compared with the plain program.
 use crate::asserts::{equal, same};
-use ac_automaton::error::MatchErrorKind;
+use ac_automaton::error::{MatchErrorKind, ReplaceError};
 use ac_input::search::MatchKind;
 use ac_input::search::MatchKind::{LeftmostFirst, LeftmostLongest, Standard};
 use ac_input::steps::Steps;
@@ -35,8 +35,25 @@ impl<T: Abort> Case<T> for Words<'_> {
         }
         let words = on.automaton.try_find_word_iter(self.kind, self.text)?;
         same(on.rt, &collected(on.alloc, words)?, self.gives, self.shows);
-        self.goes_on(on)
+        self.goes_on(on)?;
+        self.replaces(on)
     }
+}
+
+/// What words are replaced by: a pattern's number decides which of these.
+const NAMES: [&[u8]; 3] = [b"", b"<one>", b"2"];
+
+/// The text with each of these words replaced.
+fn named(alloc: Global, text: &[u8], words: &[Pick]) -> Result<Vec<u8>, Fail> {
+    let mut made = Vec::new(alloc);
+    let mut at = 0;
+    for (pattern, start, end) in words {
+        made.extend_from_slice(text.get(at..*start).ok_or("not in order")?)?;
+        made.extend_from_slice(NAMES[*pattern % 3])?;
+        at = *end;
+    }
+    made.extend_from_slice(text.get(at..).ok_or("not in order")?)?;
+    Ok(made)
 }
 
 impl Words<'_> {
@@ -49,6 +66,20 @@ impl Words<'_> {
             .try_find_word_iter_from(self.kind, self.text, words.place())?;
         let others = collected(on.alloc, words)?;
         same(on.rt, &collected(on.alloc, left)?, &others, self.shows);
+        Ok(())
+    }
+
+    /// The text with the words replaced is the one that is put together of the row.
+    fn replaces<T: Abort, A: Search>(&self, on: &Trial<'_, T, A>) -> Result<(), Fail> {
+        let numbers = 0..on.automaton.patterns_len();
+        let names: Vec<&[u8]> = numbers.map(|number| NAMES[number % 3]).collect(on.alloc)?;
+        if names.len() != on.automaton.patterns_len() {
+            return Err("a name for each pattern".into());
+        }
+        let made = on
+            .automaton
+            .try_replace_words(self.kind, on.alloc, self.text, &names)?;
+        same(on.rt, &made, &named(on.alloc, self.text, self.gives)?, self.shows);
         Ok(())
     }
 }
@@ -205,6 +236,23 @@ impl<T: Abort> Case<T> for Refused {
             Err(error) => Some(*error.kind()),
         };
         equal(on.rt, &refused, &Some(self.why), "refused");
+        self.replaces_none(on)
+    }
+}
+
+impl Refused {
+    /// Words aren't replaced either.
+    fn replaces_none<T: Abort, A: Search>(&self, on: &Trial<'_, T, A>) -> Result<(), Fail> {
+        let none: &[u8] = b"";
+        let names = vec![in on.alloc; none; on.automaton.patterns_len()]?;
+        let made = on
+            .automaton
+            .try_replace_words(LeftmostLongest, on.alloc, b"a", &names);
+        let refused = match made {
+            Err(ReplaceError::Match(error)) => Some(*error.kind()),
+            Err(ReplaceError::Memory) | Ok(_) => None,
+        };
+        equal(on.rt, &refused, &Some(self.why), "refused, too");
         Ok(())
     }
 }

@@ -1,5 +1,5 @@
 -- How the replaced haystack grows, match by match.
-use Rattle.std.proofs.Common.{◌≡◌, ℕ, ◌≤◌, Bool, true, cond, IsTrue, rules, List, [], ◌∷◌, ◌++◌, length, Option, Some, None, false, drop, get_or, sym, ap, ◌∙◌, subst, arith}
+use Rattle.std.proofs.Common.{◌≡◌, ℕ, ◌<◌, ◌≤◌, Bool, true, cond, IsTrue, rules, List, [], ◌∷◌, ◌++◌, length, Option, Some, None, false, drop, get_or, refl, sym, ap, ◌∙◌, subst, arith}
 use Rattle.std.specs.Prelude.{slice_range}
 use Rattle.std.specs.List.{filter}
 use Rattle.std.specs.Str.{IsCharBoundary}
@@ -58,6 +58,33 @@ replaced-step at {o} {rest} x replacements front is is_replacement e =
     ∙ replaced-more front at x replacements o rest
     ∙ ap (λ qs. front ++ replaced_from at x replacements qs) (sym is)
     ∙ e
+
+-- the same, as a loop has it: what was made is known by an equation, and so is where the match ends
+pub replaced-pushed : (at : ℕ) {end : ℕ} {o : Occurrence} {os rest : List Occurrence} (x : List ℕ)
+    (replacements : List (List ℕ)) (front : List ℕ) {made text : List ℕ} → os ≡ o ∷ rest
+    → made ≡ (front ++ slice_range x at o.start) ++ get_or replacements o.pattern []
+    → end ≡ o.end
+    → front ++ replaced_from at x replacements os ≡ text
+    → made ++ replaced_from end x replacements rest ≡ text
+replaced-pushed at {end} {o} {rest} x replacements front is is_made is_end e =
+    ap (λ t. t ++ replaced_from end x replacements rest) is_made
+    ∙ ap (λ n. ((front ++ slice_range x at o.start) ++ get_or replacements o.pattern []) ++ replaced_from n x replacements rest) is_end
+    ∙ replaced-step at x replacements front is refl e
+
+-- those after the first lie in order from its end on
+pub lies-next : (patterns len at : ℕ) {end : ℕ} {os rest : List Occurrence} {o : Occurrence} → os ≡ o ∷ rest → end ≡ o.end
+    → LieInOrder patterns len at os → LieInOrder patterns len end rest
+lies-next patterns len at {rest} is is_end lies =
+    subst (λ n. LieInOrder patterns len n rest) (sym is_end) (subst (LieInOrder patterns len at) is lies).4
+
+-- and that end is within the haystack
+pub ends-within : (patterns at : ℕ) {len end : ℕ} {os rest : List Occurrence} {o : Occurrence} → os ≡ o ∷ rest → end ≡ o.end
+    → LieInOrder patterns len at os → end ≤ len
+ends-within patterns at {len} is is_end lies = subst (λ n. n ≤ len) (sym is_end) (subst (LieInOrder patterns len at) is lies).3
+
+-- one fewer is left
+pub fewer-left : {os rest : List Occurrence} {o : Occurrence} → os ≡ o ∷ rest → length rest < length os
+fewer-left {rest} is = subst (λ n. length rest < n) (sym (ap length is)) (omega arith)
 
 -- no match is left
 pub replaced-end : (at : ℕ) {os : List Occurrence} (x : List ℕ) (replacements : List (List ℕ)) (front : List ℕ)

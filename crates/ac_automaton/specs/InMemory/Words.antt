@@ -1,5 +1,6 @@
 -- A walk over the whole words of a text: where it stands, what is left of it, and what it costs.
 pub mod Overlapping
+pub mod Replace
 use Rattle.std.specs.Prelude.{◌≡◌, ◌⊎◌, ℕ, ◌+◌, ◌-◌, ◌*◌, ◌≤◌, List, [], length, Option, None, Some, Result, Ok, Err, false}
 use Rattle.ac_input.specs.Number.{StateID}
 use Rattle.ac_input.specs.declared.search.Anchored.{Anchored}

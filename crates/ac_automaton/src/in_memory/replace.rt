@@ -1,21 +1,41 @@
 //! Replacement in memory.
 //!
-//! The matches of a haystack are taken one after another, as [`FindIter`](crate::iter::FindIter) returns them. The text between
+//! The matches of a haystack are taken one after another, as [`FindIter`](crate::iter::FindIter) returns them, or its whole words, as
+//! [`FindWordIter`](crate::in_memory::words::FindWordIter) does. The text between
 //! two of them is copied, and the replacement is put in place of the match. The result is one piece of memory, at first as large
 //! as the haystack; it grows as any `Vec` does if the replacements are longer than what they replace.
 //!
 //! In a text a match may begin or end within a character, if a pattern isn't text itself. Such a match is skipped, so that the
 //! result stays text.
-ghost use Rattle.std.specs.Prelude.{◌≡◌, ◌+◌, length, IfSome, IsTrue};
+ghost use Rattle.std.specs.Prelude.{◌≡◌, ◌+◌, ◌++◌, [], ◌∷◌, get_or, length, map, slice_range, IfOk, IfSome, IsTrue};
 ghost use Rattle.std.specs.Iterator.{YieldsFirst};
-ghost use Rattle.ac_automaton.specs.InMemory.Replace.{IsForMatches, TakesMatches, RepliesAt, ReplacesText, ReplacesBytes, ReplacesTextWith, ReplacesBytesWith, cuts_none, text_left_of};
+ghost use Rattle.ac_automaton.specs.InMemory.Replace.{IsForMatches, LieInOrder, TakesMatches, RepliesAt, ReplacesText, ReplacesBytes, ReplacesTextWith, ReplacesBytesWith, cuts_none, text_left_of};
+ghost use Rattle.ac_automaton.specs.InMemory.Words.Replace.{ReplacesWholeWords};
 
 use crate::automaton::Automaton;
 use crate::error::ReplaceError;
 use crate::in_memory::iter::FindIter;
+use crate::in_memory::words::find_word_iter;
 use crate::search::Search;
-use ac_input::search::{Anchored, Input, Match};
+use ac_input::search::{Input, Match, MatchKind};
 use std::alloc::{AllocError, Global};
+
+/// Appends the haystack from a place to a match, and the replacement of its pattern.
+fn push_replaced(
+    replaced: &mut Vec<u8>,
+    haystack: &[u8],
+    at: usize,
+    found: &Match,
+    replacements: &[&[u8]],
+) -> Result<(), AllocError>
+    requires lies { LieInOrder (length replacements.now) (length haystack.now) at (found.now ∷ []) }
+    ensures { IfOk result (λ _. replaced.new.items
+        ≡ (replaced.old.items ++ slice_range haystack.now at found.now.start)
+        ++ get_or (map (λ r. r.now) replacements.now) found.now.pattern []) }
+{
+    replaced.extend_from_slice(&haystack[at..found.start()])?;
+    replaced.extend_from_slice(replacements[found.pattern().as_usize()])
+}
 
 /// The haystack with each match replaced by the replacement of its pattern.
 pub fn replace_all_bytes<A: Search>(
@@ -32,8 +52,30 @@ pub fn replace_all_bytes<A: Search>(
     let mut replaced = Vec::with_capacity(alloc, haystack.len())?;
     let mut at = 0;
     while let Some(found) = matches.next() {
-        replaced.extend_from_slice(&haystack[at..found.start()])?;
-        replaced.extend_from_slice(replacements[found.pattern().as_usize()])?;
+        push_replaced(&mut replaced, haystack, at, &found, replacements)?;
+        at = found.end();
+    }
+    replaced.extend_from_slice(&haystack[at..])?;
+    Ok(replaced)
+}
+
+/// The haystack with each of its whole words under a kind replaced by the replacement of its pattern.
+pub(crate) fn replace_words<A: Search>(
+    automaton: &A,
+    kind: MatchKind,
+    alloc: Global,
+    haystack: &[u8],
+    replacements: &[&[u8]],
+) -> Result<Vec<u8>, ReplaceError>
+    requires { length replacements.now ≡ length (A.built automaton.now).dictionary.patterns }
+    ensures { ReplacesWholeWords (A.built automaton.now) (A.supports automaton.now) kind haystack.now
+        replacements.now result }
+{
+    let mut words = find_word_iter(automaton, kind, haystack)?;
+    let mut replaced = Vec::with_capacity(alloc, haystack.len())?;
+    let mut at = 0;
+    while let Some(found) = words.next() {
+        push_replaced(&mut replaced, haystack, at, &found, replacements)?;
         at = found.end();
     }
     replaced.extend_from_slice(&haystack[at..])?;

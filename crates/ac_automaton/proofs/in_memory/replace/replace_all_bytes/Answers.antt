@@ -1,9 +1,9 @@
 -- The text between two matches is copied, and each match is replaced.
-use Rattle.std.proofs.Common.{◌≡◌, ◌++◌, map, refl, ap, ◌∙◌, arith}
+use Rattle.std.proofs.Common.{◌≡◌, ◌++◌, length, map, refl, ap, ◌∙◌, arith}
 use Rattle.std.proofs.lemmas.List.{take_rest}
 use Rattle.ac_automaton.specs.InMemory.Iter.{left_of}
 use Rattle.ac_automaton.specs.InMemory.Replace.{matches_in}
-use Rattle.ac_automaton.proofs.lemmas.ReplaceLemmas.{matches-lie, replaced-end, same-input, unanchored}
+use Rattle.ac_automaton.proofs.lemmas.ReplaceLemmas.{ends-within, fewer-left, lies-first, lies-next, matches-lie, replaced-end, replaced-pushed, same-input, unanchored}
 use Rattle.ac_automaton.proofs.in_memory.replace.replace_all_bytes.Goals as goal
 
 pub loop-found-init : goal.loop-found-init
@@ -18,11 +18,32 @@ loop-found-init g c =
       within = omega arith;
     }
 
+pub push_replaced-requires : goal.push_replaced-requires
+push_replaced-requires g c =
+    let l = lies-first c.in-Some.ensures.steps c.loop-found.invariant.lies in
+    record { lies = (l.0, l.1, l.2, l.3, tt) }
+
+pub loop-found-preserved : goal.loop-found-preserved
+loop-found-preserved g c =
+    let first = c.in-Some.ensures.steps in
+    let patterns = length c.args.replacements.now in
+    let x = c.args.haystack.now in
+    let at = c.loop-found.at in
+    record {
+      order = replaced-pushed at x (map (λ r. r.now) c.args.replacements.now) c.loop-found.replaced.items first
+          c.in_ok-push_replaced.ensures c.end-at.ensures.value c.loop-found.invariant.order;
+      lies = lies-next patterns (length x) at first c.end-at.ensures.value c.loop-found.invariant.lies;
+      within = ends-within patterns at first c.end-at.ensures.value c.loop-found.invariant.lies;
+    }
+
+pub loop-found-smaller : goal.loop-found-smaller
+loop-found-smaller g c = fewer-left c.in-Some.ensures.steps
+
 pub returns : goal.returns
 returns g c =
     let x = c.args.haystack.now in
     let made = c.loop-found.replaced.items in (
       unanchored (g.A.Automaton.supports c.args.automaton.now) c.in_ok-matches.ensures.answer.0 c.new.ensures,
-      c.in_ok-extend_from_slice-3.ensures.items ∙ ap (λ t. made ++ t) (take_rest x c.loop-found.at)
+      c.in_ok-extend_from_slice.ensures.items ∙ ap (λ t. made ++ t) (take_rest x c.loop-found.at)
           ∙ replaced-end c.loop-found.at x (map (λ r. r.now) c.args.replacements.now) made c.in_default.ensures.steps.0 c.loop-found.invariant.order,
     )

@@ -8,6 +8,7 @@
 ghost use Rattle.std.specs.Prelude.{◌≡◌, ◌≤◌, false, length};
 ghost use Rattle.ac_automaton.specs.InMemory.Words.{AnswersWords, AnswersWordsFrom};
 ghost use Rattle.ac_automaton.specs.InMemory.Words.Overlapping.{AnswersWordListing};
+ghost use Rattle.ac_automaton.specs.InMemory.Words.Replace.{ReplacesWholeWords};
 ghost use Rattle.ac_automaton.specs.Stream.Overlapping.{AcceptsListing};
 ghost use Rattle.ac_automaton.specs.Stream.WholeWords.{CostsWordStream, FindsStreamAllWords, FindsStreamWords, PumpsAllWords, PumpsWords, ReplacesWords, asked_for};
 ghost use Rattle.ac_literal.specs.Packed.{bytes_of};
@@ -17,7 +18,7 @@ use super::{
     AhoCorasick, FindOverlappingWordIter, FindWordIter, StreamFindOverlappingWordIter,
     StreamFindWordIter,
 };
-use ac_automaton::error::{MatchError, StreamError};
+use ac_automaton::error::{MatchError, ReplaceError, StreamError};
 use ac_automaton::search::Search;
 use ac_automaton::stream::sink::Sink;
 use ac_automaton::watched::Watched;
@@ -79,6 +80,24 @@ impl AhoCorasick {
         ensures { AnswersWordListing (as_built self.now) (supported_by self.now) haystack.entry.now result }
     {
         Search::try_find_overlapping_word_iter(self, haystack)
+    }
+
+    /// The text with each of its whole words under a kind replaced by the replacement of its pattern. The memory is at first as large as
+    /// the text, and grows as any `Vec` does.
+    ///
+    /// It requires one replacement for each pattern. Returns an error where [`AhoCorasick::try_find_word_iter`] does, and then if memory
+    /// runs out.
+    pub fn try_replace_words(
+        &self,
+        kind: MatchKind,
+        alloc: Global,
+        haystack: &[u8],
+        replacements: &[&[u8]],
+    ) -> Result<Vec<u8>, ReplaceError>
+        requires { length replacements.now ≡ pattern_count self.now }
+        ensures { ReplacesWholeWords (as_built self.now) (supported_by self.now) kind haystack.now replacements.now result }
+    {
+        Search::try_replace_words(self, kind, alloc, haystack, replacements)
     }
 
     /// The whole words of a stream under a kind, one after another. A word waits for the byte after it, and under a leftmost kind for what

@@ -98,3 +98,30 @@ overflow_add-read g c = grind (arith, common_steps)
 
 pub returns-clause-goes : goal.returns-clause-goes
 returns-clause-goes g c = grind (arith, common_steps)
+
+pub overflow_sub-bytes : goal.overflow_sub-bytes
+overflow_sub-bytes g c = grind (arith, common_steps)
+
+pub overflow_add-from : goal.overflow_add-from
+overflow_add-from g c = grind (arith, common_steps)
+
+pub read_part-stop-requires-clause-begins : goal.read_part-stop-requires-clause-begins
+read_part-stop-requires-clause-begins g c = grind (arith, common_steps)
+
+pub read_part-stop-requires-clause-left : goal.read_part-stop-requires-clause-left
+read_part-stop-requires-clause-left g c = grind (arith, common_steps)
+
+pub read_part-stop-requires-clause-ahead : goal.read_part-stop-requires-clause-ahead
+read_part-stop-requires-clause-ahead g c = grind (arith, common_steps)
+
+pub returns-then-is_match-clause-ahead : goal.returns-then-is_match-clause-ahead
+returns-then-is_match-clause-ahead g c = grind (arith, common_steps)
+
+pub loop-read-smaller : goal.loop-read-smaller
+loop-read-smaller g c = grind (arith, common_steps)
+
+pub returns-clause-cost : goal.returns-clause-cost
+returns-clause-cost g c = grind (arith, common_steps)
+
+pub returns-clause-once : goal.returns-clause-once
+returns-clause-once g c = grind (arith, common_steps)

@@ -14,7 +14,7 @@ use Rattle.ac_input.specs.Walk.{Repeats, IsPick, Here, Further}
 use Rattle.ac_input.specs.Work.{HasCounted, IsFindWork, lookups_per_byte, over_at}
 use Rattle.ac_input.proofs.lemmas.WalkLemmas.{walk_after-none, walk_after-some, walk_after-nothing}
 use Rattle.ac_automaton.specs.Automaton.{Built, prefilter_for, searched}
-use Rattle.ac_automaton.specs.InMemory.Iter.{CostsPick, CountsPick, CountsWalk, IsWithinBudget, PickCounts, Walk, walk_after_pick, walk_at, walk_kind, left_of, IsPickWork, IsPickOf, passed}
+use Rattle.ac_automaton.specs.InMemory.Iter.{CostsPick, CountsPick, CountsWalk, IsOnItsWay, IsRestOf, IsWithinBudget, PickCounts, Walk, walk_after_pick, walk_at, walk_kind, left_of, IsPickWork, IsPickOf, passed}
 use Rattle.ac_automaton.proofs.in_memory.find.CountedLemmas.{counted-moved, sums-more, counted-none}
 use Rattle.ac_input.proofs.lemmas.UnusedLemmas.{best-fresh}
 
@@ -31,6 +31,65 @@ pub pick-of_walk : {b : Built} {first : ℕ} {left : Asked} {last : Option ℕ} 
     → IsPick (walk_kind w) (searched w.built w.asked) w.at w.last r
 pick-of_walk {last} {r} e h =
     subst (λ v. IsPick (walk_kind v) (searched v.built v.asked) v.at v.last r) e (pick-wherever h)
+
+-- the walk after a pick, by the calls that make it: it stands where the pick ended
+pub given-some : {b : Built} {first : ℕ} {i left : Asked} {last : Option ℕ} {sums : Steps} (more : Steps) {w : Walk}
+    {r : Option Occurrence} {o : Occurrence} {n : ℕ} → walk_at b first i last sums ≡ w → r ≡ Some o
+    → left ≡ record i { span = record i.span { start = o.end } } → n ≡ o.end
+    → walk_at b first left (Some n) more
+    ≡ record (walk_after_pick w r) { looked = more.looked.value; scanned = more.scanned.value; moved = more.moved.value }
+given-some {b} {first} {i} more {w} {o} {n} view is rest there =
+    ap (λ l. walk_at b first l (Some n) more) rest
+    ∙ ap (λ m. walk_at b first (record i { span = record i.span { start = o.end } }) (Some m) more) there
+    ∙ ap (λ x. record (walk_after_pick x (Some o)) { looked = more.looked.value; scanned = more.scanned.value; moved = more.moved.value })
+    view
+    ∙ ap (λ q. record (walk_after_pick w q) { looked = more.looked.value; scanned = more.scanned.value; moved = more.moved.value })
+    (sym is)
+
+-- and where there was none, past the span
+pub given-none : {b : Built} {first : ℕ} {i left : Asked} {last : Option ℕ} {sums : Steps} (more : Steps) {w : Walk}
+    {r : Option Occurrence} → walk_at b first i last sums ≡ w → r ≡ None
+    → left ≡ record i { span = record i.span { start = i.span.end + 1 } }
+    → walk_at b first left last more
+    ≡ record (walk_after_pick w r) { looked = more.looked.value; scanned = more.scanned.value; moved = more.moved.value }
+given-none {b} {first} {i} {last} more {w} view is rest =
+    ap (λ l. walk_at b first l last more) rest
+    ∙ ap (λ x. record (walk_after_pick x None) { looked = more.looked.value; scanned = more.scanned.value; moved = more.moved.value })
+    view
+    ∙ ap (λ q. record (walk_after_pick w q) { looked = more.looked.value; scanned = more.scanned.value; moved = more.moved.value })
+    (sym is)
+
+-- the rest of an input, by the calls that make it: the pick may have moved the start, and then it is set
+pub rest-by : (asked between left : Asked) (place : ℕ) {to : ℕ} → IsRestOf asked between
+    → left ≡ record between { span = record between.span { start = place } } → place ≡ to
+    → left ≡ record asked { span = record asked.span { start = to } }
+rest-by asked between left place rest is there =
+    is ∙ ap (λ (i : Asked). record i { span = record i.span { start = place } }) rest
+    ∙ ap (λ n. record asked { span = record asked.span { start = n } }) there
+
+-- after a pick a walk is on its way
+pub on-after : {b : Built} {first : ℕ} {i : Asked} {last : Option ℕ} {sums more : Steps} (o : Occurrence)
+    → IsOnItsWay (walk_at b first i last sums) → (i.span.start ≤ o.end) × (o.end ≤ i.span.end)
+    → IsOnItsWay (walk_at b first (record i { span = record i.span { start = o.end } }) (Some o.end) more)
+on-after o way lies = record {
+  begun = omega (arith, way.begun, lies.0);
+  within = (omega (arith, lies.1), way.within.1);
+  last = omega arith;
+}
+
+-- and so it is past the span
+last-on : (last : Option ℕ) {at to : ℕ} → at ≤ to → IfSome last (λ end. end ≤ at) → IfSome last (λ end. end ≤ to)
+last-on None le h = h
+last-on (Some l) le h = omega (arith, le, h)
+
+pub on-past : {b : Built} {first : ℕ} {i : Asked} {last : Option ℕ} {sums more : Steps} → i.span.start ≤ i.span.end
+    → IsOnItsWay (walk_at b first i last sums)
+    → IsOnItsWay (walk_at b first (record i { span = record i.span { start = i.span.end + 1 } }) last more)
+on-past {last} ordered way = record {
+  begun = omega (arith, way.begun, ordered);
+  within = (omega arith, way.within.1);
+  last = last-on last (omega (arith, ordered)) way.last;
+}
 
 -- nothing is found past the end of a span
 pub best-past : (kind : MatchKind) {s : Search} → s.end < s.start → IsBest kind s None

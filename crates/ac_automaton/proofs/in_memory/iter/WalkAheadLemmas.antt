@@ -13,11 +13,11 @@ use Rattle.ac_input.specs.declared.search.MatchKind.{MatchKind}
 use Rattle.ac_automaton.specs.Ahead.{Settles, bytes_ahead, less_ahead, most_ahead}
 use Rattle.ac_automaton.specs.Automaton.{searched}
 use Rattle.ac_automaton.specs.InMemory.Find.Ahead.{IsAheadIn, ReadsAheadFrom, ended_at}
-use Rattle.ac_automaton.specs.InMemory.Iter.{CountsWalk, IsPickCost, IsPickOf, IsPickWork, IsRestOf, IsWithinBudget, IsWithinBudgetAhead, PickCounts, Walk, passed, walk_at, walk_kind}
+use Rattle.ac_automaton.specs.InMemory.Iter.{CountsWalk, IsOnItsWay, IsPickCost, IsPickOf, IsPickWork, IsRestOf, IsWithinBudget, IsWithinBudgetAhead, PickCounts, Walk, passed, walk_at, walk_kind}
 use Rattle.ac_automaton.specs.declared.ahead.Ahead.{Ahead}
 use Rattle.ac_automaton.specs.declared.automaton.Automaton.{Ghosts}
 use Rattle.ac_automaton.proofs.ahead.AheadLemmas.{ahead-within, less-added}
-use Rattle.ac_automaton.proofs.in_memory.iter.IterLemmas.{HasDone, pick-costs}
+use Rattle.ac_automaton.proofs.in_memory.iter.IterLemmas.{HasDone, on-after, on-past, pick-costs, rest-by}
 
 -- a walk that has not begun is within its budget
 pub fresh-budget : (w : Walk) → w.looked ≡ 0 → w.scanned ≡ 0 → w.moved ≡ 0 → IsWithinBudget w
@@ -266,10 +266,22 @@ module _ {S : Type 0} (A : Ghosts S) (a : S) (start : Option StateID) (first : �
             counts = all;
           }) reads
 
+  -- all that the iterator keeps of its walk
+  pub picked-kept : ReadsAheadFrom A a start asked (ended_at asked r) after → IsOnItsWay (walk_at (A.built a) first asked last sums)
+      → IsOnItsWay (walk_at (A.built a) first rest (last_pick last r) more)
+      × IsWithinBudget new × CountsWalk new
+      × ReadsAheadFrom A a start rest (min (after_pick asked r) asked.span.end) after
+      × (bytes_ahead after ≤ more.looked.value)
+  picked-kept reads way = (on r pick, picked-budget, picked-counts, picked-reads reads, less.1)
+    where
+      on : (r : Option Occurrence) → IsPickOf (A.built a) asked last r
+          → IsOnItsWay (walk_at (A.built a) first (record asked { span = record asked.span { start = after_pick asked r } })
+          (last_pick last r) more)
+      on None pick = on-past ordered way
+      on (Some o) pick = on-after o way (pick-lies pick)
+
 -- the rest of an input, by the calls that make it
 pub rest-is : (asked between left : Asked) (r : Option Occurrence) (place : ℕ) → IsRestOf asked between
     → left ≡ record between { span = record between.span { start = place } } → place ≡ after_pick asked r
     → left ≡ record asked { span = record asked.span { start = after_pick asked r } }
-rest-is asked between left r place rest is there =
-    is ∙ ap (λ (i : Asked). record i { span = record i.span { start = place } }) rest
-    ∙ ap (λ n. record asked { span = record asked.span { start = n } }) there
+rest-is asked between left r place rest is there = rest-by asked between left place rest is there

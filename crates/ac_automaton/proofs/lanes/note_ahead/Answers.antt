@@ -1,4 +1,5 @@
 -- What four lanes note, a search takes.
+use Rattle.std.proofs.lemmas.Grind.{common_steps}
 use Rattle.std.proofs.Common.{◌<◌, ◌*◌, ◌-◌, ◌+◌, [], length, arith, refl, subst, sym}
 use Rattle.ac_input.specs.declared.search.Anchored.TheVariants.{No}
 use Rattle.ac_automaton.specs.Ahead.{CutBytes, IsLaneCut, ReadsAheadBy, is_up_to}
@@ -61,3 +62,42 @@ returns-clause-reads g c =
     (λ kind byte small is. record { only = may.frees kind byte small is; quiet = may.quiet c.args.start past })
     (λ byte small is. record { small = small; is = is; state = refl; quiet = may.quiet c.args.start past })
     c.in-Some.ensures lanes.noted lanes.all lanes.read)
+
+pub returns-then-as_u32-clause-few : goal.returns-then-as_u32-clause-few
+returns-then-as_u32-clause-few g c = grind (arith, common_steps)
+
+pub begin-requires : goal.begin-requires
+begin-requires g c = grind (arith, common_steps)
+
+pub returns-in_default-clause-few : goal.returns-in_default-clause-few
+returns-in_default-clause-few g c = grind (arith, common_steps)
+
+pub read_lanes-lanes-requires-clause-may : goal.read_lanes-lanes-requires-clause-may
+read_lanes-lanes-requires-clause-may g c = grind (arith, common_steps)
+
+pub read_lanes-lanes-requires-clause-anew : goal.read_lanes-lanes-requires-clause-anew
+read_lanes-lanes-requires-clause-anew g c = grind (arith, common_steps)
+
+pub read_lanes-lanes-requires-clause-begun : goal.read_lanes-lanes-requires-clause-begun
+read_lanes-lanes-requires-clause-begun g c = grind (arith, common_steps)
+
+pub read_lanes-lanes-requires-clause-apart : goal.read_lanes-lanes-requires-clause-apart
+read_lanes-lanes-requires-clause-apart g c = grind (arith, common_steps)
+
+pub gather-requires-clause-first : goal.gather-requires-clause-first
+gather-requires-clause-first g c = grind (arith, common_steps)
+
+pub gather-requires-clause-made : goal.gather-requires-clause-made
+gather-requires-clause-made g c = grind (arith, common_steps)
+
+pub gather-requires-clause-apart : goal.gather-requires-clause-apart
+gather-requires-clause-apart g c = grind (arith, common_steps)
+
+pub overflow_sub-result : goal.overflow_sub-result
+overflow_sub-result g c = grind (arith, common_steps)
+
+pub overflow_mul-result : goal.overflow_mul-result
+overflow_mul-result g c = grind (arith, common_steps)
+
+pub returns-clause-few : goal.returns-clause-few
+returns-clause-few g c = grind (arith, common_steps)

@@ -47,3 +47,21 @@ returns-then-last-start-2-clause-last c = grind (arith, common_steps)
 
 pub returns-then-last-start-clause-masked : goal.returns-then-last-start-clause-masked
 returns-then-last-start-clause-masked c = grind (arith, common_steps)
+
+pub slice_bounds-fill-count : goal.slice_bounds-fill-count
+slice_bounds-fill-count c = grind (arith, common_steps)
+
+pub slice_bounds-fill-start : goal.slice_bounds-fill-start
+slice_bounds-fill-start c = grind (arith, common_steps)
+
+pub slice_bounds-fill-end : goal.slice_bounds-fill-end
+slice_bounds-fill-end c = grind (arith, common_steps)
+
+pub slice_bounds-fill-count-2 : goal.slice_bounds-fill-count-2
+slice_bounds-fill-count-2 c = grind (arith, common_steps)
+
+pub slice_bounds-fill-start-2 : goal.slice_bounds-fill-start-2
+slice_bounds-fill-start-2 c = grind (arith, common_steps)
+
+pub slice_bounds-fill-end-2 : goal.slice_bounds-fill-end-2
+slice_bounds-fill-end-2 c = grind (arith, common_steps)

@@ -225,3 +225,18 @@ overflow_add-read g c = grind (arith, common_steps)
 
 pub returns-clause-masks : goal.returns-clause-masks
 returns-clause-masks g c = grind (arith, common_steps)
+
+pub overflow_sub-bytes : goal.overflow_sub-bytes
+overflow_sub-bytes g c = grind (arith, common_steps)
+
+pub overflow_add-from : goal.overflow_add-from
+overflow_add-from g c = grind (arith, common_steps)
+
+pub advance_to_match-stop-requires-clause-ahead : goal.advance_to_match-stop-requires-clause-ahead
+advance_to_match-stop-requires-clause-ahead g c = grind (arith, common_steps)
+
+pub mask_longest-last-requires-clause-matches : goal.mask_longest-last-requires-clause-matches
+mask_longest-last-requires-clause-matches g c = grind (arith, common_steps)
+
+pub mask_longest-last-requires-clause-last : goal.mask_longest-last-requires-clause-last
+mask_longest-last-requires-clause-last g c = grind (arith, common_steps)

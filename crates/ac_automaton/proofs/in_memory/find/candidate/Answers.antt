@@ -83,3 +83,12 @@ returns-else-eq-clause-work g c = grind (arith, common_steps)
 
 pub returns-then-eq-clause-work : goal.returns-then-eq-clause-work
 returns-then-eq-clause-work g c = grind (arith, common_steps)
+
+pub find_in_counted-requires-clause-ordered : goal.find_in_counted-requires-clause-ordered
+find_in_counted-requires-clause-ordered g c = grind (arith, common_steps)
+
+pub find_in_counted-requires-clause-within : goal.find_in_counted-requires-clause-within
+find_in_counted-requires-clause-within g c = grind (arith, common_steps)
+
+pub returns-in-None-clause-work : goal.returns-in-None-clause-work
+returns-in-None-clause-work g c = grind (arith, common_steps)

@@ -142,3 +142,12 @@ is_dead-requires g c = grind (arith, common_steps)
 
 pub returns-then-is_back-clause-free : goal.returns-then-is_back-clause-free
 returns-then-is_back-clause-free g c = grind (arith, common_steps)
+
+pub match_at-requires : goal.match_at-requires
+match_at-requires g c = grind (arith, common_steps)
+
+pub returns-then-won-clause-free : goal.returns-then-won-clause-free
+returns-then-won-clause-free g c = grind (arith, common_steps)
+
+pub loop-best-smaller : goal.loop-best-smaller
+loop-best-smaller g c = grind (arith, common_steps)

@@ -1,4 +1,5 @@
 -- Each call of the closure extends the chain by one.
+use Rattle.std.proofs.lemmas.Grind.{common_steps}
 use Rattle.std.proofs.Common.{◌≡◌, ◌∷◌, drop, refl, ap, ◌∙◌, arith, Ok}
 use Rattle.std.proofs.lemmas.List.{take_rest}
 use Rattle.std.proofs.lemmas.Result.{err_from_is_err_and}
@@ -89,3 +90,42 @@ returns g c = (
   comes-to_end _ _ _ _ _ _ _ _ _ c.loop-found.invariant.comes c.in_default.ensures.steps.0
       c.in_ok-extend_from_slice-3.ensures.items (take_rest c.args.haystack.now c.loop-found.at),
 )
+
+pub returns-in_err-matches : goal.returns-in_err-matches
+returns-in_err-matches g c = grind (arith, common_steps)
+
+pub slice_bounds-extend_from_slice-count : goal.slice_bounds-extend_from_slice-count
+slice_bounds-extend_from_slice-count g c = grind (arith, common_steps)
+
+pub slice_bounds-extend_from_slice-start : goal.slice_bounds-extend_from_slice-start
+slice_bounds-extend_from_slice-start g c = grind (arith, common_steps)
+
+pub slice_bounds-extend_from_slice-end : goal.slice_bounds-extend_from_slice-end
+slice_bounds-extend_from_slice-end g c = grind (arith, common_steps)
+
+pub returns-in_err-extend_from_slice : goal.returns-in_err-extend_from_slice
+returns-in_err-extend_from_slice g c = grind (arith, common_steps)
+
+pub slice_bounds-replace_with-count : goal.slice_bounds-replace_with-count
+slice_bounds-replace_with-count g c = grind (arith, common_steps)
+
+pub slice_bounds-replace_with-start : goal.slice_bounds-replace_with-start
+slice_bounds-replace_with-start g c = grind (arith, common_steps)
+
+pub slice_bounds-replace_with-end : goal.slice_bounds-replace_with-end
+slice_bounds-replace_with-end g c = grind (arith, common_steps)
+
+pub loop-found-smaller : goal.loop-found-smaller
+loop-found-smaller g c = grind (arith, common_steps)
+
+pub slice_bounds-extend_from_slice-count-2 : goal.slice_bounds-extend_from_slice-count-2
+slice_bounds-extend_from_slice-count-2 g c = grind (arith, common_steps)
+
+pub slice_bounds-extend_from_slice-start-2 : goal.slice_bounds-extend_from_slice-start-2
+slice_bounds-extend_from_slice-start-2 g c = grind (arith, common_steps)
+
+pub slice_bounds-extend_from_slice-end-2 : goal.slice_bounds-extend_from_slice-end-2
+slice_bounds-extend_from_slice-end-2 g c = grind (arith, common_steps)
+
+pub returns-in_err-extend_from_slice-3 : goal.returns-in_err-extend_from_slice-3
+returns-in_err-extend_from_slice-3 g c = grind (arith, common_steps)

@@ -77,3 +77,36 @@ returns-clause-cost g c x is stands = (c.loop-place.invariant.cost x is stands).
 
 pub read_on-requires-clause-stands : goal.read_on-requires-clause-stands
 read_on-requires-clause-stands g c = grind (arith, common_steps)
+
+pub overflow_add-end : goal.overflow_add-end
+overflow_add-end g c = grind (arith, common_steps)
+
+pub overflow_sub-begun : goal.overflow_sub-begun
+overflow_sub-begun g c = grind (arith, common_steps)
+
+pub loop-place-init : goal.loop-place-init
+loop-place-init g c = grind (arith, common_steps)
+
+pub mask_word-last-requires-clause-standard : goal.mask_word-last-requires-clause-standard
+mask_word-last-requires-clause-standard g c = grind (arith, common_steps)
+
+pub mask_word-last-requires-clause-near : goal.mask_word-last-requires-clause-near
+mask_word-last-requires-clause-near g c = grind (arith, common_steps)
+
+pub mask_word-last-requires-clause-last : goal.mask_word-last-requires-clause-last
+mask_word-last-requires-clause-last g c = grind (arith, common_steps)
+
+pub mask_word-last-requires-clause-may : goal.mask_word-last-requires-clause-may
+mask_word-last-requires-clause-may g c = grind (arith, common_steps)
+
+pub read_on-requires-clause-standard : goal.read_on-requires-clause-standard
+read_on-requires-clause-standard g c = grind (arith, common_steps)
+
+pub read_on-requires-clause-fits : goal.read_on-requires-clause-fits
+read_on-requires-clause-fits g c = grind (arith, common_steps)
+
+pub read_on-requires-clause-held : goal.read_on-requires-clause-held
+read_on-requires-clause-held g c = grind (arith, common_steps)
+
+pub loop-place-smaller : goal.loop-place-smaller
+loop-place-smaller g c = grind (arith, common_steps)

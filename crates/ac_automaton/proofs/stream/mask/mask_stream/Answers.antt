@@ -1,5 +1,6 @@
 -- A stream that can be masked is masked to its end; another one is left alone.
-use Rattle.std.proofs.Common.{ap, subst}
+use Rattle.std.proofs.lemmas.Grind.{common_steps}
+use Rattle.std.proofs.Common.{ap, subst, arith}
 use Rattle.std.proofs.lemmas.Result.{err_from_is_err_and}
 use Rattle.ac_automaton.specs.Stream.Mask.{WritesMasked}
 use Rattle.ac_automaton.proofs.stream.StreamMaskEndLemmas.{begun-accepts, begun-masked, refused-costs, refused-masked}
@@ -39,3 +40,18 @@ returns-clause-accepted g c =
     let a = c.args.automaton.now in
     begun-accepts (g.A.Automaton.built a) (g.A.Automaton.supports a) c.mask_to_end.result c.in_ok-stream.ensures.0
     c.mask_to_end.ensures.begun
+
+pub returns-in_err-stream-clause-accepted : goal.returns-in_err-stream-clause-accepted
+returns-in_err-stream-clause-accepted g c = grind (arith, common_steps)
+
+pub mask_to_end-requires-clause-fresh : goal.mask_to_end-requires-clause-fresh
+mask_to_end-requires-clause-fresh g c = grind (arith, common_steps)
+
+pub mask_to_end-requires-clause-course : goal.mask_to_end-requires-clause-course
+mask_to_end-requires-clause-course g c = grind (arith, common_steps)
+
+pub mask_to_end-requires-clause-open : goal.mask_to_end-requires-clause-open
+mask_to_end-requires-clause-open g c = grind (arith, common_steps)
+
+pub returns-clause-cost : goal.returns-clause-cost
+returns-clause-cost g c = grind (arith, common_steps)

@@ -124,3 +124,6 @@ loop-item-smaller g c = grind (arith, common_steps)
 
 pub pass-requires : goal.pass-requires
 pass-requires g c = grind (arith, common_steps)
+
+pub between-matched-requires : goal.between-matched-requires
+between-matched-requires g c = grind (arith, common_steps)

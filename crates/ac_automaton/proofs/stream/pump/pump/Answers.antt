@@ -185,3 +185,27 @@ pass_decided-requires-2-clause-placed g c = grind (arith, common_steps)
 
 pub pass_decided-requires-clause-placed : goal.pass_decided-requires-clause-placed
 pass_decided-requires-clause-placed g c = grind (arith, common_steps)
+
+pub read_on-requires-clause-open : goal.read_on-requires-clause-open
+read_on-requires-clause-open g c = grind (arith, common_steps)
+
+pub read_on-requires-clause-unclosed : goal.read_on-requires-clause-unclosed
+read_on-requires-clause-unclosed g c = grind (arith, common_steps)
+
+pub read_on-requires-clause-searched : goal.read_on-requires-clause-searched
+read_on-requires-clause-searched g c = grind (arith, common_steps)
+
+pub pass_decided-requires-clause-ready : goal.pass_decided-requires-clause-ready
+pass_decided-requires-clause-ready g c = grind (arith, common_steps)
+
+pub close-requires : goal.close-requires
+close-requires g c = grind (arith, common_steps)
+
+pub pass_decided-requires-2-clause-ready : goal.pass_decided-requires-2-clause-ready
+pass_decided-requires-2-clause-ready g c = grind (arith, common_steps)
+
+pub end-requires : goal.end-requires
+end-requires g c = grind (arith, common_steps)
+
+pub between-requires : goal.between-requires
+between-requires g c = grind (arith, common_steps)

@@ -266,3 +266,27 @@ advance_to_match-stop-requires-clause-within g c = grind (arith, common_steps)
 
 pub overflow_add-progress : goal.overflow_add-progress
 overflow_add-progress g c = grind (arith, common_steps)
+
+pub overflow_sub-from : goal.overflow_sub-from
+overflow_sub-from g c = grind (arith, common_steps)
+
+pub advance_to_match-stop-requires-clause-ahead : goal.advance_to_match-stop-requires-clause-ahead
+advance_to_match-stop-requires-clause-ahead g c = grind (arith, common_steps)
+
+pub first_match-found-requires-clause-matches : goal.first_match-found-requires-clause-matches
+first_match-found-requires-clause-matches g c = grind (arith, common_steps)
+
+pub decide-decided-requires-clause-met : goal.decide-decided-requires-clause-met
+decide-decided-requires-clause-met g c = grind (arith, common_steps)
+
+pub returns-then-may_wait-clause-once : goal.returns-then-may_wait-clause-once
+returns-then-may_wait-clause-once g c = grind (arith, common_steps)
+
+pub returns-then-is_match-clause-once : goal.returns-then-is_match-clause-once
+returns-then-is_match-clause-once g c = grind (arith, common_steps)
+
+pub returns-then-is_start-clause-once : goal.returns-then-is_start-clause-once
+returns-then-is_start-clause-once g c = grind (arith, common_steps)
+
+pub returns-clause-once : goal.returns-clause-once
+returns-clause-once g c = grind (arith, common_steps)

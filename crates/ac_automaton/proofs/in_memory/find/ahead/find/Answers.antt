@@ -108,3 +108,18 @@ returns-clause-ahead g c =
 
 pub overflow_add-at : goal.overflow_add-at
 overflow_add-at g c = grind (arith, common_steps)
+
+pub returns-then-start-end-clause-ahead : goal.returns-then-start-end-clause-ahead
+returns-then-start-end-clause-ahead g c = grind (arith, common_steps)
+
+pub slice_bounds-bytes-end : goal.slice_bounds-bytes-end
+slice_bounds-bytes-end g c = grind (arith, common_steps)
+
+pub advance_to_match-stop-requires-clause-ahead : goal.advance_to_match-stop-requires-clause-ahead
+advance_to_match-stop-requires-clause-ahead g c = grind (arith, common_steps)
+
+pub first_match-requires-clause-reads : goal.first_match-requires-clause-reads
+first_match-requires-clause-reads g c = grind (arith, common_steps)
+
+pub first_match-requires-clause-matches : goal.first_match-requires-clause-matches
+first_match-requires-clause-matches g c = grind (arith, common_steps)

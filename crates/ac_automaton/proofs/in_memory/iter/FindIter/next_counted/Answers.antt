@@ -1,16 +1,27 @@
 -- The next pick of the rest of the input is the walk's next pick.
-use Rattle.std.proofs.Common.{rules, arith}
+use Rattle.std.proofs.Common.{rules, ◌+◌, ap, ◌∙◌, arith}
 use Rattle.std.proofs.lemmas.Grind.{common_steps}
-use Rattle.ac_automaton.proofs.in_memory.iter.IterLemmas.{idle-cost, pick-costs, pick-of_walk}
+use Rattle.ac_automaton.proofs.in_memory.iter.IterLemmas.{given-none, given-some, idle-cost, pick-costs, pick-of_walk, rest-by}
 use Rattle.ac_automaton.proofs.in_memory.iter.FindIter.next_counted.Goals as goal
 
 pub returns-in-Some-clause-gives : goal.returns-in-Some-clause-gives
 returns-in-Some-clause-gives g c =
-    (pick-of_walk c.self.view_is c.next_pick-found.ensures.pick, search rules)
+    let picked = c.next_pick-found.ensures in (
+      pick-of_walk c.self.view_is picked.pick,
+      given-some c.add-2.new.self c.self.view_is c.in-Some.is
+          (rest-by c.self.inside.input c.next_pick-found.new.input c.set_start.new.self c.end.result picked.asked
+          c.set_start.ensures c.end.ensures.value) c.end-in-Some.ensures.value,
+    )
 
 pub returns-in-None-clause-gives : goal.returns-in-None-clause-gives
 returns-in-None-clause-gives g c =
-    (pick-of_walk c.self.view_is c.next_pick-found.ensures.pick, search rules)
+    let picked = c.next_pick-found.ensures in (
+      pick-of_walk c.self.view_is picked.pick,
+      given-none c.add-2.new.self c.self.view_is c.in-None.is
+          (rest-by c.self.inside.input c.next_pick-found.new.input c.set_start-in-None.new.self _ picked.asked
+          c.set_start-in-None.ensures
+          (ap (λ n. n + 1) (c.end-in-None.ensures.value ∙ ap (λ input. input.span.end) picked.asked))),
+    )
 
 pub returns-in-Some-clause-cost : goal.returns-in-Some-clause-cost
 returns-in-Some-clause-cost g c =

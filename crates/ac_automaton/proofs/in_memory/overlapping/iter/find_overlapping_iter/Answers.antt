@@ -1,4 +1,5 @@
 -- The run begins with all of the listing of its input left.
+use Rattle.std.proofs.lemmas.Grind.{common_steps}
 use Rattle.std.proofs.Common.{◌≡◌, rules, arith}
 use Rattle.ac_input.specs.declared.search.Anchored.TheVariants.{No}
 use Rattle.ac_automaton.specs.Ahead.{less_ahead}
@@ -48,3 +49,21 @@ pub returns-in-No-clause-lie : goal.returns-in-No-clause-lie
 returns-in-No-clause-lie g c =
     listing-lies (g.A.Automaton.built c.args.automaton.now) c.args.input
     (fresh g (goal.at.returns-in-No-clause-lie g c).After-none) (search rules) (search rules)
+
+pub returns-in_err-beginning-clause-answer : goal.returns-in_err-beginning-clause-answer
+returns-in_err-beginning-clause-answer g c = grind (arith, common_steps)
+
+pub returns-in_err-beginning-clause-few : goal.returns-in_err-beginning-clause-few
+returns-in_err-beginning-clause-few g c = grind (arith, common_steps)
+
+pub returns-in_err-beginning-clause-lie : goal.returns-in_err-beginning-clause-lie
+returns-in_err-beginning-clause-lie g c = grind (arith, common_steps)
+
+pub usable_prefilter-requires : goal.usable_prefilter-requires
+usable_prefilter-requires g c = grind (arith, common_steps)
+
+pub returns-in-Yes-clause-answer : goal.returns-in-Yes-clause-answer
+returns-in-Yes-clause-answer g c = grind (arith, common_steps)
+
+pub returns-in-No-clause-answer : goal.returns-in-No-clause-answer
+returns-in-No-clause-answer g c = grind (arith, common_steps)

@@ -1,4 +1,5 @@
 -- The occurrences that end later are found by a walk, or by candidates.
+use Rattle.std.proofs.lemmas.Grind.{common_steps}
 use Rattle.std.proofs.Common.{ℕ, ◌+◌, ◌-◌, [], ap, subst, sym, ◌∙◌, arith}
 use Rattle.ac_input.specs.Input.{search_of}
 use Rattle.ac_input.specs.Occurrence.{starting_at}
@@ -58,3 +59,24 @@ returns-in-Idle-clause-counts g c =
     let walked = walk-counts filter (c.in-Idle.at - c.args.cursor.at) c.args.steps.now c.read_to_start.new.steps
     back.only.scanned back.looks in
     counted-join filter _ _ _ _ _ _ (omega arith) walked c.search_by_candidates-in-Idle.ensures.counts
+
+pub usable_prefilter-prefilter-requires : goal.usable_prefilter-prefilter-requires
+usable_prefilter-prefilter-requires g c = grind (arith, common_steps)
+
+pub search_by_candidates-requires : goal.search_by_candidates-requires
+search_by_candidates-requires g c = grind (arith, common_steps)
+
+pub returns-then-cursor-clause-counts : goal.returns-then-cursor-clause-counts
+returns-then-cursor-clause-counts g c = grind (arith, common_steps)
+
+pub read_to_start-requires : goal.read_to_start-requires
+read_to_start-requires g c = grind (arith, common_steps)
+
+pub search_by_candidates-requires-in-Idle : goal.search_by_candidates-requires-in-Idle
+search_by_candidates-requires-in-Idle g c = grind (arith, common_steps)
+
+pub returns-in-Found-clause-shows : goal.returns-in-Found-clause-shows
+returns-in-Found-clause-shows g c = grind (arith, common_steps)
+
+pub returns-in-Idle-clause-shows : goal.returns-in-Idle-clause-shows
+returns-in-Idle-clause-shows g c = grind (arith, common_steps)

@@ -43,3 +43,6 @@ pattern_len-requires g c = grind (arith, common_steps)
 
 pub match_pattern-pattern-requires-clause-valid : goal.match_pattern-pattern-requires-clause-valid
 match_pattern-pattern-requires-clause-valid g c = grind (arith, common_steps)
+
+pub new-requires : goal.new-requires
+new-requires g c = grind (arith, common_steps)

@@ -56,3 +56,12 @@ returns-clause-ahead g c =
 
 pub overflow_add-result : goal.overflow_add-result
 overflow_add-result g c = grind (arith, common_steps)
+
+pub overflow_sub-from : goal.overflow_sub-from
+overflow_sub-from g c = grind (arith, common_steps)
+
+pub returns-then-from-held-clause-ahead : goal.returns-then-from-held-clause-ahead
+returns-then-from-held-clause-ahead g c = grind (arith, common_steps)
+
+pub advance_to_match-stop-requires-clause-ahead : goal.advance_to_match-stop-requires-clause-ahead
+advance_to_match-stop-requires-clause-ahead g c = grind (arith, common_steps)

@@ -106,3 +106,36 @@ overflow_sub-held g c = grind (arith, common_steps)
 
 pub returns-clause-steps : goal.returns-clause-steps
 returns-clause-steps g c = grind (arith, common_steps)
+
+pub forget-requires : goal.forget-requires
+forget-requires g c = grind (arith, common_steps)
+
+pub fill-requires-clause-open : goal.fill-requires-clause-open
+fill-requires-clause-open g c = grind (arith, common_steps)
+
+pub returns-in-Err-clause-steps : goal.returns-in-Err-clause-steps
+returns-in-Err-clause-steps g c = grind (arith, common_steps)
+
+pub returns-in-Err-clause-from : goal.returns-in-Err-clause-from
+returns-in-Err-clause-from g c = grind (arith, common_steps)
+
+pub slice_bounds-and-count : goal.slice_bounds-and-count
+slice_bounds-and-count g c = grind (arith, common_steps)
+
+pub slice_bounds-and-start : goal.slice_bounds-and-start
+slice_bounds-and-start g c = grind (arith, common_steps)
+
+pub slice_bounds-and-end-2 : goal.slice_bounds-and-end-2
+slice_bounds-and-end-2 g c = grind (arith, common_steps)
+
+pub overflow_sub-self : goal.overflow_sub-self
+overflow_sub-self g c = grind (arith, common_steps)
+
+pub returns-then-self-clause-steps : goal.returns-then-self-clause-steps
+returns-then-self-clause-steps g c = grind (arith, common_steps)
+
+pub returns-then-self-clause-from : goal.returns-then-self-clause-from
+returns-then-self-clause-from g c = grind (arith, common_steps)
+
+pub returns-clause-from : goal.returns-clause-from
+returns-clause-from g c = grind (arith, common_steps)

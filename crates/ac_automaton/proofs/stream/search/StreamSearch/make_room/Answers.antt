@@ -45,3 +45,24 @@ returns-then-is_full-clause-counts g c = grind (arith, common_steps)
 
 pub returns-then-is_full-clause-kept : goal.returns-then-is_full-clause-kept
 returns-then-is_full-clause-kept g c = grind (arith, common_steps)
+
+pub overflow_sub-cut : goal.overflow_sub-cut
+overflow_sub-cut g c = grind (arith, common_steps)
+
+pub roll-requires-clause-full : goal.roll-requires-clause-full
+roll-requires-clause-full g c = grind (arith, common_steps)
+
+pub roll-requires-clause-from : goal.roll-requires-clause-from
+roll-requires-clause-from g c = grind (arith, common_steps)
+
+pub forget-requires : goal.forget-requires
+forget-requires g c = grind (arith, common_steps)
+
+pub same-self : goal.same-self
+same-self g c = grind (arith, common_steps)
+
+pub returns-else-is_full-clause-same : goal.returns-else-is_full-clause-same
+returns-else-is_full-clause-same g c = grind (arith, common_steps)
+
+pub returns-else-is_full-clause-kept : goal.returns-else-is_full-clause-kept
+returns-else-is_full-clause-kept g c = grind (arith, common_steps)

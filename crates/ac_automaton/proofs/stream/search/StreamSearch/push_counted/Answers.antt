@@ -36,3 +36,30 @@ returns-then-is_empty-clause-goes g c =
 
 pub returns-clause-pushes : goal.returns-clause-pushes
 returns-clause-pushes g c = grind (arith, common_steps)
+
+pub same-self : goal.same-self
+same-self g c = grind (arith, common_steps)
+
+pub same-self-then-is_empty : goal.same-self-then-is_empty
+same-self-then-is_empty g c = grind (arith, common_steps)
+
+pub same-self-else-is_empty : goal.same-self-else-is_empty
+same-self-else-is_empty g c = grind (arith, common_steps)
+
+pub make_room-requires : goal.make_room-requires
+make_room-requires g c = grind (arith, common_steps)
+
+pub append-requires-clause-some : goal.append-requires-clause-some
+append-requires-clause-some g c = grind (arith, common_steps)
+
+pub append-requires-clause-unclosed : goal.append-requires-clause-unclosed
+append-requires-clause-unclosed g c = grind (arith, common_steps)
+
+pub append-requires-clause-searched : goal.append-requires-clause-searched
+append-requires-clause-searched g c = grind (arith, common_steps)
+
+pub append-requires-clause-room : goal.append-requires-clause-room
+append-requires-clause-room g c = grind (arith, common_steps)
+
+pub returns-clause-goes : goal.returns-clause-goes
+returns-clause-goes g c = grind (arith, common_steps)

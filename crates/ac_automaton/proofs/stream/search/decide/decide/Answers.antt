@@ -133,3 +133,21 @@ overflow_sub-at g c = grind (arith, common_steps)
 
 pub overflow_sub-at-in-loop-at : goal.overflow_sub-at-in-loop-at
 overflow_sub-at-in-loop-at g c = grind (arith, common_steps)
+
+pub slice_bounds-advance-count : goal.slice_bounds-advance-count
+slice_bounds-advance-count g c = grind (arith, common_steps)
+
+pub slice_bounds-advance-start : goal.slice_bounds-advance-start
+slice_bounds-advance-start g c = grind (arith, common_steps)
+
+pub slice_bounds-advance-end : goal.slice_bounds-advance-end
+slice_bounds-advance-end g c = grind (arith, common_steps)
+
+pub first_match-best-requires-clause-matches : goal.first_match-best-requires-clause-matches
+first_match-best-requires-clause-matches g c = grind (arith, common_steps)
+
+pub loop-at-smaller-then-is_match : goal.loop-at-smaller-then-is_match
+loop-at-smaller-then-is_match g c = grind (arith, common_steps)
+
+pub loop-at-smaller : goal.loop-at-smaller
+loop-at-smaller g c = grind (arith, common_steps)

@@ -48,3 +48,18 @@ returns-in_err-n-clause-gave g c = grind (arith, common_steps)
 
 pub returns-in_err-n-clause-paid : goal.returns-in_err-n-clause-paid
 returns-in_err-n-clause-paid g c = grind (arith, common_steps)
+
+pub slice_bounds-read-count : goal.slice_bounds-read-count
+slice_bounds-read-count g c = grind (arith, common_steps)
+
+pub slice_bounds-read-start : goal.slice_bounds-read-start
+slice_bounds-read-start g c = grind (arith, common_steps)
+
+pub slice_bounds-read-end : goal.slice_bounds-read-end
+slice_bounds-read-end g c = grind (arith, common_steps)
+
+pub read-requires-clause-room : goal.read-requires-clause-room
+read-requires-clause-room g c = grind (arith, common_steps)
+
+pub read-requires-clause-open : goal.read-requires-clause-open
+read-requires-clause-open g c = grind (arith, common_steps)

@@ -108,3 +108,21 @@ returns-clause-kept g c = (invariant_of-self-2 g c).course
 
 pub overflow_sub-held : goal.overflow_sub-held
 overflow_sub-held g c = grind (arith, common_steps)
+
+pub fill-requires-clause-open : goal.fill-requires-clause-open
+fill-requires-clause-open g c = grind (arith, common_steps)
+
+pub returns-in-Err-clause-filled : goal.returns-in-Err-clause-filled
+returns-in-Err-clause-filled g c = grind (arith, common_steps)
+
+pub slice_bounds-and-count : goal.slice_bounds-and-count
+slice_bounds-and-count g c = grind (arith, common_steps)
+
+pub slice_bounds-and-start : goal.slice_bounds-and-start
+slice_bounds-and-start g c = grind (arith, common_steps)
+
+pub slice_bounds-and-end-2 : goal.slice_bounds-and-end-2
+slice_bounds-and-end-2 g c = grind (arith, common_steps)
+
+pub overflow_sub-self : goal.overflow_sub-self
+overflow_sub-self g c = grind (arith, common_steps)

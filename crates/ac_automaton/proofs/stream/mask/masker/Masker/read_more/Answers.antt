@@ -40,3 +40,39 @@ returns-then-n-eq0-clause-read g c =
 
 pub returns-clause-read : goal.returns-clause-read
 returns-clause-read g c = grind (arith, common_steps)
+
+pub make_room-requires-clause-unclosed : goal.make_room-requires-clause-unclosed
+make_room-requires-clause-unclosed g c = grind (arith, common_steps)
+
+pub make_room-requires-clause-masked : goal.make_room-requires-clause-masked
+make_room-requires-clause-masked g c = grind (arith, common_steps)
+
+pub fill-requires-clause-ended : goal.fill-requires-clause-ended
+fill-requires-clause-ended g c = grind (arith, common_steps)
+
+pub fill-requires-clause-open : goal.fill-requires-clause-open
+fill-requires-clause-open g c = grind (arith, common_steps)
+
+pub returns-in_err-n-clause-counts : goal.returns-in_err-n-clause-counts
+returns-in_err-n-clause-counts g c = grind (arith, common_steps)
+
+pub returns-in_err-n-clause-kept : goal.returns-in_err-n-clause-kept
+returns-in_err-n-clause-kept g c = grind (arith, common_steps)
+
+pub returns-then-n-eq0-clause-counts : goal.returns-then-n-eq0-clause-counts
+returns-then-n-eq0-clause-counts g c = grind (arith, common_steps)
+
+pub returns-then-n-eq0-clause-kept : goal.returns-then-n-eq0-clause-kept
+returns-then-n-eq0-clause-kept g c = grind (arith, common_steps)
+
+pub mask_new-requires-clause-unclosed : goal.mask_new-requires-clause-unclosed
+mask_new-requires-clause-unclosed g c = grind (arith, common_steps)
+
+pub mask_new-requires-clause-countable : goal.mask_new-requires-clause-countable
+mask_new-requires-clause-countable g c = grind (arith, common_steps)
+
+pub returns-clause-counts : goal.returns-clause-counts
+returns-clause-counts g c = grind (arith, common_steps)
+
+pub returns-clause-kept : goal.returns-clause-kept
+returns-clause-kept g c = grind (arith, common_steps)

@@ -1,5 +1,5 @@
 -- What a walk that reads ahead has cost: for the bytes that it has passed, and with what was read ahead of it.
-use Rattle.std.proofs.Common.{◌≡◌, ℕ, ◌+◌, ◌-◌, ◌*◌, ◌≤◌, min, Bool, true, false, length, Option, None, Some, sym, ap, subst, refl, ◌∙◌, arith}
+use Rattle.std.proofs.Common.{◌≡◌, ℕ, ◌+◌, ◌-◌, ◌*◌, ◌≤◌, min, Bool, true, false, length, Option, None, Some, sym, subst, refl, ◌∙◌, arith}
 use Rattle.std.proofs.lemmas.List.{length-take-le}
 use Rattle.ac_input.specs.Number.{StateID}
 use Rattle.ac_input.specs.declared.steps.Steps.{Steps}

@@ -51,3 +51,24 @@ returns-then-is_past_places-clause-gives g c = grind (arith, common_steps)
 
 pub read_on-requires-clause-searched : goal.read_on-requires-clause-searched
 read_on-requires-clause-searched g c = grind (arith, common_steps)
+
+pub returns-in-Some-clause-gives : goal.returns-in-Some-clause-gives
+returns-in-Some-clause-gives g c = grind (arith, common_steps)
+
+pub returns-in-Some-clause-goes : goal.returns-in-Some-clause-goes
+returns-in-Some-clause-goes g c = grind (arith, common_steps)
+
+pub has_closed-requires : goal.has_closed-requires
+has_closed-requires g c = grind (arith, common_steps)
+
+pub returns-then-is_past_places-clause-goes : goal.returns-then-is_past_places-clause-goes
+returns-then-is_past_places-clause-goes g c = grind (arith, common_steps)
+
+pub read_on-requires-clause-open : goal.read_on-requires-clause-open
+read_on-requires-clause-open g c = grind (arith, common_steps)
+
+pub read_on-requires-clause-unclosed : goal.read_on-requires-clause-unclosed
+read_on-requires-clause-unclosed g c = grind (arith, common_steps)
+
+pub close-requires : goal.close-requires
+close-requires g c = grind (arith, common_steps)

@@ -1,5 +1,6 @@
 -- A walk from the prefilter's candidate is one from the place that the prefilter searched from.
-use Rattle.std.proofs.Common.{ℕ, ◌-◌, ap}
+use Rattle.std.proofs.lemmas.Grind.{common_steps}
+use Rattle.std.proofs.Common.{ℕ, ◌-◌, ap, arith}
 use Rattle.ac_input.specs.Input.{is_anchored}
 use Rattle.ac_automaton.specs.Automaton.{kind_asked, prefilter_for, searched}
 use Rattle.ac_automaton.specs.InMemory.Find.{come_by}
@@ -61,3 +62,69 @@ returns-in-Idle-clause-counts g c =
     c.candidate.new.steps later.new.steps
     (walk-scans _ _ (starting_at (searched b asked) place) later.result _ _ later.ensures.work) later.ensures.looks in
     counted-join filter _ _ _ _ _ _ (come-further s place later.result) scanned walked
+
+pub walk-requires-clause-starts : goal.walk-requires-clause-starts
+walk-requires-clause-starts g c = grind (arith, common_steps)
+
+pub walk-requires-clause-from : goal.walk-requires-clause-from
+walk-requires-clause-from g c = grind (arith, common_steps)
+
+pub walk-requires-clause-to : goal.walk-requires-clause-to
+walk-requires-clause-to g c = grind (arith, common_steps)
+
+pub returns-in_default-clause-says : goal.returns-in_default-clause-says
+returns-in_default-clause-says g c = grind (arith, common_steps)
+
+pub returns-in_default-clause-free : goal.returns-in_default-clause-free
+returns-in_default-clause-free g c = grind (arith, common_steps)
+
+pub returns-in_default-clause-work : goal.returns-in_default-clause-work
+returns-in_default-clause-work g c = grind (arith, common_steps)
+
+pub walk-requires-in-Some-leaves-clause-starts : goal.walk-requires-in-Some-leaves-clause-starts
+walk-requires-in-Some-leaves-clause-starts g c = grind (arith, common_steps)
+
+pub walk-requires-in-Some-leaves-clause-from : goal.walk-requires-in-Some-leaves-clause-from
+walk-requires-in-Some-leaves-clause-from g c = grind (arith, common_steps)
+
+pub walk-requires-in-Some-leaves-clause-to : goal.walk-requires-in-Some-leaves-clause-to
+walk-requires-in-Some-leaves-clause-to g c = grind (arith, common_steps)
+
+pub returns-in-Some-leaves-clause-says : goal.returns-in-Some-leaves-clause-says
+returns-in-Some-leaves-clause-says g c = grind (arith, common_steps)
+
+pub returns-in-Some-leaves-clause-free : goal.returns-in-Some-leaves-clause-free
+returns-in-Some-leaves-clause-free g c = grind (arith, common_steps)
+
+pub returns-in-Some-leaves-clause-work : goal.returns-in-Some-leaves-clause-work
+returns-in-Some-leaves-clause-work g c = grind (arith, common_steps)
+
+pub candidate-requires-clause-made : goal.candidate-requires-clause-made
+candidate-requires-clause-made g c = grind (arith, common_steps)
+
+pub candidate-requires-clause-free : goal.candidate-requires-clause-free
+candidate-requires-clause-free g c = grind (arith, common_steps)
+
+pub candidate-requires-clause-from : goal.candidate-requires-clause-from
+candidate-requires-clause-from g c = grind (arith, common_steps)
+
+pub candidate-requires-clause-to : goal.candidate-requires-clause-to
+candidate-requires-clause-to g c = grind (arith, common_steps)
+
+pub walk-requires-in-Idle-clause-starts : goal.walk-requires-in-Idle-clause-starts
+walk-requires-in-Idle-clause-starts g c = grind (arith, common_steps)
+
+pub walk-requires-in-Idle-clause-from : goal.walk-requires-in-Idle-clause-from
+walk-requires-in-Idle-clause-from g c = grind (arith, common_steps)
+
+pub walk-requires-in-Idle-clause-to : goal.walk-requires-in-Idle-clause-to
+walk-requires-in-Idle-clause-to g c = grind (arith, common_steps)
+
+pub returns-in-Found-clause-says : goal.returns-in-Found-clause-says
+returns-in-Found-clause-says g c = grind (arith, common_steps)
+
+pub returns-in-Found-clause-free : goal.returns-in-Found-clause-free
+returns-in-Found-clause-free g c = grind (arith, common_steps)
+
+pub returns-in-Idle-clause-free : goal.returns-in-Idle-clause-free
+returns-in-Idle-clause-free g c = grind (arith, common_steps)

@@ -36,3 +36,33 @@ returns-clause-counts g c = λ some.
 
 pub best-requires : goal.best-requires
 best-requires g c = grind (arith, common_steps)
+
+pub best-found-requires : goal.best-found-requires
+best-found-requires g c = grind (arith, common_steps)
+
+pub returns-then-not-repeats-clause-pick : goal.returns-then-not-repeats-clause-pick
+returns-then-not-repeats-clause-pick g c = grind (arith, common_steps)
+
+pub returns-then-not-repeats-clause-asked : goal.returns-then-not-repeats-clause-asked
+returns-then-not-repeats-clause-asked g c = grind (arith, common_steps)
+
+pub returns-then-not-repeats-clause-work : goal.returns-then-not-repeats-clause-work
+returns-then-not-repeats-clause-work g c = grind (arith, common_steps)
+
+pub returns-then-not-repeats-clause-counts : goal.returns-then-not-repeats-clause-counts
+returns-then-not-repeats-clause-counts g c = grind (arith, common_steps)
+
+pub returns-then-start-end-clause-asked : goal.returns-then-start-end-clause-asked
+returns-then-start-end-clause-asked g c = grind (arith, common_steps)
+
+pub returns-then-start-end-clause-work : goal.returns-then-start-end-clause-work
+returns-then-start-end-clause-work g c = grind (arith, common_steps)
+
+pub overflow_add-start : goal.overflow_add-start
+overflow_add-start g c = grind (arith, common_steps)
+
+pub set_start-requires : goal.set_start-requires
+set_start-requires g c = grind (arith, common_steps)
+
+pub returns-clause-asked : goal.returns-clause-asked
+returns-clause-asked g c = grind (arith, common_steps)

@@ -43,3 +43,24 @@ returns-clause-cost g c =
 
 pub mask_words_from-requires-clause-may : goal.mask_words_from-requires-clause-may
 mask_words_from-requires-clause-may g c = grind (arith, common_steps)
+
+pub returns-in_err-start-clause-masked : goal.returns-in_err-start-clause-masked
+returns-in_err-start-clause-masked g c = grind (arith, common_steps)
+
+pub returns-in_err-start-clause-cost : goal.returns-in_err-start-clause-cost
+returns-in_err-start-clause-cost g c = grind (arith, common_steps)
+
+pub returns-in_err-copy-clause-masked : goal.returns-in_err-copy-clause-masked
+returns-in_err-copy-clause-masked g c = grind (arith, common_steps)
+
+pub returns-in_err-copy-clause-cost : goal.returns-in_err-copy-clause-cost
+returns-in_err-copy-clause-cost g c = grind (arith, common_steps)
+
+pub mask_words_from-requires-clause-standard : goal.mask_words_from-requires-clause-standard
+mask_words_from-requires-clause-standard g c = grind (arith, common_steps)
+
+pub mask_words_from-requires-clause-fits : goal.mask_words_from-requires-clause-fits
+mask_words_from-requires-clause-fits g c = grind (arith, common_steps)
+
+pub mask_words_from-requires-clause-near : goal.mask_words_from-requires-clause-near
+mask_words_from-requires-clause-near g c = grind (arith, common_steps)

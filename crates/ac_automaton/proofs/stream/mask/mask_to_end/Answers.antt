@@ -120,3 +120,15 @@ returns-clause-begun g c =
 
 pub returns-in_err-write_whole-clause-cost : goal.returns-in_err-write_whole-clause-cost
 returns-in_err-write_whole-clause-cost g c = grind (arith, common_steps)
+
+pub read_more-requires-clause-open : goal.read_more-requires-clause-open
+read_more-requires-clause-open g c = grind (arith, common_steps)
+
+pub read_more-requires-clause-unclosed : goal.read_more-requires-clause-unclosed
+read_more-requires-clause-unclosed g c = grind (arith, common_steps)
+
+pub read_more-requires-clause-masked : goal.read_more-requires-clause-masked
+read_more-requires-clause-masked g c = grind (arith, common_steps)
+
+pub read_more-requires-clause-countable : goal.read_more-requires-clause-countable
+read_more-requires-clause-countable g c = grind (arith, common_steps)

@@ -1,5 +1,6 @@
 -- Both buffers are allocated first, and then the matches are pumped.
-use Rattle.std.proofs.Common.{map, refl}
+use Rattle.std.proofs.lemmas.Grind.{common_steps}
+use Rattle.std.proofs.Common.{map, refl, arith}
 use Rattle.std.proofs.lemmas.Result.{err_from_is_err_and}
 use Rattle.ac_automaton.specs.Stream.SinkLaws.{replacing-piecewise}
 use Rattle.ac_automaton.specs.Stream.Texts.{replacing}
@@ -52,3 +53,21 @@ returns-clause-cost g c =
     (g.A.Automaton.built c.args.automaton.now) (g.A.Automaton.supports c.args.automaton.now) c.args.reader.now
     c.pump_matches.new.reader (c.pump_matches.new.sink, c.pump_matches.new.writer) c.args.steps.now
     c.pump_matches.new.steps c.pump_matches.result c.pump_matches.ensures
+
+pub returns-in_err-configured-clause-accepted : goal.returns-in_err-configured-clause-accepted
+returns-in_err-configured-clause-accepted g c = grind (arith, common_steps)
+
+pub returns-in_err-output-clause-accepted : goal.returns-in_err-output-clause-accepted
+returns-in_err-output-clause-accepted g c = grind (arith, common_steps)
+
+pub pump_matches-requires-clause-open : goal.pump_matches-requires-clause-open
+pump_matches-requires-clause-open g c = grind (arith, common_steps)
+
+pub pump_matches-requires-clause-ready : goal.pump_matches-requires-clause-ready
+pump_matches-requires-clause-ready g c = grind (arith, common_steps)
+
+pub pump_matches-requires-clause-settled : goal.pump_matches-requires-clause-settled
+pump_matches-requires-clause-settled g c = grind (arith, common_steps)
+
+pub returns-clause-accepted : goal.returns-clause-accepted
+returns-clause-accepted g c = grind (arith, common_steps)

@@ -1,5 +1,6 @@
 -- Both buffers are allocated first, and then the words are pumped.
-use Rattle.std.proofs.Common.{map, refl}
+use Rattle.std.proofs.lemmas.Grind.{common_steps}
+use Rattle.std.proofs.Common.{map, refl, arith}
 use Rattle.std.proofs.lemmas.Result.{err_from_is_err_and}
 use Rattle.ac_automaton.specs.Stream.SinkLaws.{replacing-piecewise}
 use Rattle.ac_automaton.specs.Stream.Texts.{replacing}
@@ -57,3 +58,21 @@ returns-clause-cost g c =
     (g.A.Automaton.built c.args.automaton.now) (g.A.Automaton.supports c.args.automaton.now) c.args.reader.now
     c.pump_words.new.reader (c.pump_words.new.sink, c.pump_words.new.writer) c.args.steps.now
     c.pump_words.new.steps c.pump_words.result c.pump_words.ensures
+
+pub returns-in_err-configured-clause-accepted : goal.returns-in_err-configured-clause-accepted
+returns-in_err-configured-clause-accepted g c = grind (arith, common_steps)
+
+pub returns-in_err-output-clause-accepted : goal.returns-in_err-output-clause-accepted
+returns-in_err-output-clause-accepted g c = grind (arith, common_steps)
+
+pub pump_words-requires-clause-open : goal.pump_words-requires-clause-open
+pump_words-requires-clause-open g c = grind (arith, common_steps)
+
+pub pump_words-requires-clause-ready : goal.pump_words-requires-clause-ready
+pump_words-requires-clause-ready g c = grind (arith, common_steps)
+
+pub pump_words-requires-clause-settled : goal.pump_words-requires-clause-settled
+pump_words-requires-clause-settled g c = grind (arith, common_steps)
+
+pub returns-clause-accepted : goal.returns-clause-accepted
+returns-clause-accepted g c = grind (arith, common_steps)

@@ -42,3 +42,12 @@ returns-clause-ahead g c =
 
 pub overflow_add-result : goal.overflow_add-result
 overflow_add-result g c = grind (arith, common_steps)
+
+pub slice_bounds-bytes-end : goal.slice_bounds-bytes-end
+slice_bounds-bytes-end g c = grind (arith, common_steps)
+
+pub advance_to_match-stop-requires-clause-ahead : goal.advance_to_match-stop-requires-clause-ahead
+advance_to_match-stop-requires-clause-ahead g c = grind (arith, common_steps)
+
+pub returns-clause-from : goal.returns-clause-from
+returns-clause-from g c = grind (arith, common_steps)

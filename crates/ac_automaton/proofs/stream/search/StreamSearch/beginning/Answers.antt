@@ -1,4 +1,6 @@
 -- A search that has read nothing stands in the start state, and its buffer holds nothing.
+use Rattle.std.proofs.lemmas.Grind.{common_steps}
+use Rattle.std.proofs.Common.{arith}
 use Rattle.ac_input.specs.declared.search.Anchored.TheVariants.{No}
 use Rattle.ac_automaton.proofs.stream.StreamAheadLemmas.{fresh-kept}
 use Rattle.ac_automaton.proofs.stream.StreamSearchLemmas.{fresh-right, fresh-view}
@@ -24,3 +26,12 @@ returns-clause-fresh g c =
 
 pub returns-clause-kept : goal.returns-clause-kept
 returns-clause-kept g c = (invariant_of-result g c).0
+
+pub returns-in_err-buffer-clause-fresh : goal.returns-in_err-buffer-clause-fresh
+returns-in_err-buffer-clause-fresh g c = grind (arith, common_steps)
+
+pub returns-in_err-buffer-clause-kept : goal.returns-in_err-buffer-clause-kept
+returns-in_err-buffer-clause-kept g c = grind (arith, common_steps)
+
+pub returns-in_err-buffer-clause-error : goal.returns-in_err-buffer-clause-error
+returns-in_err-buffer-clause-error g c = grind (arith, common_steps)

@@ -1,5 +1,6 @@
 -- The next match of the bytes read is the next of the search over the held bytes.
-use Rattle.std.proofs.Common.{subst}
+use Rattle.std.proofs.lemmas.Grind.{common_steps}
+use Rattle.std.proofs.Common.{subst, arith}
 use Rattle.ac_automaton.specs.Stream.{FindsHeld, StreamCounts}
 use Rattle.ac_automaton.proofs.stream.StreamAheadLemmas.{next-counts, next-finds, next-kept, searched_to, walks-from}
 use Rattle.ac_automaton.proofs.stream.StreamSearchLemmas.{come_by, settled_by}
@@ -59,3 +60,15 @@ returns-clause-counts g c =
 
 pub returns-clause-kept : goal.returns-clause-kept
 returns-clause-kept g c = (invariant_of-self g c).0
+
+pub same-self : goal.same-self
+same-self g c = grind (arith, common_steps)
+
+pub returns-then-self-clause-finds : goal.returns-then-self-clause-finds
+returns-then-self-clause-finds g c = grind (arith, common_steps)
+
+pub returns-then-self-clause-kept : goal.returns-then-self-clause-kept
+returns-then-self-clause-kept g c = grind (arith, common_steps)
+
+pub search_stream-found-requires-clause-ahead : goal.search_stream-found-requires-clause-ahead
+search_stream-found-requires-clause-ahead g c = grind (arith, common_steps)

@@ -1,4 +1,6 @@
 -- A search that has read nothing stands in the start state.
+use Rattle.std.proofs.lemmas.Grind.{common_steps}
+use Rattle.std.proofs.Common.{arith}
 use Rattle.ac_automaton.proofs.stream.words.WordKeptLemmas.{fresh-kept}
 use Rattle.ac_automaton.proofs.stream.words.WordSearch.beginning.Goals as goal
 
@@ -10,3 +12,15 @@ invariant_of-result g c =
 
 pub returns-clause-kept : goal.returns-clause-kept
 returns-clause-kept g c = (invariant_of-result g c).0
+
+pub returns-in_err-text-clause-fresh : goal.returns-in_err-text-clause-fresh
+returns-in_err-text-clause-fresh g c = grind (arith, common_steps)
+
+pub returns-in_err-text-clause-kept : goal.returns-in_err-text-clause-kept
+returns-in_err-text-clause-kept g c = grind (arith, common_steps)
+
+pub returns-in_err-text-clause-error : goal.returns-in_err-text-clause-error
+returns-in_err-text-clause-error g c = grind (arith, common_steps)
+
+pub returns-clause-fresh : goal.returns-clause-fresh
+returns-clause-fresh g c = grind (arith, common_steps)

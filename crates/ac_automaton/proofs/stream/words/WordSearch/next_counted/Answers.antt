@@ -1,5 +1,6 @@
 -- The next word of the bytes read is the next one of the text.
-use Rattle.std.proofs.Common.{subst}
+use Rattle.std.proofs.lemmas.Grind.{common_steps}
+use Rattle.std.proofs.Common.{subst, arith}
 use Rattle.ac_input.specs.declared.search.Anchored.TheVariants.{No}
 use Rattle.ac_automaton.specs.Stream.{FindsHeld}
 use Rattle.ac_automaton.specs.Stream.WholeWords.Held.{text_of}
@@ -51,3 +52,27 @@ returns-clause-finds g c =
 
 pub returns-clause-kept : goal.returns-clause-kept
 returns-clause-kept g c = (found g c).0.0
+
+pub same-self : goal.same-self
+same-self g c = grind (arith, common_steps)
+
+pub returns-then-is_over-clause-finds : goal.returns-then-is_over-clause-finds
+returns-then-is_over-clause-finds g c = grind (arith, common_steps)
+
+pub returns-then-is_over-clause-kept : goal.returns-then-is_over-clause-kept
+returns-then-is_over-clause-kept g c = grind (arith, common_steps)
+
+pub next_word-found-requires-clause-standard : goal.next_word-found-requires-clause-standard
+next_word-found-requires-clause-standard g c = grind (arith, common_steps)
+
+pub next_word-found-requires-clause-filled : goal.next_word-found-requires-clause-filled
+next_word-found-requires-clause-filled g c = grind (arith, common_steps)
+
+pub next_word-found-requires-clause-fits : goal.next_word-found-requires-clause-fits
+next_word-found-requires-clause-fits g c = grind (arith, common_steps)
+
+pub next_word-found-requires-clause-stands : goal.next_word-found-requires-clause-stands
+next_word-found-requires-clause-stands g c = grind (arith, common_steps)
+
+pub returns-clause-counts : goal.returns-clause-counts
+returns-clause-counts g c = grind (arith, common_steps)

@@ -1,5 +1,6 @@
 -- Each call shows the first of the rest, and the sums stay within one walk.
-use Rattle.std.proofs.Common.{rules, ◌≡◌, ℕ, ◌+◌, ◌-◌, ◌*◌, ◌≤◌, [], ◌∷◌, drop, MatchOption, sym, subst}
+use Rattle.std.proofs.lemmas.Grind.{common_steps}
+use Rattle.std.proofs.Common.{rules, ◌≡◌, ℕ, ◌+◌, ◌-◌, ◌*◌, ◌≤◌, [], ◌∷◌, drop, MatchOption, sym, subst, arith}
 use Rattle.ac_input.specs.Computed.{listing_of}
 use Rattle.ac_input.specs.Work.{lookups_per_byte}
 use Rattle.ac_automaton.specs.Ahead.{less_ahead, most_ahead}
@@ -67,3 +68,18 @@ returns-clause-counted g c =
     let run = ran g c in
     less-counted b i.input _ c.add.new.self shown.new.ahead
     (shown-counted b i.input shown.result (less_ahead c.add.new.self shown.new.ahead) run.counted run.shows.2)
+
+pub show_next-shown-requires-clause-standard : goal.show_next-shown-requires-clause-standard
+show_next-shown-requires-clause-standard g c = grind (arith, common_steps)
+
+pub show_next-shown-requires-clause-free : goal.show_next-shown-requires-clause-free
+show_next-shown-requires-clause-free g c = grind (arith, common_steps)
+
+pub show_next-shown-requires-clause-starts : goal.show_next-shown-requires-clause-starts
+show_next-shown-requires-clause-starts g c = grind (arith, common_steps)
+
+pub show_next-shown-requires-clause-left : goal.show_next-shown-requires-clause-left
+show_next-shown-requires-clause-left g c = grind (arith, common_steps)
+
+pub show_next-shown-requires-clause-ahead : goal.show_next-shown-requires-clause-ahead
+show_next-shown-requires-clause-ahead g c = grind (arith, common_steps)

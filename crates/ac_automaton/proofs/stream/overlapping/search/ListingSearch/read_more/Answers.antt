@@ -1,4 +1,5 @@
 -- The bytes of a read lie at the front of the buffer, after the bytes read before.
+use Rattle.std.proofs.lemmas.Grind.{common_steps}
 use Rattle.std.proofs.Common.{◌-◌, ◌∙◌, ◌∷◌, ◌++◌, [], ap, append-nil, nat_lt, refl, subst, sym, take, arith}
 use Rattle.std.specs.List.{concat}
 use Rattle.ac_input.specs.Number.{usize_max}
@@ -95,3 +96,27 @@ returns-clause-read g c =
 
 pub returns-clause-kept : goal.returns-clause-kept
 returns-clause-kept g c = (gave g (goal.at.returns-clause-kept g c).After-and-self-inside-2).kept.0
+
+pub forget-requires : goal.forget-requires
+forget-requires g c = grind (arith, common_steps)
+
+pub fill-requires-clause-room : goal.fill-requires-clause-room
+fill-requires-clause-room g c = grind (arith, common_steps)
+
+pub fill-requires-clause-open : goal.fill-requires-clause-open
+fill-requires-clause-open g c = grind (arith, common_steps)
+
+pub returns-in-Err-clause-steps : goal.returns-in-Err-clause-steps
+returns-in-Err-clause-steps g c = grind (arith, common_steps)
+
+pub slice_bounds-and-end-2 : goal.slice_bounds-and-end-2
+slice_bounds-and-end-2 g c = grind (arith, common_steps)
+
+pub overflow_sub-self : goal.overflow_sub-self
+overflow_sub-self g c = grind (arith, common_steps)
+
+pub returns-then-self-clause-steps : goal.returns-then-self-clause-steps
+returns-then-self-clause-steps g c = grind (arith, common_steps)
+
+pub returns-clause-steps : goal.returns-clause-steps
+returns-clause-steps g c = grind (arith, common_steps)

@@ -1,5 +1,6 @@
 -- The next occurrence in the bytes read is the next of the walk over the last piece.
-use Rattle.std.proofs.Common.{take, subst, refl, sym, ◌∙◌, ap}
+use Rattle.std.proofs.lemmas.Grind.{common_steps}
+use Rattle.std.proofs.Common.{take, subst, refl, sym, ◌∙◌, ap, arith}
 use Rattle.ac_automaton.specs.Stream.{FindsHeld, IsOnCourse, StreamCounts}
 use Rattle.ac_automaton.specs.Stream.Overlapping.Walk.{IsAheadFor}
 use Rattle.ac_automaton.proofs.stream.StreamListingSearchLemmas.{HasListed, listed-ahead, listed_by, listed_to_inside}
@@ -67,3 +68,12 @@ returns-clause-goes g c = (
       (has-listed g c).counts,
   (has-listed g c).kept.0,
 )
+
+pub same-self : goal.same-self
+same-self g c = grind (arith, common_steps)
+
+pub returns-then-self-clause-finds : goal.returns-then-self-clause-finds
+returns-then-self-clause-finds g c = grind (arith, common_steps)
+
+pub slice_bounds-search_stream_overlapping-end : goal.slice_bounds-search_stream_overlapping-end
+slice_bounds-search_stream_overlapping-end g c = grind (arith, common_steps)

@@ -1,4 +1,5 @@
 -- The bytes of a read are held after the bytes held before.
+use Rattle.std.proofs.lemmas.Grind.{common_steps}
 use Rattle.std.proofs.Common.{[], ◌-◌, length, nat_lt, subst, arith}
 use Rattle.std.proofs.lemmas.List.{take_rest}
 use Rattle.ac_input.specs.Number.{usize_max}
@@ -68,3 +69,33 @@ returns-clause-read g c =
       c.in-Ok.ensures.gave.count,
       (gave g d).0.countable c.if-self.false,
     )
+
+pub fill-requires-clause-room : goal.fill-requires-clause-room
+fill-requires-clause-room g c = grind (arith, common_steps)
+
+pub fill-requires-clause-open : goal.fill-requires-clause-open
+fill-requires-clause-open g c = grind (arith, common_steps)
+
+pub returns-in-Err-clause-still : goal.returns-in-Err-clause-still
+returns-in-Err-clause-still g c = grind (arith, common_steps)
+
+pub overflow_sub-held : goal.overflow_sub-held
+overflow_sub-held g c = grind (arith, common_steps)
+
+pub slice_bounds-and-count : goal.slice_bounds-and-count
+slice_bounds-and-count g c = grind (arith, common_steps)
+
+pub slice_bounds-and-start : goal.slice_bounds-and-start
+slice_bounds-and-start g c = grind (arith, common_steps)
+
+pub slice_bounds-and-end-2 : goal.slice_bounds-and-end-2
+slice_bounds-and-end-2 g c = grind (arith, common_steps)
+
+pub overflow_sub-self : goal.overflow_sub-self
+overflow_sub-self g c = grind (arith, common_steps)
+
+pub returns-then-self-clause-still : goal.returns-then-self-clause-still
+returns-then-self-clause-still g c = grind (arith, common_steps)
+
+pub returns-clause-still : goal.returns-clause-still
+returns-clause-still g c = grind (arith, common_steps)

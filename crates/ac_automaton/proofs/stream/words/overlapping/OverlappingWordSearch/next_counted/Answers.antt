@@ -1,5 +1,6 @@
 -- The next word of the bytes read is the next one of the text.
-use Rattle.std.proofs.Common.{subst, take}
+use Rattle.std.proofs.lemmas.Grind.{common_steps}
+use Rattle.std.proofs.Common.{subst, take, arith}
 use Rattle.ac_automaton.specs.ListedWords.{word_listing}
 use Rattle.ac_automaton.specs.Stream.{FindsHeld, StreamCounts}
 use Rattle.ac_automaton.specs.Stream.WholeWords.Held.{text_of}
@@ -53,3 +54,15 @@ returns-clause-counts g c =
 
 pub returns-clause-kept : goal.returns-clause-kept
 returns-clause-kept g c = (found g c).0.0
+
+pub same-self : goal.same-self
+same-self g c = grind (arith, common_steps)
+
+pub returns-then-is_over-clause-finds : goal.returns-then-is_over-clause-finds
+returns-then-is_over-clause-finds g c = grind (arith, common_steps)
+
+pub returns-then-is_over-clause-kept : goal.returns-then-is_over-clause-kept
+returns-then-is_over-clause-kept g c = grind (arith, common_steps)
+
+pub next_listed_word-found-requires-clause-fits : goal.next_listed_word-found-requires-clause-fits
+next_listed_word-found-requires-clause-fits g c = grind (arith, common_steps)

@@ -537,7 +537,7 @@ same-tables {m} {old} {new} e h =
 -- ---- the whole
 
 -- the depth of a state is the number of bytes of its text
-deep-in : (nfa : NFA) (sid : ℕ) → sid < state_len nfa → IsDeepIn nfa sid (depth_in nfa sid)
+pub deep-in : (nfa : NFA) (sid : ℕ) → sid < state_len nfa → IsDeepIn nfa sid (depth_in nfa sid)
 deep-in nfa sid below text t = (
   λ small. below-two (λ i. depth_in nfa i ≡ 0) sid t.failures.flat.0 t.failures.flat.1 small,
   λ past. t.failures.depths sid past (omega (arith, t.counted, below)),

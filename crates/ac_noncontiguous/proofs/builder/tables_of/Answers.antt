@@ -12,3 +12,8 @@ returns-clause-made c =
       classed m is,
       subst IsPairing (sym is.pairing) c.args.trie.now.paired,
     ))
+
+pub from_trie-requires-clause-links : goal.from_trie-requires-clause-links
+from_trie-requires-clause-links c =
+    let l = c.in_ok-links.ensures.links c.requires.0 c.requires.1 in
+    record { fails = l.fails.counted; within = l.fails.within; ranges = l.lists.counted }

@@ -1,5 +1,6 @@
 -- The own patterns come first, and then a copy of the rest. No pattern is there twice, so the length of the list fits.
 use Rattle.std.proofs.Common.{arith}
+use Rattle.std.proofs.lemmas.Grind.{common_steps}
 use Rattle.ac_noncontiguous.proofs.links.ListLemmas.{list-fits, listed-shared, listed-copied}
 use Rattle.ac_noncontiguous.proofs.links.push_list.Goals as goal
 
@@ -20,3 +21,9 @@ pub returns-then-len-from : goal.returns-then-len-from
 returns-then-len-from c =
     let a = c.in_ok-push_own.ensures in
     listed-shared a.1 a.2 (omega arith) c.requires.inside
+
+pub extend_from_within-requires-clause-in_bounds : goal.extend_from_within-requires-clause-in_bounds
+extend_from_within-requires-clause-in_bounds c = grind (arith, common_steps)
+
+pub overflow_sub-len : goal.overflow_sub-len
+overflow_sub-len c = grind (arith, common_steps)

@@ -1,6 +1,7 @@
 -- The state that is pushed and linked in is one more state of the trie.
 use Rattle.std.proofs.Common.{◌≡◌, ◌<◌, ◌+◌, ◌++◌, ◌∷◌, [], length, length-append, arith, rules, ap, sym, subst, ◌∙◌}
 use Rattle.std.proofs.lemmas.Bool.Decides.{nat_tests}
+use Rattle.std.proofs.lemmas.Grind.{common_steps}
 use Rattle.ac_noncontiguous.specs.Trie.Tree.{depth, IsAdded}
 use Rattle.ac_noncontiguous.proofs.trie.OwnLemmas.{ends-set}
 use Rattle.ac_noncontiguous.proofs.trie.GrownLemmas.{tree-grown, added-grown, no-such}
@@ -85,3 +86,6 @@ returns-then-len-ge-MOST_STATES-clause-refused c =
       omega arith,
       no-such c.args.self.now.tree c.requires.within c.requires.place c.requires.missing,
     )
+
+pub invariant_of-self : goal.invariant_of-self
+invariant_of-self c = grind (arith, common_steps)

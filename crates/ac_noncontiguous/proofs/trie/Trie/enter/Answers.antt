@@ -1,6 +1,7 @@
 -- The walk that enters a pattern, byte by byte.
-use Rattle.std.proofs.Common.{◌∙◌, subst, rules}
+use Rattle.std.proofs.Common.{◌∙◌, subst, rules, arith}
 use Rattle.std.proofs.lemmas.Result.{err_from_is_err_and}
+use Rattle.std.proofs.lemmas.Grind.{common_steps}
 use Rattle.ac_noncontiguous.specs.Trie.Entering.{IsChildRefused}
 use Rattle.ac_noncontiguous.proofs.trie.WalkLemmas.{canonical-read, walk-start, walk-step}
 use Rattle.ac_noncontiguous.proofs.trie.Trie.enter.Goals as goal
@@ -35,3 +36,9 @@ returns-in_err-at-clause-stuck c =
       subst (λ b. IsChildRefused c.loop-byte.self.states.items c.loop-byte.at b c.in_err-at.field-0.0) read.1
           c.in_err-at.ensures.refused,
     )
+
+pub returns-then-is_shadowing-clause-ended : goal.returns-then-is_shadowing-clause-ended
+returns-then-is_shadowing-clause-ended c = grind (arith, common_steps)
+
+pub returns-clause-ended : goal.returns-clause-ended
+returns-clause-ended c = grind (arith, common_steps)

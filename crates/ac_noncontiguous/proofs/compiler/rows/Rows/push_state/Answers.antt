@@ -70,3 +70,10 @@ returns-clause-rowed c =
     ap (λ s. s.depth) c.state-depth.ensures in
     rowed-added refl is
     (omega (arith, own.1, is, c.requires.have.counted)) (omega (arith, deep)) (omega arith) appended.keeps.longer
+
+pub edges-edges-requires-clause-within : goal.edges-edges-requires-clause-within
+edges-edges-requires-clause-within c =
+    let own = c.requires.numbering.numbers.numbers c.args.id c.requires.within in
+    let is = number-read c.args.numbering.now c.requires.numbering c.requires.within c.as_usize-2.ensures.value
+    c.index.ensures in
+    omega (arith, own.1, is, c.as_usize-state.ensures.value)

@@ -1,5 +1,7 @@
 -- The transitions of one state after another are appended.
-use Rattle.std.proofs.Common.{◌≡◌, ◌∷◌, ◌++◌, [], ◌+◌, length, subst, sym, ap, ◌∙◌, arith}
+use Rattle.std.proofs.Common.{◌≡◌, ◌∷◌, ◌++◌, [], ◌+◌, length, subst, sym, ap, ◌∙◌, arith, rules}
+use Rattle.std.proofs.lemmas.Grind.{common_steps}
+use Rattle.std.proofs.lemmas.Result.{err_from_is_err_and}
 use Rattle.ac_noncontiguous.specs.Compiler.Layout.{AreLaidOut}
 use Rattle.ac_noncontiguous.proofs.compiler.LayoutLemmas.{laid-more}
 use Rattle.ac_noncontiguous.proofs.compiler.transitions.Transitions.new.Goals as goal
@@ -14,3 +16,20 @@ loop-state-preserved c =
     subst (λ xs. AreLaidOut c.args.trie.now c.args.numbering.now c.args.back (c.loop-state.state + 1) xs transitions)
     (sym pushed)
     (laid-more c.loop-state.invariant c.in_ok-push_state.ensures)
+
+pub loop-state-init : goal.loop-state-init
+loop-state-init c = grind (arith, common_steps)
+
+pub returns-in_err-push-2 : goal.returns-in_err-push-2
+returns-in_err-push-2 c = grind (arith, common_steps)
+
+pub returns-in_err-push_state : goal.returns-in_err-push_state
+returns-in_err-push_state c =
+    let p = err_from_is_err_and c.from_residual-in_err-push_state.result c.from_residual-in_err-push_state.ensures.1 in
+    rw p.1 (search rules)
+
+pub returns : goal.returns
+returns c =
+    subst (λ n. AreLaidOut c.args.trie.now c.args.numbering.now c.args.back n c.loop-state.offsets.items
+    c.loop-state.transitions.items)
+    (omega arith) c.loop-state.invariant

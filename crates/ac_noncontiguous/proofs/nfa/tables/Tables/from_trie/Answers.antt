@@ -1,5 +1,6 @@
 -- The tables are those of every dictionary whose trie and links these are.
-use Rattle.std.proofs.Common.{length, refl, sym, subst, arith}
+use Rattle.std.proofs.Common.{length, refl, sym, subst, arith, rules}
+use Rattle.std.proofs.lemmas.Result.{err_from_is_err_and}
 use Rattle.ac_input.specs.Limits.{HasStates}
 use Rattle.ac_noncontiguous.specs.Compiler.Assembly.{AreKept}
 use Rattle.ac_noncontiguous.proofs.nfa.CountLemmas.{stand-counts}
@@ -54,3 +55,18 @@ returns-clause-rowed c =
 
 pub returns-clause-classed : goal.returns-clause-classed
 returns-clause-classed c m t = trie-classed c.classes-classes.ensures.made t
+
+pub returns-in_err-layout-clause-stands : goal.returns-in_err-layout-clause-stands
+returns-in_err-layout-clause-stands c =
+    let p = err_from_is_err_and c.from_residual-in_err-layout.result c.from_residual-in_err-layout.ensures.1 in
+    rw p.1 (search rules)
+
+pub returns-in_err-layout-clause-classed : goal.returns-in_err-layout-clause-classed
+returns-in_err-layout-clause-classed c =
+    let p = err_from_is_err_and c.from_residual-in_err-layout.result c.from_residual-in_err-layout.ensures.1 in
+    rw p.1 (search rules)
+
+pub returns-in_err-layout-clause-rowed : goal.returns-in_err-layout-clause-rowed
+returns-in_err-layout-clause-rowed c =
+    let p = err_from_is_err_and c.from_residual-in_err-layout.result c.from_residual-in_err-layout.ensures.1 in
+    rw p.1 (search rules)

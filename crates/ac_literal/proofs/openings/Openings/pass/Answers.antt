@@ -1,5 +1,6 @@
 -- No place that is passed has a mark.
 use Rattle.std.proofs.Common.{arith}
+use Rattle.std.proofs.lemmas.Grind.{common_steps}
 use Rattle.ac_literal.proofs.openings.OpeningLemmas.{passed-none, block-passed}
 use Rattle.ac_literal.proofs.openings.Openings.pass.Goals as goal
 
@@ -21,3 +22,6 @@ loop-at-preserved c =
       passed = block-passed next c.loop-at.invariant.passed (omega arith) c.if-marks-eq0.false
           (λ k within. place.ensures.passed k (omega (arith, within, all)));
     }
+
+pub returns-clause-within : goal.returns-clause-within
+returns-clause-within c = grind (arith, common_steps)

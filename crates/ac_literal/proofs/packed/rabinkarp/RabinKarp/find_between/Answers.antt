@@ -1,6 +1,7 @@
 -- The first place at which a pattern lies has the match.
 use Rattle.std.proofs.Common.{◌≢◌, true, sym, ◌∙◌, arith}
 use Rattle.std.specs.Prelude.{is_some}
+use Rattle.std.proofs.lemmas.Grind.{common_steps}
 use Rattle.ac_literal.specs.Packed.{part_search}
 use Rattle.ac_literal.proofs.packed.FindLemmas.{found-first, found-place, starts-later, hash-roll}
 use Rattle.ac_literal.proofs.packed.rabinkarp.RabinKarp.find_between.Goals as goal
@@ -27,3 +28,6 @@ pub returns : goal.returns
 returns c =
     let s = part_search c.args.patterns.now c.args.haystack.now c.args.span.start c.args.span.end in
     found-place c.args.self.now.kind c.find_at.result (omega arith) c.loop-at.invariant.none c.find_at.ensures
+
+pub find_at-requires-clause-hash : goal.find_at-requires-clause-hash
+find_at-requires-clause-hash c = grind (arith, common_steps)

@@ -5,6 +5,7 @@ use Rattle.ac_tables.specs.declared.contiguous.table.Table.{Table}
 use Rattle.ac_noncontiguous.proofs.lemmas.IndexLemmas.{read-there}
 use Rattle.ac_tables.proofs.contiguous.LaidRowLemmas.{places-rise}
 use Rattle.ac_tables.proofs.contiguous.WordTableLemmas.{specials-within, places-small, some-states}
+use Rattle.ac_tables.proofs.dfa.BuildLemmas.{special-within}
 use Rattle.ac_tables.proofs.contiguous.builder.lay.Goals as goal
 use Rattle.ac_tables.proofs.contiguous.StatesLemmas.{IsWordTableOf}
 
@@ -80,3 +81,18 @@ returns-clause-made c =
       };
       within = whole.within;
     }
+
+pub index-start-requires : goal.index-start-requires
+index-start-requires c =
+    let w = special-within c.special-special.ensures.whole c.special-special.ensures.value in
+    omega (arith, w.0, c.as_usize.ensures.value, c.in_ok-layout.ensures.made.counted)
+
+pub index-start_anchored-requires : goal.index-start_anchored-requires
+index-start_anchored-requires c =
+    let w = special-within c.special-special.ensures.whole c.special-special.ensures.value in
+    omega (arith, w.1, c.as_usize-2.ensures.value, c.in_ok-layout.ensures.made.counted)
+
+pub index-max_match-requires : goal.index-max_match-requires
+index-max_match-requires c =
+    let w = special-within c.special-special.ensures.whole c.special-special.ensures.value in
+    omega (arith, w.2, c.as_usize-3.ensures.value, c.in_ok-layout.ensures.made.counted)

@@ -29,3 +29,18 @@ loop-state-preserved c =
       before = before-more nfa c.args.dense_depth classes state c.loop-state.before c.len_of.result
           c.loop-state.invariant.before (search rules);
     }
+
+pub returns-in_err-place_of-clause-made : goal.returns-in_err-place_of-clause-made
+returns-in_err-place_of-clause-made c =
+    let p = err_from_is_err_and c.from_residual-in_err-place_of.result c.from_residual-in_err-place_of.ensures.1 in
+    rw p.1 (search rules)
+
+pub returns-in_err-push-clause-made : goal.returns-in_err-push-clause-made
+returns-in_err-push-clause-made c =
+    let p = err_from_is_err_and c.from_residual-in_err-push.result c.from_residual-in_err-push.ensures.1 in
+    rw p.1 (search rules)
+
+pub returns-in_err-push-clause-refused : goal.returns-in_err-push-clause-refused
+returns-in_err-push-clause-refused c =
+    let p = err_from_is_err_and c.from_residual-in_err-push.result c.from_residual-in_err-push.ensures.1 in
+    rw (p.1, p.2) (search rules)

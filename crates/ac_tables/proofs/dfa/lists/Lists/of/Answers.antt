@@ -1,10 +1,12 @@
 -- One list after another is appended.
-use Rattle.std.proofs.Common.{◌≡◌, ◌+◌, ◌-◌, ◌≤◌, ap, subst, ◌∙◌, arith}
+use Rattle.std.proofs.Common.{◌≡◌, ◌+◌, ◌-◌, ◌≤◌, ap, subst, ◌∙◌, arith, rules}
+use Rattle.std.proofs.lemmas.Result.{err_from_is_err_and}
 use Rattle.ac_noncontiguous.specs.Nfa.Reads.{matches_at}
 use Rattle.ac_noncontiguous.specs.Nfa.ReadCalls.{special_in}
 use Rattle.ac_tables.specs.Dfa.Lists.{AreFirstLists}
 use Rattle.ac_tables.proofs.dfa.CellLemmas.{last-match_past}
 use Rattle.ac_tables.proofs.dfa.ListLemmas.{lists-more}
+use Rattle.ac_tables.proofs.dfa.BuildLemmas.{special-within}
 use Rattle.ac_tables.proofs.dfa.lists.Lists.of.Goals as goal
 
 pub loop-sid-preserved : goal.loop-sid-preserved
@@ -29,3 +31,13 @@ returns c =
     let over = c.loop-sid-test.false in
     let all : c.loop-sid.sid - 2 + 1 ≡ (special_in nfa).max_match_id = omega (arith, at, past, end, over, last) in
     (c.loop-sid.sid - 2, all, c.loop-sid.invariant)
+
+pub returns-in_err-push : goal.returns-in_err-push
+returns-in_err-push c =
+    let p = err_from_is_err_and c.from_residual.result c.from_residual.ensures.1 in
+    rw p.1 (search rules)
+
+pub match_list-requires : goal.match_list-requires
+match_list-requires c =
+    let w = special-within c.special.ensures.whole c.special.ensures.value in
+    omega (arith, w.2, c.one_more-sid-end.ensures.value, c.must.ensures, c.loop-sid-test.true)

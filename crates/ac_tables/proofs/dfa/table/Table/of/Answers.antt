@@ -1,5 +1,5 @@
 -- The table is made from an automaton.
-use Rattle.std.proofs.Common.{◌≡◌, ◌+◌, ◌-◌, ◌*◌, true, false, ap, ap₂, subst, ◌∙◌, arith}
+use Rattle.std.proofs.Common.{◌≡◌, ◌+◌, ◌-◌, ◌*◌, true, false, ap, ap₂, subst, ◌∙◌, arith, refl}
 use Rattle.std.proofs.lemmas.Result.{err_from_is_err_and}
 use Rattle.ac_input.specs.declared.search.Anchored.TheVariants.{No, Yes}
 use Rattle.ac_input.specs.Dfa.{dfa_states}
@@ -7,6 +7,7 @@ use Rattle.ac_noncontiguous.specs.Nfa.ReadCalls.{state_len, special_in}
 use Rattle.ac_tables.specs.Dfa.Table.{dfa_number_of}
 use Rattle.ac_tables.specs.Dfa.Filling.{IsOverflow}
 use Rattle.ac_tables.proofs.dfa.BuildLemmas.{IsStrideOf, rows-some, size-refused, counted-fit, special-within, number-kept, stride-is, table-for}
+use Rattle.ac_tables.proofs.dfa.CellLemmas.{last-match_past}
 use Rattle.ac_tables.proofs.dfa.table.Table.of.Goals as goal
 
 pub check_size-requires : goal.check_size-requires
@@ -89,3 +90,9 @@ returns-clause-made c =
     (c.number.ensures ∙ ap (λ n. dfa_number_of kind n stride false n) start)
     (c.number-2.ensures ∙ ap₂ (λ n i. dfa_number_of kind n stride true i) start next)
     (c.number-3.ensures ∙ ap₂ (λ n i. dfa_number_of kind n stride true i) start last)
+
+pub rows-rows-requires-clause-some : goal.rows-rows-requires-clause-some
+rows-rows-requires-clause-some c =
+    let whole = c.special-special.ensures.whole in
+    let w = special-within whole refl in
+    omega (arith, last-match_past c.args.nfa.now whole, w.2, c.state_len.ensures.value)

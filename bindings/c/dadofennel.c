@@ -126,24 +126,28 @@ void dado_free(dado_automaton **handle) {
 
 /* ---- One match ---- */
 
-dado_status dado_find_in(const dado_automaton *ac, const void *haystack, size_t len, dado_span span, dado_match *found) {
+/* The span's numbers one by one: a struct of them is written and read again at once, which takes longer than the rest of the call. */
+static inline dado_status find_between(const dado_automaton *ac, const void *haystack, size_t len, size_t start, size_t end,
+                                       uint32_t anchored, uint32_t earliest, dado_match *found) {
     dado_raw_found answer;
     if (ac == NULL) return DADO_NO_AUTOMATON;
     if (found == NULL || (haystack == NULL && len != 0)) return DADO_BAD_ARGUMENT;
-    answer = proved()->find(ac, haystack, len, span.start, span.end, span.anchored, span.earliest);
+    answer = proved()->find(ac, haystack, len, start, end, anchored, earliest);
     if (answer.status == DADO_OK) *found = answer.found;
     return answer.status;
 }
 
+dado_status dado_find_in(const dado_automaton *ac, const void *haystack, size_t len, dado_span span, dado_match *found) {
+    return find_between(ac, haystack, len, span.start, span.end, span.anchored, span.earliest, found);
+}
+
 dado_status dado_find(const dado_automaton *ac, const void *haystack, size_t len, dado_match *found) {
-    dado_span whole = {0, len, 0, 0};
-    return dado_find_in(ac, haystack, len, whole, found);
+    return find_between(ac, haystack, len, 0, len, 0, 0, found);
 }
 
 dado_status dado_is_match(const dado_automaton *ac, const void *haystack, size_t len) {
-    dado_span whole = {0, len, 0, 1};
     dado_match found;
-    return dado_find_in(ac, haystack, len, whole, &found);
+    return find_between(ac, haystack, len, 0, len, 0, 1, &found);
 }
 
 /* ---- One match after another ---- */

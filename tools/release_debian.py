@@ -22,7 +22,7 @@ ABOUT = """\
 # installation, and where it goes, if that is elsewhere. A name that ends in .1 is packed.
 PACKAGES = {
     "acsub": (
-        {"Section": "text", "Depends": "libc6 (>= {glibc})", "Multi-Arch": "foreign"},
+        {"Section": "text", "Depends": "libc6 (>= {program})", "Multi-Arch": "foreign"},
         "replace, list or mask what many patterns match in a stream",
         " .\n This is the program.\n",
         [
@@ -34,7 +34,7 @@ PACKAGES = {
         ],
     ),
     "libdadofennel1": (
-        {"Section": "libs", "Depends": "libc6 (>= {glibc})", "Multi-Arch": "same"},
+        {"Section": "libs", "Depends": "libc6 (>= {library})", "Multi-Arch": "same"},
         "search for many patterns at once - shared library",
         " .\n This is the shared library.\n",
         [(f"{LIB}/libdadofennel.so.1", ""), (f"{LIB}/libdadofennel.so.{{soversion}}", "")],
@@ -162,10 +162,10 @@ def settle(folder, when):
 
 
 def make(installed, dist, version, glibc, when):
-    """Writes each package to a folder, of what is installed below another one."""
+    """Writes each package to a folder, of what is installed below another one. `glibc` has what the program and the library need."""
     so = next(it for it in os.listdir(f"{installed}/{LIB}") if it.startswith("libdadofennel.so.") and it.count(".") == 4)
     soversion = so[len("libdadofennel.so."):]
-    known = {"version": version, "glibc": glibc, "soversion": soversion}
+    known = {"version": version, "soversion": soversion, **glibc}
     for name, (fields, synopsis, more, files) in PACKAGES.items():
         with tempfile.TemporaryDirectory(prefix="package-") as folder:
             for source, to in files:

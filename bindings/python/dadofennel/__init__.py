@@ -15,4 +15,4 @@ from ._stream import Stream
 
 __all__ = ["Automaton", "BuildError", "Error", "Match", "Stream", "__version__"]
 
-__version__: str = _native.version().decode()
+__version__: str = _native.version()

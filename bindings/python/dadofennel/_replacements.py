@@ -2,7 +2,6 @@
 from collections.abc import Mapping as AnyMapping, Sequence as AnySequence
 from typing import Any, AnyStr, Callable, List, Mapping, Optional, Sequence, Tuple, Union, cast
 
-from ._built import Built, owned
 from ._match import Match
 
 TextPerPattern = Union[Sequence[AnyStr], Mapping[AnyStr, AnyStr], AnyStr]
@@ -10,13 +9,18 @@ TextPerPattern = Union[Sequence[AnyStr], Mapping[AnyStr, AnyStr], AnyStr]
 Replacements = Union[TextPerPattern[AnyStr], Callable[[Match], AnyStr]]
 
 
-def one_each(built: Built, replacements: TextPerPattern[AnyStr]) -> List[AnyStr]:
+def owned(it: Any) -> bytes:
+    """The bytes of what is bytes-like, and a `TypeError` where it isn't."""
+    return it if type(it) is bytes else bytes(memoryview(it))
+
+
+def one_each(patterns: Tuple[Any, ...], of_text: Optional[bool], replacements: TextPerPattern[AnyStr]) -> List[AnyStr]:
     """A replacement for each pattern, of the patterns' type: of a list in the patterns' order, a mapping by pattern, or one for all."""
-    patterns, is_text = built.patterns, bool(built.text)
+    is_text = bool(of_text)
     if isinstance(replacements, (str, bytes, bytearray, memoryview)):
         texts: List[Any] = [replacements] * len(patterns)
     elif isinstance(replacements, AnyMapping):
-        texts = _by_pattern(patterns, built.text, replacements)
+        texts = _by_pattern(patterns, of_text, replacements)
     elif isinstance(replacements, AnySequence):
         texts = list(replacements)
     else:

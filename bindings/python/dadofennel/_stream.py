@@ -5,22 +5,18 @@ What is added here is tested: places in characters, what is written, and the sea
 has no streams.
 """
 import io
-from ctypes import byref, c_size_t, c_void_p
 from operator import sub
 from threading import Lock
-from typing import Any, AnyStr, Callable, Generic, Iterable, Iterator, List, NoReturn, Optional, Tuple
+from typing import Any, AnyStr, Callable, Generic, Iterator, List, NoReturn, Optional, Tuple
 
 from . import _native as native
 from ._built import Built
-from ._match import Match, match, refuse
-from ._source import encoded
+from ._characters import encoded
+from ._match import Match
 from ._turns import Part, in_turn
 
 LEAST_READ = 1 << 18
 """How much is asked for at once, at least: bytes, or characters."""
-
-ROOM = 256
-"""How many matches a stream gives at once."""
 
 CONTINUED = bytes(range(0x80, 0xC0))
 """The bytes of UTF-8 that don't begin a character."""
@@ -38,22 +34,15 @@ class Stream(Generic[AnyStr]):
     waits for the other. It can't be copied or pickled. In a forked process it serves, unless another thread was pushing to it.
     """
 
-    __slots__ = ("_handle", "_lock", "_room", "_text", "_codes", "_widths", "_held", "_byte", "_char", "_cut")
+    __slots__ = ("_pieces", "_lock", "_text", "_built", "_widths", "_held", "_byte", "_char", "_cut")
 
     def __init__(self) -> None:
         raise TypeError("a stream is begun by Automaton.stream or Automaton.word_stream")
 
     def _begin(self, built: Built, words: Optional[int]) -> None:
-        self._handle, self._lock, self._room = c_void_p(), Lock(), native.Room(ROOM)
-        self._text, self._codes, self._widths = built.text, built.codes, list(map(len, built.patterns))
+        self._pieces, self._lock = native.stream(built.by_codes(), words), Lock()
+        self._text, self._built, self._widths = built.text, built, list(map(len, built.patterns))
         self._held, self._byte, self._char, self._cut = b"", 0, 0, 0
-        owner, handle = built.by_codes(), byref(self._handle)
-        refuse(native.stream_new(owner, handle) if words is None else native.word_stream_new(owner, words, handle))
-
-    def __del__(self, free: Any = native.stream_free, reference: Any = byref) -> None:
-        handle = getattr(self, "_handle", None)
-        if handle is not None:
-            free(reference(handle))
 
     def __reduce__(self) -> NoReturn:
         raise TypeError("a stream can't be copied or pickled")
@@ -74,58 +63,56 @@ class Stream(Generic[AnyStr]):
             elif isinstance(piece, str) is not self._text:
                 raise TypeError("patterns of str search str, and patterns of bytes search bytes")
             data = self._bytes_of(piece)
-            lent = native.Lent(data)
+            length = len(data) if isinstance(data, bytes) else memoryview(data).nbytes
             found: List[Match] = []
-            at, taken = 0, c_size_t()
+            at = 0
             while True:
-                refuse(native.stream_push(byref(self._handle), (lent.at or 0) + at, lent.len - at, byref(taken)))
+                taken = self._pieces.push(data, at)
                 if self._is_wide():
-                    self._held += data[at:at + taken.value]
-                at += taken.value
+                    self._held += data[at:at + taken]
+                at += taken
                 found += self._decided(False)
-                if at == lent.len:
+                if at == length:
                     return found
 
     def finish(self) -> List[Match]:
         """Ends the text, and returns the matches that are left. `cut` is its length then."""
         with self._lock:
-            refuse(native.stream_finish(byref(self._handle)))
+            self._pieces.finish()
             return self._decided(True)
 
     def _is_wide(self) -> bool:
         """Whether a character may have several bytes."""
-        return bool(self._text) and self._codes is None
+        return bool(self._text) and self._built.codes is None
 
     def _bytes_of(self, piece: Any) -> Any:
         """The bytes that are searched."""
         if not self._text:
             return piece
-        return encoded(piece) if self._codes is None else self._codes.of_piece(piece)
+        return encoded(piece) if self._built.codes is None else self._built.coded(piece)
 
     def _decided(self, at_end: bool) -> List[Match]:
         """The matches that are decided now."""
-        room, count, some = self._room, c_size_t(), ROOM
-        found: List[Match] = []
-        while some == ROOM:
-            status = native.stream_some(byref(self._handle), room.at, ROOM, byref(count))
-            if status > native.NONE:
-                refuse(status)
-            some = count.value
-            if some:
-                numbers, ends = room.numbers(some), room.ends(some)
-                starts: Iterable[int] = room.starts(some)
-                if self._is_wide():
-                    ends = [self._char_at(at) for at in self._parts(ends)]
-                    starts = map(sub, ends, map(self._widths.__getitem__, numbers))
-                found += map(match, zip(numbers, starts, ends))
-        view = native.Held()
-        refuse(native.stream_view(byref(self._handle), byref(view)))
-        cut = view.first + view.len if at_end else view.cut
+        found = self._placed() if self._is_wide() else self._pieces.matches()
+        end, cut = self._pieces.view()
+        if at_end:
+            cut = end
         if self._is_wide():
             for part in self._parts([cut]):
                 self._char_at(part)
             cut = self._char
         self._cut = max(self._cut, cut)
+        return found
+
+    def _placed(self) -> List[Match]:
+        """The matches that are decided now in UTF-8, with places in characters."""
+        found: List[Match] = []
+        some = native.ROOM
+        while some == native.ROOM:
+            numbers, _, ends = self._pieces.batch()
+            some, ends = len(ends), [self._char_at(at) for at in self._parts(ends)]
+            starts = map(sub, ends, map(self._widths.__getitem__, numbers))
+            found += map(Match, numbers, starts, ends)
         return found
 
     def _parts(self, ends: List[int]) -> Iterator[bytes]:

@@ -21,6 +21,7 @@ from operator import length_hint
 from threading import RLock
 from typing import Any, Callable, Dict, Iterator, List, Optional, Sequence, Tuple, Union
 
+from . import _native as native
 from ._automaton import Automaton as _Automaton
 from ._once import Once
 from ._trie import Trie, at_least, at_most, exactly
@@ -425,8 +426,7 @@ class _Search:
         return [it + move for it in ends]
 
     def _found(self, string: Word, start: int, end: int) -> Iterator[Any]:
-        built = self._made.every._built
-        return built.listed(built.listable(string, start, end))
+        return native.batches(self._made.every._built, string, start, end, True)
 
     def set(self, string: Word, reset: bool = False) -> None:
         """Goes on with another string, as if it followed what was searched so far. With `reset` it is searched by itself.
@@ -469,8 +469,7 @@ class _LongSearch(_Search):
     """The pairs of a leftmost-longest search."""
 
     def _found(self, string: Word, start: int, end: int) -> Iterator[Any]:
-        built = self._made.longest()._built
-        return built.walked(built.source(string, start, end, parts=True), False, False)
+        return native.batches(self._made.longest()._built, string, start, end, False)
 
     def _unsettled(self, index: int) -> Any:
         """What was searched after the last match."""

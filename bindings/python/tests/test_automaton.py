@@ -2,8 +2,10 @@
 import array
 import collections
 import concurrent.futures
+import contextlib
 import copy
-import ctypes
+import gc
+import inspect
 import io
 import mmap
 import os
@@ -109,6 +111,52 @@ class Pieces:
         return self.text[low:self.at]
 
 
+class Cut:
+    """A reader of a text that is cut at some places."""
+
+    def __init__(self, text, places):
+        self.pieces = [text[low:high] for low, high in zip([0, *places], [*places, len(text)]) if low < high] + [text[:0]]
+
+    def read(self, most):
+        return self.pieces.pop(0)
+
+
+@contextlib.contextmanager
+def tuned(part=0, most=0, memory=True):
+    """Parts and batches of other sizes, or a `str` whose memory isn't read."""
+    before = native.tune(part, most, memory)
+    try:
+        yield
+    finally:
+        native.tune(*before)
+
+
+LIMIT = """
+import resource
+from dadofennel import Automaton
+{made}
+with open("/proc/self/statm") as file:
+    taken = int(file.read().split()[0]) * resource.getpagesize()
+resource.setrlimit(resource.RLIMIT_AS, (taken + (8 << 20),) * 2)
+try:
+    {call}
+except MemoryError as error:
+    print(type(error).__name__)
+"""
+"""A program that makes something, and then calls with 8 MiB of memory to take."""
+
+LIMITED = [
+    ("words = [b'%x' % (it * 0x9E3779B97F4A7C15 % 2**64) for it in range(200000)]", "Automaton(words, engine='noncontiguous')"),
+    ("it, text = Automaton([b'a']), b'a' * 1000000", "it.replace(text, b'x' * 1000)"),
+    ("it, text = Automaton(['é']), '€' * 30000000", "it.find(text)"),
+    ("it, text = Automaton([b'a']), bytearray(30000000)", "it.mask_words_in_place(text)"),
+    ("it, text = Automaton([b'a']), bytes(30000000)", "it.mask(text)"),
+    ("it, text = Automaton(['a']), 'x' * 30000000", "it.mask(text)"),
+    ("it = Automaton([b'a' * 2000000], engine='noncontiguous')", "it.stream()"),
+    ("it = Automaton([b'a' * 2000000], engine='noncontiguous')", "it.word_stream()"),
+]
+
+
 class Random(unittest.TestCase):
     def test_like_the_definitions(self):
         for seed in range(CASES):
@@ -154,11 +202,16 @@ class Random(unittest.TestCase):
                     self.in_pieces(rng, automaton.word_stream(asked), lent, wanted, (asked, what))
                     reader = Pieces(text, rng.choice([[1], [3], [100]]))
                     self.assertEqual(list(automaton.find_words_stream(reader, asked)), wanted, (asked, what))
+                    self.replaced_words(rng, automaton, patterns, asked, lent, text, wanted, what)
                 self.assertEqual(list(automaton.overlapping_words(lent)), all_words(patterns, text, fold), what)
         replacements = [f"<{number}é>" for number in range(len(patterns))]
         if isinstance(text, bytes):
             replacements = [it.encode() for it in replacements]
         matches = walk(patterns, kind, text, 0, len(text), fold)
+        texts = [lent, text[:0], text * 3, text + text[:1]]
+        self.assertEqual(automaton.find_each(texts), [list(automaton.finditer(it)) for it in texts], what)
+        self.assertEqual(automaton.find_each(iter([lent])), [matches], what)
+        self.assertEqual(automaton.is_match_each(texts), [automaton.is_match(it) for it in texts], what)
         wanted = replaced(text, matches, replacements)
         self.assertEqual(automaton.replace(lent, replacements), wanted, what)
         self.assertEqual(automaton.replace(lent, lambda found: replacements[found.pattern]), wanted, what)
@@ -174,6 +227,16 @@ class Random(unittest.TestCase):
             self.in_pieces(rng, automaton.stream(), lent, matches, what)
             reader = Pieces(text, rng.choice([[1], [3], [100]]))
             self.assertEqual(list(automaton.finditer_stream(reader)), matches, what)
+
+    def replaced_words(self, rng, automaton, patterns, kind, lent, text, found, what):
+        replacements = [f"<{number}é>" for number in range(len(patterns))]
+        if isinstance(text, bytes):
+            replacements = [it.encode() for it in replacements]
+        wanted = replaced(text, found, replacements)
+        self.assertEqual(automaton.replace_words(lent, replacements, kind), wanted, (kind, what))
+        reader, writer = Pieces(text, rng.choice([[1], [2, 3], [100]])), io.BytesIO() if isinstance(text, bytes) else io.StringIO()
+        count = automaton.replace_words_stream(reader, writer, lambda it: replacements[it.pattern], kind)
+        self.assertEqual((writer.getvalue(), count), (wanted, len(found)), (kind, what))
 
     def masks(self, rng, automaton, patterns, fold, lent, text, what):
         star = rng.choice(["*", "a", "é", "😀"])
@@ -315,18 +378,41 @@ class Characters(unittest.TestCase):
                 for same in (text, Other(text), text.encode("utf-8").decode("utf-8")):
                     self.assertEqual(list(automaton.finditer(same)), found)
                     self.assertEqual(list(automaton.overlapping(same, 7, 2000)), [it for it in found if 7 <= it[1] < 2000])
-                with unittest.mock.patch.object(dadofennel._characters, "_found", None):
+                with tuned(memory=False):
                     self.assertEqual(list(automaton.finditer(text)), found)
                     self.assertEqual(list(automaton.finditer(text, 7, 2000)), [it for it in found if 7 <= it[1] < 2000])
 
     def test_memory(self):
-        self.assertIsNotNone(dadofennel._characters._found)
-        for text, width in (("é" * 50, 1), ("€" * 50, 2), ("😀" * 50, 4)):
+        """The memory of a `str` is known: how many bytes a character takes where it lies."""
+        class Other(str):
+            pass
+
+        for text, width in (("", 1), ("a" * 50, 1), ("é" * 50, 1), ("€" * 50, 2), ("😀" * 50, 4), ("aé€😀", 4)):
             text.encode()
-            self.assertEqual(dadofennel._characters.memory_of(text)[1], width)
-        text = "aéb"
-        self.assertGreater(dadofennel._characters.codes_of(["é", "b"]).in_place(text), 0)
-        self.assertEqual(dadofennel._characters.codes_of(["€", "b"]).in_place(text), 0)
+            self.assertEqual(native.width_of(text), width)
+            self.assertEqual(native.width_of(Other(text)), 1 if text.isascii() else 0)
+            with tuned(memory=False):
+                self.assertEqual(native.width_of(text), 1 if text.isascii() else 0)
+        self.assertRaises(TypeError, native.width_of, b"a")
+
+    def test_memory_that_is_not_read(self):
+        """All calls, over each kind of characters, where a `str` is asked for its characters."""
+        class Other(str):
+            pass
+
+        automaton = Automaton(["b", "bc", "é"])
+        for text in ("abc", "abcé", "abcé€", "abcé€😀", "abc" * 3000, "abcé€" * 3000):
+            wanted = self.results(automaton, text)
+            self.assertEqual(self.results(automaton, Other(text)), wanted)
+            with tuned(memory=False):
+                self.assertEqual(self.results(automaton, text), wanted)
+
+    def results(self, automaton, text):
+        return [
+            automaton.find(text), automaton.is_match(text), list(automaton.finditer(text)), list(automaton.overlapping(text, 1, -1)),
+            list(automaton.find_words(text)), automaton.replace(text, ["1", "€", "3"]), automaton.mask(text), automaton.mask(text, "€"),
+            automaton.replace_words(text, "-"), automaton.find_each([text, text]), automaton.stream().push(text),
+        ]
 
     def test_in_parts(self):
         """A text that is copied a few characters at a time has the same matches."""
@@ -339,8 +425,7 @@ class Characters(unittest.TestCase):
             whole = [list(automaton.finditer(text)), list(automaton.finditer(text, start, end))]
             if automaton.kind == "standard":
                 whole.append(list(automaton.overlapping(text, start)))
-            with unittest.mock.patch.object(dadofennel._built, "PART", 1), \
-                    unittest.mock.patch.object(dadofennel._built, "MOST_AT_ONCE", rng.choice([1, 4, 4096])):
+            with tuned(part=1, most=rng.choice([1, 4, 4096])):
                 parts = [list(automaton.finditer(text)), list(automaton.finditer(text, start, end))]
                 if automaton.kind == "standard":
                     parts.append(list(automaton.overlapping(text, start)))
@@ -461,8 +546,6 @@ class Callers(unittest.TestCase):
         empty = Automaton([]).stream()
         self.assertEqual((empty.push("é"), empty.finish(), empty.cut), ([], [], 1))
         self.assertRaises(TypeError, empty.push, b"a")
-        with unittest.mock.patch.object(native, "stream_new", lambda *arguments: native.NO_MEMORY):
-            self.assertRaises(MemoryError, Automaton([b"a"]).stream)
         self.assertEqual(list(Automaton([b"a"]).finditer_stream(io.BytesIO(b"aba"))), [Match(0, 0, 1), Match(0, 2, 3)])
 
     def test_streams_of_words(self):
@@ -477,8 +560,6 @@ class Callers(unittest.TestCase):
         self.assertEqual((plain.push(b"new"), plain.push(b"."), plain.finish()), ([], [Match(0, 0, 3)], []))
         self.assertRaises(TypeError, plain.push, "a")
         self.assertRaises(ValueError, Automaton([b"a"]).word_stream, "longest")
-        with unittest.mock.patch.object(native, "word_stream_new", lambda *arguments: native.NO_MEMORY):
-            self.assertRaises(MemoryError, Automaton([b"a"]).word_stream)
 
     def test_words(self):
         cat = Automaton(["cat"])
@@ -503,6 +584,89 @@ class Callers(unittest.TestCase):
         self.assertRaises(ValueError, cat.find_words, "cat", "longest")
         self.assertRaises(TypeError, cat.find_words, b"cat")
         self.assertRaises(TypeError, raw.find_words, "new")
+
+    def both_replaced(self, automaton, text, replacements, kind, wanted):
+        """`replace_words`, and `replace_words_stream` with the text cut at each place, at each two places, and everywhere."""
+        self.assertEqual(automaton.replace_words(text, replacements, kind), wanted, (text, kind))
+        cuts = [[at] for at in range(len(text) + 1)] + [range(len(text))]
+        cuts += [(low, high) for high in range(len(text)) for low in range(high)] if len(text) < 30 else []
+        found = len(list(automaton.find_words(text, kind)))
+        for places in cuts:
+            writer = io.StringIO() if isinstance(text, str) else io.BytesIO()
+            count = automaton.replace_words_stream(Cut(text, places), writer, replacements, kind)
+            self.assertEqual((writer.getvalue(), count), (wanted, found), (text, kind, places))
+
+    def test_replaced_words(self):
+        for fold, text, wanted in (
+            (False, "concatenate", "concatenate"), (False, "cat", "dog"), (False, "cat, a cat", "dog, a dog"), (False, "cats cat", "cats dog"),
+            (False, "cat_ _cat cat.", "cat_ _cat dog."), (False, "ücat catü -cat-", "ücat catü -dog-"), (False, "ü cat ü", "ü dog ü"),
+            (False, "cat9 9cat Cat", "cat9 9cat Cat"), (True, "Cat CAT cAtS", "dog dog cAtS"), (True, "ÜCAT cat€CAT (CAT)", "ÜCAT cat€CAT (dog)"),
+            (False, "", ""), (False, "catcat cat cat", "catcat dog dog"),
+        ):
+            for kind in KINDS:
+                for replacements in ("dog", ["dog"], ("dog",), {"cat": "dog"}, lambda found: "dog"):
+                    self.both_replaced(Automaton(["cat"], fold=fold), text, replacements, kind, wanted)
+                raw = Automaton([b"cat"], fold=fold)
+                for replacements in (b"dog", [b"dog"], {b"cat": bytearray(b"dog")}):
+                    self.both_replaced(raw, text.encode(), replacements, kind, wanted.encode())
+        raw = Automaton([b"cat"])
+        self.assertEqual(raw.replace_words(bytearray(b"cat cats"), b""), b" cats")
+        self.assertEqual(raw.replace_words(memoryview(b"x cat cats")[2:], [b"dog"]), b"dog cats")
+
+    def test_replaced_words_of_each_kind(self):
+        text = "new yorker, new york"
+        for patterns, kind, wanted in (
+            (["new", "new york"], "standard", "N yorker, N york"), (["new", "new york"], "leftmost-first", "N yorker, N york"),
+            (["new", "new york"], "leftmost-longest", "N yorker, NY"), (["new york", "new"], "standard", "N yorker, N york"),
+            (["new york", "new"], "leftmost-first", "N yorker, NY"), (["new york", "new"], "leftmost-longest", "N yorker, NY"),
+            (["york", "new york"], "standard", "new yorker, NY"), (["york", "new york"], "leftmost-first", "new yorker, NY"),
+            (["new yorke", "york"], "leftmost-longest", "new yorker, new Y"),
+        ):
+            instead = {"new": "N", "new york": "NY", "york": "Y", "new yorke": "?"}
+            self.both_replaced(Automaton(patterns), text, [instead[it] for it in patterns], kind, wanted)
+            self.both_replaced(Automaton(patterns), text, {it: instead[it] for it in patterns}, kind, wanted)
+            self.both_replaced(Automaton([it.encode() for it in patterns]), text.encode(), [instead[it].encode() for it in patterns], kind,
+                               wanted.encode())
+        wide = "€" + text + " 😀"
+        self.both_replaced(Automaton(["new", "new york", MANY]), wide, ["N", "NY", ""], "leftmost-longest", "€new yorker, NY 😀")
+
+    def test_replaced_words_that_are_refused(self):
+        automaton = Automaton(["cat"])
+        self.assertRaises(ValueError, automaton.replace_words, "cat", "dog", "longest")
+        self.assertRaises(TypeError, automaton.replace_words, b"cat", "dog")
+        self.assertRaises(TypeError, automaton.replace_words, "cat", b"dog")
+        self.assertRaises(ValueError, automaton.replace_words, "cat", ["dog"] * 2)
+        self.assertRaises(ValueError, automaton.replace_words, "cat", {"dog": "cat"})
+        for wrong in (Automaton(["cat"], "leftmost-first"), Automaton(["cat", ""]), Automaton(["cat"], start_kind="anchored")):
+            self.assertRaises(Error, wrong.replace_words, "cat", "dog")
+            self.assertRaises(Error, wrong.replace_words_stream, io.StringIO("cat"), io.StringIO(), "dog")
+        writer = io.StringIO()
+        for replacements in ({"dog": "cat"}, ["dog"] * 2, b"dog", {"dog"}):
+            self.assertRaises((TypeError, ValueError), automaton.replace_words_stream, io.StringIO("cat"), writer, replacements)
+        self.assertRaises(ValueError, automaton.replace_words_stream, io.StringIO("cat"), writer, "dog", "longest")
+        self.assertEqual(writer.getvalue(), "")
+        self.assertEqual(Automaton([]).replace_words("cat", []), "cat")
+
+    def test_each(self):
+        automaton = Automaton(["fox", "é"])
+        texts = ["a fox", "", "é€", "a" * 5000 + "fox", "fox" * 100, "é fox " * 3000]
+        wanted = [[tuple(it) for it in automaton.finditer(text)] for text in texts]
+        self.assertEqual(automaton.find_each(texts), wanted)
+        self.assertEqual(automaton.find_each(tuple(texts)), wanted)
+        self.assertEqual(automaton.find_each(it for it in texts), wanted)
+        self.assertEqual(automaton.find_each({"a fox": 1}), wanted[:1])
+        self.assertEqual((automaton.find_each([]), automaton.is_match_each([])), ([], []))
+        self.assertEqual(automaton.is_match_each(texts), [True, False, True, True, True, True])
+        self.assertTrue(all(type(it) is Match for found in automaton.find_each(texts) for it in found))
+        raw = Automaton([b"fox"])
+        self.assertEqual(raw.find_each([b"a fox", bytearray(b"fox"), memoryview(b"xfox")[1:], b""]),
+                         [[Match(0, 2, 5)], [Match(0, 0, 3)], [Match(0, 0, 3)], []])
+        for wrong in (["a", b"a"], ["a", None], ["a", float("nan")], [1]):
+            self.assertRaises(TypeError, automaton.find_each, wrong)
+            self.assertRaises(TypeError, automaton.is_match_each, wrong)
+        self.assertRaises(Error, Automaton(["a"], start_kind="anchored").find_each, ["a"])
+        self.assertRaises(Error, Automaton(["a"], start_kind="anchored").is_match_each, [])
+        self.assertEqual(Automaton(["a", "ab"], "leftmost-longest").find_each(["ab", "a"]), [[Match(1, 0, 2)], [Match(0, 0, 1)]])
 
     def test_masks(self):
         automaton = Automaton(["abc", "cde", "été"])
@@ -539,8 +703,6 @@ class Callers(unittest.TestCase):
         self.assertRaises(TypeError, automaton.mask_words, b"new york")
         self.assertRaises(TypeError, raw.mask_words, b"cat", "*")
         self.assertRaises(BufferError, raw.mask_words_in_place, b"cat")
-        with unittest.mock.patch.object(native, "mask_words", lambda *arguments: native.NO_MEMORY):
-            self.assertRaises(MemoryError, raw.mask_words, b"cat")
 
     def test_replacements(self):
         automaton = Automaton(["a", "b"])
@@ -628,11 +790,14 @@ class Callers(unittest.TestCase):
         self.assertEqual(automaton.find("ab", earliest=True).span, (1, 2))
 
     def test_memory_runs_out(self):
-        automaton, none = Automaton([b"a"]), lambda *arguments: native.NO_MEMORY
-        with unittest.mock.patch.object(native, "build", none):
+        with unittest.mock.patch.object(native, "build", lambda *arguments: (native.NO_MEMORY, None, 0, 0)):
             self.assertRaises(MemoryError, Automaton, [b"a"])
-        with unittest.mock.patch.object(native, "replace", none):
-            self.assertRaises(MemoryError, automaton.replace, b"a", b"b")
+
+    @unittest.skipIf("asan" in os.environ.get("LD_PRELOAD", ""), "AddressSanitizer takes the memory that there is")
+    def test_memory_that_is_limited(self):
+        for made, call in LIMITED:
+            done = subprocess.run([sys.executable, "-c", LIMIT.format(made=made, call=call)], stdout=subprocess.PIPE, timeout=60)
+            self.assertEqual((done.returncode, done.stdout), (0, b"MemoryError\n"), call)
 
     def test_no_patterns(self):
         automaton = Automaton([])
@@ -674,46 +839,125 @@ class Threads(unittest.TestCase):
             thread.join()
         self.assertEqual(wrong, [])
 
+    def others_run(self, call):
+        """Whether another thread runs while this one calls. Threads don't take turns but where the lock is let go of."""
+        ran, go = [], threading.Event()
+
+        def other():
+            go.wait()
+            ran.append(None)
+
+        thread, before = threading.Thread(target=other), sys.getswitchinterval()
+        sys.setswitchinterval(1000)
+        try:
+            thread.start()
+            go.set()
+            call()
+            return bool(ran)
+        finally:
+            sys.setswitchinterval(before)
+            thread.join()
+
     def test_the_lock_is_let_go(self):
-        """While one thread searches, another one runs: each search is one call of ctypes, which takes the lock off."""
-        self.assertNotIsInstance(native.lib, ctypes.PyDLL)
+        """While one thread searches a long text, another one runs; it doesn't while one searches a short text."""
+        raw, text = Automaton([b"fox"]), Automaton(["fox", "é"])
+        long, wide = bytearray(b"x" * (1 << 24)), "x€" * (1 << 22)
+        for call in (
+            lambda: raw.find(long), lambda: raw.is_match(long), lambda: list(raw.finditer(long)), lambda: list(raw.overlapping(long)),
+            lambda: list(raw.find_words(long)), lambda: list(raw.overlapping_words(long)), lambda: raw.find_each([long]),
+            lambda: raw.is_match_each([long]), lambda: raw.replace(long, b""), lambda: raw.mask_in_place(long),
+            lambda: raw.mask_words_in_place(long), lambda: raw.stream().push(long), lambda: text.find(wide),
+            lambda: Automaton([b"x%d" % it for it in range(30000)]),
+        ):
+            self.assertTrue(any(self.others_run(call) for _ in range(20)))
+        short = b"x" * 4096
+        for call in (
+            lambda: raw.find(short), lambda: list(raw.finditer(short)), lambda: raw.find_each([short] * 9), lambda: raw.replace(short, b""),
+            lambda: text.find("x€" * 2000), lambda: raw.mask(short), lambda: list(raw.find_words(short)),
+        ):
+            self.assertFalse(any(self.others_run(call) for _ in range(5)))
 
 
-class Layout(unittest.TestCase):
-    """The structures of ctypes lie as those of the header."""
+class Numbers(unittest.TestCase):
+    def test_words_of_the_header(self):
+        """The words stand at the places of their numbers in dadofennel.h."""
+        self.assertEqual(native.KINDS, KINDS)
+        self.assertEqual(native.START_KINDS, ("unanchored", "anchored", "both"))
+        self.assertEqual(native.ENGINES, ("auto", "noncontiguous", "contiguous", "dfa"))
+        self.assertEqual([Automaton(["a"], engine=it).engine for it in native.ENGINES[1:]], list(native.ENGINES[1:]))
 
-    NAMES = {"dado_bytes": native.Bytes, "dado_pair": native.Pair, "dado_match": native.Match, "dado_settings": native.Settings,
-             "dado_fault": native.Fault, "dado_span": native.Span, "dado_cursor": native.Cursor, "dado_place": native.Place,
-             "dado_text": native.Text, "dado_counted": native.Counted}
 
-    @unittest.skipUnless(os.environ.get("DADOFENNEL_PREFIX"), "DADOFENNEL_PREFIX doesn't say where the header is")
-    def test_like_the_header(self):
-        lines = ['#include <stdio.h>', '#include "dadofennel_characters.h"', "int main(void) {"]
-        for name, structure in self.NAMES.items():
-            lines.append(f'printf("{name} %zu\\n", sizeof({name}));')
-            for field in structure._fields_:
-                lines.append(f'printf("{name}.{field[0]} %zu\\n", offsetof({name}, {field[0]}));')
-        values = [it for it in dir(native) if it in ("OK", "NONE") or it.startswith(("NO_", "NOT_", "PATTERN_"))]
-        lines += [f'printf("{it} %d\\n", DADO_{it});' for it in values]
-        words = [it.upper().replace("-", "_") for it in native.KINDS + native.START_KINDS + native.ENGINES]
-        lines += [f'printf("{it} %d\\n", DADO_{it});' for it in words]
-        with tempfile.TemporaryDirectory() as folder:
-            with open(folder + "/layout.c", "w") as file:
-                file.write("\n".join(lines) + "\nreturn 0; }\n")
-            include = os.path.abspath(os.path.join(os.environ["DADOFENNEL_PREFIX"], "include"))
-            words = ["cc", "-std=c99", "-I", include, "-o", "layout", "layout.c", "-L", include + "/../lib", "-ldadofennel"]
-            subprocess.run(words, cwd=folder, check=True)
-            environment = dict(os.environ, LD_LIBRARY_PATH=include + "/../lib")
-            said = subprocess.run([folder + "/layout"], stdout=subprocess.PIPE, check=True, env=environment).stdout.decode()
-        told = {line.split()[0]: int(line.split()[1]) for line in said.splitlines()}
-        for name, structure in self.NAMES.items():
-            self.assertEqual(ctypes.sizeof(structure), told[name], name)
-            for field in structure._fields_:
-                self.assertEqual(getattr(structure, field[0]).offset, told[f"{name}.{field[0]}"], (name, field))
-        for it in values:
-            self.assertEqual(getattr(native, it), told[it], it)
-        for group in (native.KINDS, native.START_KINDS, native.ENGINES):
-            self.assertEqual([told[it.upper().replace("-", "_")] for it in group], list(range(len(group))))
+class Matches(unittest.TestCase):
+    """A match that a search makes is as one that a call makes."""
+
+    def test_a_match(self):
+        for start in (0, 5, 300, 70000):
+            found, made = Automaton([b"x", b"fox"]).find(b"." * start + b"fox"), Match(1, start, start + 3)
+            self.assertIs(type(found), Match)
+            self.assertEqual((found, hash(found), repr(found), found.span), (made, hash(made), repr(made), (start, start + 3)))
+            self.assertEqual(({made: 1}[found], {tuple(made): 1}[found]), (1, 1))
+            self.assertEqual((found._replace(start=0), pickle.loads(pickle.dumps(found)), found._asdict()),
+                             (Match(1, 0, start + 3), made, made._asdict()))
+            number, low, high = found
+            self.assertEqual((number, low, high, found[0], found[-1], found + (1,)), (1, start, start + 3, 1, start + 3, (*made, 1)))
+
+    def test_matches_that_stay(self):
+        """They are kept while the collector runs, and all that they took is given back."""
+        text = "a fox, " * 20000
+        for _ in range(3):
+            kept = list(Automaton(["fox"]).finditer(text))
+            gc.collect()
+            self.assertEqual(kept, [Match(0, at, at + 3) for at in range(2, len(text), 7)])
+        counted = [self.blocks() for _ in range(4)]
+        self.assertLess(counted[-1] - counted[1], 50)
+
+    def blocks(self):
+        automaton = Automaton(["fox", "é"])
+        for text in ("a fox, ", "a fox, " * 3000, "é fox€", "€ fox, " * 3000):
+            list(automaton.finditer(text))
+            next(automaton.overlapping(text))
+            automaton.find(text), automaton.replace(text, ["€", "b"]), automaton.mask(text), automaton.find_each([text])
+            automaton.find_words(text), automaton.stream().push(text), automaton.replace(text, {"fox": "x", "é": "y"})
+            for wrong in (lambda: automaton.find(b""), lambda: automaton.find(), lambda: automaton.replace(text, ["x"]),
+                          lambda: automaton.find_each([text, 5]), lambda: automaton.find(text, "x"), lambda: automaton.mask(text, "")):
+                self.assertRaises((TypeError, ValueError), wrong)
+        gc.collect()
+        return sys.getallocatedblocks()
+
+
+class Arguments(unittest.TestCase):
+    """The arguments of the calls, by place and by name."""
+
+    automaton = Automaton(["b"], start_kind="both")
+
+    def test_by_name(self):
+        it = self.automaton
+        self.assertEqual(it.find(text="abab", start=2, end=4, anchored=False, earliest=True), Match(0, 3, 4))
+        self.assertEqual(list(it.finditer(text="abb", start=1, anchored=True)), [Match(0, 1, 2), Match(0, 2, 3)])
+        self.assertEqual(list(it.overlapping("abab", end=3)), [Match(0, 1, 2)])
+        self.assertEqual(list(it.find_words(kind="standard", text="b")), [Match(0, 0, 1)])
+        self.assertEqual((it.replace(replacements="x", text="b"), it.mask(text="b", star="#")), ("x", "#"))
+        self.assertEqual((it.find_each(texts=["b"]), it.is_match_each(texts=["b", ""])), ([[Match(0, 0, 1)]], [True, False]))
+
+    def test_wrong_ones(self):
+        it = self.automaton
+        for wrong in (
+            lambda: it.find(), lambda: it.find("a", 0, 1, True), lambda: it.find("a", text="a"), lambda: it.find("a", begin=0),
+            lambda: it.finditer("a", 0, 1, True), lambda: it.replace("a"), lambda: it.overlapping("a", anchored=True),
+            lambda: it.find("a", "0"), lambda: it.find("a", 0.5), lambda: it.find(None), lambda: it.finditer(5), lambda: it.find_each("ab"),
+            lambda: it.find_each(b"ab"), lambda: it.find_each(5), lambda: it.find_each(["a", None]), lambda: it.is_match_each(["a", b"a"]),
+            lambda: it.find_each(), lambda: it.replace_words("a"), lambda: Automaton.find("a", "a"),
+        ):
+            self.assertRaises(TypeError, wrong)
+        self.assertRaises(AttributeError, Automaton.__new__(Automaton).find, "a")
+        self.assertRaises(ZeroDivisionError, it.find_each, (1 / 0 for _ in "a"))
+
+    def test_signatures(self):
+        for name in ("find", "is_match", "finditer", "overlapping", "find_words", "overlapping_words", "replace", "replace_words", "mask",
+                     "mask_in_place", "mask_words", "mask_words_in_place", "find_each", "is_match_each"):
+            call = getattr(Automaton, name)
+            self.assertGreater(len(inspect.signature(call).parameters), 1, name)
+            self.assertGreater(len(call.__doc__), 40, name)
 
 
 class Examples(unittest.TestCase):

@@ -1,7 +1,7 @@
 """`dadofennel` by many threads: first searches at the same moment, every method, and what is freed or built anew meanwhile.
 
-A handle that is freed before the call that was given it returns is noticed in two ways. `Watched` looks at it before each call, after
-other threads had a turn. And `tests/asan` runs this page under AddressSanitizer, over a library that looks at the memory.
+An automaton that is freed before the call that was given it returns is noticed by `tests/asan`, which runs this page under
+AddressSanitizer, over a library that looks at the memory.
 """
 import contextlib
 import copy
@@ -80,40 +80,23 @@ def often():
         sys.setswitchinterval(before)
 
 
-class Watched:
-    """Lets other threads have a turn before each call with an automaton, and then looks whether it was freed. Counts the builds."""
-
-    CALLS = (
-        "find_in", "some", "overlapping_some", "words_some", "overlapping_words_some", "replace", "mask", "mask_words", "stream_new",
-        "word_stream_new", "engine", "memory",
-    )
-
-    def __init__(self):
-        self.freed, self.builds, self._patches = [], [], []
-
-    def _call(self, name, given, *others):
-        time.sleep(0.0005)
-        handle = getattr(given, "_as_parameter_", given)
-        if not handle.value:
-            self.freed.append(name)
-            return native.NONE
-        return self._real[name](given, *others)
-
-    def _build(self, *arguments):
-        self.builds.append(threading.get_ident())
-        time.sleep(0.0005)
-        return self._real["build"](*arguments)
+class Builds:
+    """Counts the automata that are built, and lets other threads have a turn before each."""
 
     def __enter__(self):
-        self._real = {name: getattr(native, name) for name in (*self.CALLS, "build")}
-        for name in self.CALLS:
-            setattr(native, name, lambda *arguments, name=name: self._call(name, *arguments))
-        native.build = self._build
+        self.count, real = 0, native.build
+
+        def build(*arguments):
+            self.count += 1
+            time.sleep(0.0005)
+            return real(*arguments)
+
+        self._patch = unittest.mock.patch.object(native, "build", build)
+        self._patch.__enter__()
         return self
 
-    def __exit__(self, *_):
-        for name, real in self._real.items():
-            setattr(native, name, real)
+    def __exit__(self, *error):
+        return self._patch.__exit__(*error)
 
 
 class FirstSearches(unittest.TestCase):
@@ -163,27 +146,27 @@ class FirstSearches(unittest.TestCase):
                     for got in at_once(lambda number: list(automaton.iter_long(text) if number % 2 else automaton.iter(text))):
                         self.assertEqual(got, wanted)
 
-    def test_one_build_and_nothing_freed(self):
+    def test_one_build(self):
         for count, _ in SIZES:
             words = words_of(count)
             text = text_of(words, 3000)
             wanted = matches_of(words, text)
-            with Watched() as watched:
+            with Builds() as builds:
                 automaton = Automaton(words)
                 for calls in (self.one_call, self.other_calls):
                     for got in at_once(calls(automaton, text)):
                         self.assertEqual(got, wanted)
-            self.assertEqual((len(watched.builds), watched.freed), (2, []))
+            self.assertEqual(builds.count, 2)
 
     def test_one_build_of_the_longest(self):
         automaton = made(words_of(100, "я"))
-        with Watched() as watched:
+        with Builds() as builds:
             at_once(lambda number: list(automaton.iter_long("я5. я")))
-        self.assertEqual((len(watched.builds), watched.freed), (2, []))
+        self.assertEqual(builds.count, 2)
 
     def test_a_build_that_fails_is_tried_again(self):
         automaton, real = Automaton(["é"]), native.build
-        with unittest.mock.patch.object(native, "build", lambda *arguments: native.NO_MEMORY):
+        with unittest.mock.patch.object(native, "build", lambda *arguments: (native.NO_MEMORY, None, 0, 0)):
             for _ in range(2):
                 self.assertRaises(MemoryError, automaton.find, "é€")
         self.assertEqual(automaton.find("€é"), Match(0, 1, 2))
@@ -269,6 +252,8 @@ class EveryMethod(unittest.TestCase):
             None if leftmost else automaton.mask(text), None if leftmost else list(automaton.find_words(text, "leftmost-first")),
             None if leftmost else automaton.mask_words(text), None if leftmost else list(automaton.overlapping_words(text)),
             None if leftmost else list(automaton.find_words_stream(io.StringIO(text), "leftmost-longest")),
+            None if leftmost else automaton.replace_words(text, "-", "leftmost-first"), automaton.find_each([text, "", text]),
+            automaton.is_match_each([text, "", "x€"]),
             automaton.replace(text, "-"), automaton.replace(text, ["1", "2", "3"]), automaton.replace(text, {
                 "app": "1", "append": "2", "dé": "3"}), automaton.replace(text, lambda found: str(found.start)),
             automaton.replace_stream(reader, writer, ["1", "2", "3"]), writer.getvalue(),
@@ -284,11 +269,13 @@ class EveryMethod(unittest.TestCase):
                 for got in at_once(lambda number: [[self.results(automaton, text) for text in self.TEXTS] for _ in range(5)]):
                     self.assertEqual(got, [wanted] * 5)
 
-    def test_nothing_is_freed(self):
-        automaton = Automaton(["app", "append", "dé"])
-        with Watched() as watched:
-            at_once(lambda number: self.results(automaton, self.TEXTS[number % 3]))
-        self.assertEqual(watched.freed, [])
+    def test_long_texts(self):
+        """The same over texts for which the interpreter's lock is let go of."""
+        automaton, texts = Automaton(["app", "append", "dé"]), [text * 1000 for text in self.TEXTS]
+        wanted = [self.results(Automaton(["app", "append", "dé"]), text) for text in texts]
+        with often():
+            for number, got in enumerate(at_once(lambda number: self.results(automaton, texts[number % 3]))):
+                self.assertEqual(got, wanted[number % 3])
 
     def test_a_stream(self):
         for words in (["ab", "é€"], words_of(200, "Ѐ") + ["ab", *map(chr, range(0x500, 0x580))]):
@@ -434,6 +421,30 @@ class Shared(unittest.TestCase):
         self.assertEqual(list(pairs), [])
 
 
+class Replacements(dict):
+    """A mapping that has each key, and runs something before it says so."""
+
+    def __init__(self, low):
+        self.low = low
+
+    def __missing__(self, key):
+        self.low.__index__()
+        return "-"
+
+
+class Star(str):
+    """A star that runs something before it says how long it is."""
+
+    def __new__(cls, low):
+        star = super().__new__(cls, "#")
+        star.low = low
+        return star
+
+    def __len__(self):
+        self.low.__index__()
+        return 1
+
+
 class BuiltAgain(unittest.TestCase):
     """`__init__` called again, or an automaton let go, while something of it goes on."""
 
@@ -460,28 +471,41 @@ class BuiltAgain(unittest.TestCase):
         self.assertEqual((first, sum(1 for _ in matches)), (Match(0, 0, 1), 299999))
 
     def test_while_a_call_runs(self):
-        """Between the call and its return the automaton is built again, or the last one who held it lets go."""
-        for name, call, wanted in (
-            ("find_in", lambda it: it.find("xé€"), Match(0, 1, 2)), ("some", lambda it: list(it.finditer("xé€")), [Match(0, 1, 2)]),
-            ("overlapping_some", lambda it: list(it.overlapping("xé€")), [Match(0, 1, 2)]),
-            ("replace", lambda it: it.replace("xé€", "-"), "x-€"), ("stream_new", lambda it: it.stream().push("xé€"), [Match(0, 1, 2)]),
-            ("engine", lambda it: it.engine, "dfa"), ("memory", lambda it: it.memory > 0, True),
+        """Between the call and its search the automaton is built again, by code of the caller that the call runs."""
+        for call, wanted in (
+            (lambda it, low: it.find("xé€", low), Match(0, 1, 2)), (lambda it, low: it.is_match("xé€", low), True),
+            (lambda it, low: list(it.finditer("xé€", low)), [Match(0, 1, 2)]),
+            (lambda it, low: list(it.overlapping("xé€", low)), [Match(0, 1, 2)]),
+            (lambda it, low: list(it.finditer("xé€" * 3000, low))[-1], Match(0, 8998, 8999)),
+            (lambda it, low: it.replace("xé€", Replacements(low)), "x-€"), (lambda it, low: it.replace_words("x é €", Replacements(low)), "x - €"),
+            (lambda it, low: it.mask("xé€", Star(low)), "x#€"),
+            (lambda it, low: it.find_each(text for text in ["xé€", str(low.__index__()), "é"]), [[Match(0, 1, 2)], [], [Match(0, 0, 1)]]),
         ):
-            automaton, real, freed = Automaton(["é"]), getattr(native, name), []
+            automaton = Automaton(["é"])
 
-            def again(given, *others):
-                automaton.__init__(["a", "b"], engine="contiguous")
-                gc.collect()
-                freed.append(not getattr(given, "_as_parameter_", given).value)
-                return native.NONE if freed[-1] else real(given, *others)
+            class Low:
+                def __index__(self):
+                    automaton.__init__(["a", "b"], engine="contiguous")
+                    gc.collect()
+                    return 0
 
-            with unittest.mock.patch.object(native, name, again):
-                self.assertEqual((call(automaton), freed), (wanted, [False]), name)
+            self.assertEqual(call(automaton, Low()), wanted)
             self.assertEqual((automaton.patterns, automaton.engine), (("a", "b"), "contiguous"))
+
+    def test_while_a_stream_begins(self):
+        automaton, real = Automaton(["é"]), native.stream
+
+        def again(*given):
+            automaton.__init__(["a", "b"])
+            gc.collect()
+            return real(*given)
+
+        with unittest.mock.patch.object(native, "stream", again):
+            self.assertEqual(automaton.stream().push("xé€"), [Match(0, 1, 2)])
 
     def test_by_threads(self):
         both = [["é", "abc"], ["bé", "c", "é€"]]
-        text = "abcé€" * 500
+        text = "abcé€" * 2000
         automaton, allowed = Automaton(both[0]), [list(Automaton(words).finditer(text)) for words in both]
         replaced = [Automaton(words).replace(text, "-") for words in both]
 
@@ -492,14 +516,15 @@ class BuiltAgain(unittest.TestCase):
                 else:
                     self.assertIn(list(automaton.finditer(text)), allowed)
                     self.assertIn(automaton.replace(text, "-"), replaced)
+                    self.assertIn(automaton.find_each([text])[0], allowed)
+                    self.assertIn(automaton.find(text), (Match(1, 0, 3), Match(1, 2, 3)))
                     stream = automaton.stream()
                     self.assertIn(stream.push(text) + stream.finish(), allowed)
 
         with often():
             at_once(run)
-            with Watched() as watched:
+            with Builds():
                 at_once(run)
-        self.assertEqual(watched.freed, [])
 
     def test_a_failed_one_changes_nothing(self):
         automaton = Automaton(["é"])

@@ -1,0 +1,330 @@
+/* Replacement and masks. */
+#include "native.h"
+
+#include <stdlib.h>
+#include <string.h>
+
+/* ---- Replacements ---- */
+
+/* The bytes of the replacement of each pattern, and the objects that hold them. */
+typedef struct {
+    dado_bytes *at;
+    size_t count;
+    PyObject *held;
+} Slices;
+
+static void let_go(Slices *it) {
+    free(it->at);
+    Py_XDECREF(it->held);
+}
+
+/* The UTF-8 of a replacement, or its bytes. A `str` keeps its UTF-8 from then on; where it has lone surrogates, `bytes` are held for it. */
+static int slice_of(Slices *it, PyObject *text, dado_bytes *out) {
+    Characters of;
+    char *at = NULL;
+    Py_ssize_t length = 0;
+    if (PyUnicode_Check(text)) {
+        if (characters_of(text, &of) < 0) return -1;
+        if (of.is_ascii) {
+            out->at = of.at, out->len = of.len;
+            return 0;
+        }
+        at = (char *)PyUnicode_AsUTF8AndSize(text, &length);
+        if (at == NULL) {
+            PyErr_Clear();
+            text = utf8_of(text);
+            if (text == NULL || PyList_Append(it->held, text) < 0) {
+                Py_XDECREF(text);
+                return -1;
+            }
+            Py_DECREF(text);
+        }
+    }
+    if (at == NULL && PyBytes_AsStringAndSize(text, &at, &length) < 0) return -1;
+    out->at = (const uint8_t *)at, out->len = (size_t)length;
+    return 0;
+}
+
+/* The same replacement for all patterns. */
+static int one_for_all(Slices *it, PyObject *text) {
+    size_t i;
+    if (PyList_Append(it->held, text) < 0 || (it->count != 0 && slice_of(it, text, it->at) < 0)) return -1;
+    for (i = 1; i < it->count; i++) it->at[i] = it->at[0];
+    return 0;
+}
+
+/* Whether something is a list or tuple of as many texts as there are patterns, of their type. */
+static int is_one_each(const Core *core, PyObject *texts) {
+    size_t i;
+    if (PyTuple_Size(texts) != (Py_ssize_t)core->count) return 0;
+    for (i = 0; i < core->count; i++) {
+        PyObject *text = PyTuple_GetItem(texts, (Py_ssize_t)i);
+        if (core->text == 1 ? !PyUnicode_Check(text) : !PyBytes_CheckExact(text)) return 0;
+    }
+    return 1;
+}
+
+/* The values of a dictionary in the patterns' order, if its keys are just the patterns; else nothing. */
+static PyObject *values_of(const Core *core, PyObject *dict) {
+    PyObject *patterns, *values;
+    size_t i;
+    if (PyDict_Size(dict) != (Py_ssize_t)core->distinct) return NULL;
+    patterns = PyObject_GetAttrString((PyObject *)core, "patterns");
+    values = patterns == NULL ? NULL : PyTuple_New((Py_ssize_t)core->count);
+    for (i = 0; values != NULL && i < core->count; i++) {
+        PyObject *value = PyDict_GetItemWithError(dict, PyTuple_GetItem(patterns, (Py_ssize_t)i));
+        Py_XINCREF(value);
+        if (value == NULL) Py_CLEAR(values);
+        else PyTuple_SetItem(values, (Py_ssize_t)i, value);
+    }
+    Py_XDECREF(patterns);
+    return values;
+}
+
+/* The replacements as a tuple: what isn't one of the plain cases is asked of Python, which raises what is wrong with it. */
+static PyObject *texts_of(Core *core, PyObject *replacements) {
+    PyObject *texts = NULL, *asked;
+    if (PyTuple_CheckExact(replacements)) texts = replacements, Py_INCREF(texts);
+    else if (PyList_CheckExact(replacements)) texts = PyList_AsTuple(replacements);
+    else if (PyDict_CheckExact(replacements)) texts = values_of(core, replacements);
+    if (PyErr_Occurred()) {
+        Py_XDECREF(texts);
+        return NULL;
+    }
+    if (texts != NULL && core->text >= 0 && is_one_each(core, texts)) return texts;
+    Py_XDECREF(texts);
+    asked = PyObject_CallMethod((PyObject *)core, "one_each", "O", replacements);
+    texts = asked == NULL ? NULL : PySequence_Tuple(asked);
+    Py_XDECREF(asked);
+    return texts;
+}
+
+static int all_of(Slices *it, Core *core, PyObject *replacements) {
+    PyObject *texts = texts_of(core, replacements);
+    size_t i;
+    int done = texts == NULL || PyList_Append(it->held, texts) < 0 ? -1 : 0;
+    for (i = 0; done == 0 && i < it->count; i++) {
+        PyObject *text = PyTuple_GetItem(texts, (Py_ssize_t)i);
+        done = text == NULL ? -1 : slice_of(it, text, &it->at[i]);
+    }
+    Py_XDECREF(texts);
+    return done;
+}
+
+static int slices_of(Slices *it, Core *core, PyObject *replacements) {
+    int is_one = core->text == 1 ? PyUnicode_CheckExact(replacements) : core->text == 0 && PyBytes_CheckExact(replacements), done;
+    it->count = core->count, it->held = PyList_New(0), it->at = malloc((core->count + 1) * sizeof *it->at);
+    if (it->at == NULL) refuse(DADO_NO_MEMORY);
+    done = it->held == NULL || it->at == NULL ? -1 : is_one ? one_for_all(it, replacements) : all_of(it, core, replacements);
+    if (done < 0) let_go(it);
+    return done;
+}
+
+/* ---- Replacing ---- */
+
+static PyObject *replaced(Core *core, PyObject *source, const Slices *slices) {
+    Haystack text;
+    dado_text made = DADO_NO_TEXT;
+    dado_status status;
+    PyObject *result = NULL;
+    if (haystack_of(&text, core, source, NULL, NULL, EXACT, NULL) < 0) return NULL;
+    UNLOCKED(text.len, status = dado_replace(core->plain->handle, text.at, text.len, slices->at, slices->count, &made));
+    if (status != DADO_OK) refuse(status);
+    else if (PyUnicode_Check(source)) result = PyUnicode_DecodeUTF8(made.len ? (const char *)made.at : "", (Py_ssize_t)made.len, "surrogatepass");
+    else result = PyBytes_FromStringAndSize((const char *)made.at, (Py_ssize_t)made.len);
+    dado_text_free(&made);
+    release(&text);
+    return result;
+}
+
+/* Whether Python has to replace: by a function, or where the library would put a replacement within a character. */
+static int is_of_python(const Core *core, PyObject *text, PyObject *replacements) {
+    Characters of;
+    if (PyCallable_Check(replacements)) return 1;
+    if (!core->any_empty || !PyUnicode_Check(text)) return 0;
+    return characters_of(text, &of) < 0 ? -1 : !of.is_ascii;
+}
+
+PyObject *automaton_replace(PyObject *self, PyObject *const *args, Py_ssize_t count, PyObject *names) {
+    static const Signature signature = {"replace", {"text", "replacements"}, 2, 2, 2};
+    PyObject *given[2], *result = NULL;
+    Slices slices;
+    Core *core;
+    int python;
+    if (arguments_of(&signature, args, count, names, given) < 0 || (core = core_of(self)) == NULL) return NULL;
+    python = is_of_python(core, given[0], given[1]);
+    if (python > 0) result = PyObject_CallMethod((PyObject *)core, "replaced", "OO", given[0], given[1]);
+    else if (python == 0 && slices_of(&slices, core, given[1]) == 0) {
+        result = replaced(core, given[0], &slices);
+        let_go(&slices);
+    }
+    Py_DECREF(core);
+    return result;
+}
+
+/* ---- Masks ---- */
+
+/* A byte that UTF-8 doesn't have. */
+enum { COVERED = 0xFF };
+
+static dado_status masked(const Core *core, uint8_t *at, size_t len, uint8_t star, int words) {
+    const dado_automaton *ac = core->plain->handle;
+    dado_status status;
+    UNLOCKED(len, status = words ? dado_mask_words(ac, at, len, star) : dado_mask(ac, at, len, star));
+    return status;
+}
+
+/* The star for bytes: one byte, as it was given or as Python makes it out; -1 with an exception. */
+static int byte_of(Core *core, PyObject *star) {
+    PyObject *made;
+    int value;
+    if (star == NULL || star == Py_None) return '*';
+    if (PyBytes_CheckExact(star) && PyBytes_Size(star) == 1) return (unsigned char)PyBytes_AsString(star)[0];
+    made = PyObject_CallMethod((PyObject *)core, "star_of", "OO", star, Py_False);
+    if (made == NULL) return -1;
+    value = (int)PyLong_AsLong(made);
+    Py_DECREF(made);
+    return value;
+}
+
+/* The star for a text, as UTF-8: how many bytes, or -1 with an exception. */
+static int star_of(Core *core, PyObject *star, char *out) {
+    PyObject *raw, *one;
+    Py_ssize_t length = 0;
+    char *at = NULL;
+    *out = '*';
+    if (star == NULL || star == Py_None) return 1;
+    one = PyObject_CallMethod((PyObject *)core, "star_of", "OO", star, Py_True);
+    raw = one == NULL ? NULL : utf8_of(one);
+    if (raw != NULL && PyBytes_AsStringAndSize(raw, &at, &length) == 0) memcpy(out, at, (size_t)length);
+    Py_XDECREF(one), Py_XDECREF(raw);
+    return at == NULL ? -1 : (int)length;
+}
+
+static int begins(char byte) { return ((unsigned char)byte & 0xC0) != 0x80; }
+
+/* The text in which each character that is covered is a star; `covered` has the bytes of `plain`, or COVERED. */
+static PyObject *with_stars(const char *plain, const char *covered, size_t len, const char *star, size_t width) {
+    size_t i, stars = 0, to = 0;
+    PyObject *made;
+    char *out;
+    for (i = 0; i < len; i++) stars += (unsigned char)covered[i] == COVERED && begins(plain[i]);
+    out = malloc(len + stars * width + 1);
+    if (out == NULL) {
+        refuse(DADO_NO_MEMORY);
+        return NULL;
+    }
+    for (i = 0; i < len; i++) {
+        if ((unsigned char)covered[i] != COVERED) out[to++] = covered[i];
+        else if (begins(plain[i])) memcpy(out + to, star, width), to += width;
+    }
+    made = PyUnicode_DecodeUTF8(out, (Py_ssize_t)to, "surrogatepass");
+    free(out);
+    return made;
+}
+
+static PyObject *masked_text(Core *core, PyObject *source, PyObject *star_given, int words) {
+    char star[8];
+    int width = star_of(core, star_given, star), plain;
+    Haystack text;
+    PyObject *made = NULL;
+    char *copy;
+    dado_status status = DADO_NO_MEMORY;
+    if (width < 0 || haystack_of(&text, core, source, NULL, NULL, EXACT, NULL) < 0) return NULL;
+    plain = !text.is_counted && width == 1; /* a byte each, so the star is written at once */
+    copy = malloc(text.len + 1);
+    if (copy != NULL) {
+        memcpy(copy, text.at, text.len);
+        status = masked(core, (uint8_t *)copy, text.len, plain ? (uint8_t)star[0] : COVERED, words);
+    }
+    if (status != DADO_OK) refuse(status);
+    else if (plain) made = PyUnicode_FromStringAndSize(copy, (Py_ssize_t)text.len);
+    else made = with_stars((const char *)text.at, copy, text.len, star, (size_t)width);
+    free(copy);
+    release(&text);
+    return made;
+}
+
+/* The bytes of what lends them: an object of its own, in which nothing else has a part. */
+static PyObject *own_bytes(PyObject *source) {
+    PyObject *view, *made, *plain = source;
+    char *at;
+    Py_ssize_t length;
+    Py_INCREF(plain);
+    if (!PyBytes_CheckExact(source)) {
+        view = PyMemoryView_FromObject(source);
+        Py_DECREF(plain);
+        plain = view == NULL ? NULL : PyBytes_FromObject(view);
+        Py_XDECREF(view);
+    }
+    if (plain == NULL || PyBytes_AsStringAndSize(plain, &at, &length) < 0) {
+        Py_XDECREF(plain);
+        return NULL;
+    }
+    made = PyBytes_FromStringAndSize(NULL, length);
+    if (made != NULL) memcpy(PyBytes_AsString(made), at, (size_t)length);
+    Py_DECREF(plain);
+    return made;
+}
+
+static PyObject *masked_bytes(Core *core, PyObject *source, PyObject *star_given, int words) {
+    int star = byte_of(core, star_given);
+    PyObject *made = star < 0 ? NULL : own_bytes(source);
+    dado_status status;
+    if (made == NULL) return NULL;
+    status = masked(core, (uint8_t *)PyBytes_AsString(made), (size_t)PyBytes_Size(made), (uint8_t)star, words);
+    if (status == DADO_OK) return made;
+    Py_DECREF(made);
+    refuse(status);
+    return NULL;
+}
+
+static PyObject *mask(PyObject *self, const Signature *signature, PyObject *const *args, Py_ssize_t count, PyObject *names, int words) {
+    PyObject *given[2], *made = NULL;
+    Core *core;
+    if (arguments_of(signature, args, count, names, given) < 0 || (core = core_of(self)) == NULL) return NULL;
+    if (fits(core, given[0]) == 0)
+        made = (PyUnicode_Check(given[0]) ? masked_text : masked_bytes)(core, given[0], given[1], words);
+    Py_DECREF(core);
+    return made;
+}
+
+static int mask_lent(Core *core, PyObject *source, int star, int words) {
+    Py_buffer lent;
+    dado_status status;
+    if (PyObject_GetBuffer(source, &lent, PyBUF_WRITABLE) < 0) return -1;
+    status = masked(core, lent.buf, (size_t)lent.len, (uint8_t)star, words);
+    PyBuffer_Release(&lent);
+    return status == DADO_OK ? 0 : refuse(status);
+}
+
+static PyObject *mask_lying(PyObject *self, const Signature *signature, PyObject *const *args, Py_ssize_t count, PyObject *names, int words) {
+    PyObject *given[2];
+    Core *core;
+    int star, done = -1;
+    if (arguments_of(signature, args, count, names, given) < 0 || (core = core_of(self)) == NULL) return NULL;
+    if (fits(core, given[0]) == 0 && (star = byte_of(core, given[1])) >= 0) done = mask_lent(core, given[0], star, words);
+    Py_DECREF(core);
+    if (done < 0) return NULL;
+    Py_RETURN_NONE;
+}
+
+PyObject *automaton_mask(PyObject *self, PyObject *const *args, Py_ssize_t count, PyObject *names) {
+    static const Signature signature = {"mask", {"text", "star"}, 2, 2, 1};
+    return mask(self, &signature, args, count, names, 0);
+}
+
+PyObject *automaton_mask_words(PyObject *self, PyObject *const *args, Py_ssize_t count, PyObject *names) {
+    static const Signature signature = {"mask_words", {"text", "star"}, 2, 2, 1};
+    return mask(self, &signature, args, count, names, 1);
+}
+
+PyObject *automaton_mask_in_place(PyObject *self, PyObject *const *args, Py_ssize_t count, PyObject *names) {
+    static const Signature signature = {"mask_in_place", {"buffer", "star"}, 2, 2, 1};
+    return mask_lying(self, &signature, args, count, names, 0);
+}
+
+PyObject *automaton_mask_words_in_place(PyObject *self, PyObject *const *args, Py_ssize_t count, PyObject *names) {
+    static const Signature signature = {"mask_words_in_place", {"buffer", "star"}, 2, 2, 1};
+    return mask_lying(self, &signature, args, count, names, 1);
+}

@@ -1,0 +1,227 @@
+/* The module, what it raises, and the arguments of its calls. */
+#include "native.h"
+
+PyObject *match_type, *error_type;
+
+/* Makes the memory of a new `Match`: that of its type. */
+static allocfunc match_memory;
+/* `tuple.__new__`, which makes a `Match` where that memory wouldn't do. */
+static PyObject *tuple_new;
+
+static PyObject *number(size_t it) { return it <= LONG_MAX ? PyLong_FromLong((long)it) : PyLong_FromSize_t(it); }
+
+/* The numbers of a match, in a tuple that nothing else has seen. */
+static int set_numbers(PyObject *tuple, const dado_match *it, size_t shift) {
+    PyObject *pattern = number(it->pattern), *start = number(it->start + shift), *end = number(it->end + shift);
+    if (pattern == NULL || start == NULL || end == NULL) {
+        Py_XDECREF(pattern), Py_XDECREF(start), Py_XDECREF(end);
+        return -1;
+    }
+    PyTuple_SetItem(tuple, 0, pattern), PyTuple_SetItem(tuple, 1, start), PyTuple_SetItem(tuple, 2, end);
+    return 0;
+}
+
+/* A `Match` by the memory that its type makes, as `tuple.__new__` does it for a type of its own. It has numbers alone, so nothing leads
+ * back to it, and the collector needn't look at it. */
+static PyObject *match_at_once(const dado_match *it, size_t shift) {
+    PyObject *made = match_memory((PyTypeObject *)match_type, 3);
+    if (made == NULL) return NULL;
+    if (set_numbers(made, it, shift) < 0) {
+        Py_DECREF(made);
+        return NULL;
+    }
+    PyObject_GC_UnTrack(made);
+    return made;
+}
+
+static PyObject *match_by_call(const dado_match *it, size_t shift) {
+    PyObject *made = NULL, *plain = PyTuple_New(3);
+    if (plain != NULL && set_numbers(plain, it, shift) == 0) made = PyObject_CallFunctionObjArgs(tuple_new, match_type, plain, NULL);
+    Py_XDECREF(plain);
+    return made;
+}
+
+PyObject *match_of(const dado_match *it, size_t shift) { return match_memory != NULL ? match_at_once(it, shift) : match_by_call(it, shift); }
+
+int refuse(dado_status status) {
+    PyObject *given;
+    if (status == DADO_NO_MEMORY) {
+        PyErr_SetString(PyExc_MemoryError, dado_error_text(status));
+        return -1;
+    }
+    given = PyLong_FromUnsignedLong(status);
+    if (given != NULL) PyErr_SetObject(error_type, given);
+    Py_XDECREF(given);
+    return -1;
+}
+
+int is_true(PyObject *it) {
+    if (it == NULL || it == Py_False) return 0;
+    return it == Py_True ? 1 : PyObject_IsTrue(it);
+}
+
+/* Which parameter a keyword names; -1 with an exception. */
+static int place_of(const Signature *it, PyObject *name) {
+    int i;
+    for (i = 0; i < it->count; i++)
+        if (PyUnicode_CompareWithASCIIString(name, it->names[i]) == 0) return i;
+    PyErr_Format(PyExc_TypeError, "%s() got an unexpected keyword argument '%U'", it->call, name);
+    return -1;
+}
+
+static int by_names(const Signature *it, PyObject *const *given, PyObject *names, PyObject **out) {
+    Py_ssize_t i, count = PyTuple_Size(names);
+    for (i = 0; i < count; i++) {
+        int place = place_of(it, PyTuple_GetItem(names, i));
+        if (place < 0) return -1;
+        if (out[place] != NULL) {
+            PyErr_Format(PyExc_TypeError, "%s() got multiple values for argument '%s'", it->call, it->names[place]);
+            return -1;
+        }
+        out[place] = given[i];
+    }
+    return 0;
+}
+
+int arguments_of(const Signature *it, PyObject *const *given, Py_ssize_t count, PyObject *names, PyObject **out) {
+    int i;
+    if (count > it->positional) {
+        PyErr_Format(PyExc_TypeError, "%s() takes at most %d positional arguments, and %zd were given", it->call, it->positional, count);
+        return -1;
+    }
+    for (i = 0; i < it->count; i++) out[i] = i < count ? given[i] : NULL;
+    if (names != NULL && by_names(it, given + count, names, out) < 0) return -1;
+    for (i = 0; i < it->needed; i++)
+        if (out[i] == NULL) {
+            PyErr_Format(PyExc_TypeError, "%s() missing the argument '%s'", it->call, it->names[i]);
+            return -1;
+        }
+    return 0;
+}
+
+/* Takes the memory of a `Match` at once, if a match that is made so is as one that a call makes. From CPython 3.14 on a tuple keeps its
+ * hash, which a type's memory alone doesn't begin. */
+static int choose_memory(void) {
+    static const dado_match sample = {1000, 2000, 3};
+    PyObject *called = match_by_call(&sample, 0), *made = NULL;
+    int same = 0;
+    match_memory = (allocfunc)PyType_GetSlot((PyTypeObject *)match_type, Py_tp_alloc);
+    if (called != NULL && match_memory != NULL) made = match_at_once(&sample, 0);
+    if (made != NULL) {
+        same = PyObject_RichCompareBool(called, made, Py_EQ);
+        if (same == 1) same = PyObject_Hash(called) == PyObject_Hash(made);
+    }
+    Py_XDECREF(called), Py_XDECREF(made);
+    if (same != 1) match_memory = NULL;
+    return PyErr_Occurred() ? -1 : 0;
+}
+
+/* Takes the types that the calls make: `Match`, a tuple of three, and `Error`. */
+static PyObject *use(PyObject *module, PyObject *types) {
+    PyObject *match, *error;
+    (void)module;
+    if (!PyArg_ParseTuple(types, "OO", &match, &error)) return NULL;
+    Py_INCREF(match), Py_INCREF(error);
+    Py_XDECREF(match_type), Py_XDECREF(error_type);
+    match_type = match, error_type = error;
+    Py_XDECREF(tuple_new);
+    tuple_new = PyObject_GetAttrString((PyObject *)&PyTuple_Type, "__new__");
+    if (tuple_new == NULL || choose_memory() < 0) return NULL;
+    Py_RETURN_NONE;
+}
+
+static PyObject *error_text(PyObject *module, PyObject *status) {
+    unsigned long value = PyLong_AsUnsignedLong(status);
+    (void)module;
+    if (value == (unsigned long)-1 && PyErr_Occurred()) return NULL;
+    return PyUnicode_FromString(dado_error_text(value <= UINT32_MAX ? (dado_status)value : UINT32_MAX));
+}
+
+static PyObject *version(PyObject *module, PyObject *none) {
+    (void)module, (void)none;
+    return PyUnicode_FromString(dado_version());
+}
+
+/* For tests: how many characters are copied at a time, how many matches a batch has, and whether the memory of a `str` is read, as they
+ * were before. */
+static PyObject *tune(PyObject *module, PyObject *sizes) {
+    size_t part = part_size, most = most_at_once;
+    int memory = reads_memory;
+    Py_ssize_t new_part = (Py_ssize_t)part, new_most = (Py_ssize_t)most;
+    (void)module;
+    if (!PyArg_ParseTuple(sizes, "nnp", &new_part, &new_most, &reads_memory)) return NULL;
+    if (new_part > 0) part_size = (size_t)new_part;
+    if (new_most > 0) most_at_once = (size_t)new_most;
+    return Py_BuildValue("nnN", (Py_ssize_t)part, (Py_ssize_t)most, PyBool_FromLong(memory));
+}
+
+static PyObject *width_of(PyObject *module, PyObject *text) {
+    Characters of;
+    (void)module;
+    if (!PyUnicode_Check(text)) {
+        PyErr_SetString(PyExc_TypeError, "not a str");
+        return NULL;
+    }
+    return characters_of(text, &of) < 0 ? NULL : PyLong_FromLong((long)of.width);
+}
+
+static PyMethodDef functions[] = {
+    {"use", use, METH_VARARGS, "Takes the types `Match` and `Error`."},
+    {"error_text", error_text, METH_O, "The text of a status."},
+    {"version", version, METH_NOARGS, "The version of the library."},
+    {"tune", tune, METH_VARARGS, "For tests: sets the size of a part, that of a batch, and whether the memory of a str is read."},
+    {"width_of", width_of, METH_O, "How many bytes a character of a str takes where it lies; 0 where that can't be said."},
+    {NULL, NULL, 0, NULL},
+};
+
+static struct PyModuleDef definition = {
+    PyModuleDef_HEAD_INIT, "dadofennel._native", "The library for C: see dadofennel.h for what its calls do.", -1, functions,
+    NULL, NULL, NULL, NULL,
+};
+
+static const struct {
+    const char *name;
+    long value;
+} constants[] = {
+    {"OK", DADO_OK}, {"NO_MEMORY", DADO_NO_MEMORY}, {"PATTERN_TOO_LONG", DADO_PATTERN_TOO_LONG}, {"SHORT", SHORT},
+};
+
+/* The words for kinds and engines, each at the place of its number in the header. */
+static const char *const kinds[] = {[DADO_STANDARD] = "standard", [DADO_LEFTMOST_FIRST] = "leftmost-first",
+                                    [DADO_LEFTMOST_LONGEST] = "leftmost-longest"};
+static const char *const start_kinds[] = {[DADO_UNANCHORED] = "unanchored", [DADO_ANCHORED] = "anchored", [DADO_BOTH] = "both"};
+static const char *const engines[] = {[DADO_AUTO] = "auto", [DADO_NONCONTIGUOUS] = "noncontiguous", [DADO_CONTIGUOUS] = "contiguous",
+                                      [DADO_DFA] = "dfa"};
+
+static int add_words(PyObject *module, const char *name, const char *const *words, Py_ssize_t count) {
+    PyObject *tuple = PyTuple_New(count);
+    Py_ssize_t i;
+    for (i = 0; tuple != NULL && i < count; i++) {
+        PyObject *word = PyUnicode_FromString(words[i]);
+        if (word == NULL) Py_CLEAR(tuple);
+        else PyTuple_SetItem(tuple, i, word);
+    }
+    if (tuple == NULL || PyModule_AddObject(module, name, tuple) < 0) {
+        Py_XDECREF(tuple);
+        return -1;
+    }
+    return 0;
+}
+
+static int add_all(PyObject *module) {
+    size_t i;
+    for (i = 0; i < sizeof constants / sizeof constants[0]; i++)
+        if (PyModule_AddIntConstant(module, constants[i].name, constants[i].value) < 0) return -1;
+    if (add_words(module, "KINDS", kinds, 3) < 0 || add_words(module, "START_KINDS", start_kinds, 3) < 0 ||
+        add_words(module, "ENGINES", engines, 4) < 0)
+        return -1;
+    if (texts_ready() < 0 || owners_ready(module) < 0 || walks_ready(module) < 0) return -1;
+    return calls_ready(module) < 0 || pieces_ready(module) < 0 ? -1 : 0;
+}
+
+/* What the module keeps is kept once for all interpreters of a process, so it can't be loaded into one with a lock of its own. */
+PyMODINIT_FUNC PyInit__native(void) {
+    PyObject *module = PyModule_Create(&definition);
+    if (module != NULL && add_all(module) < 0) Py_CLEAR(module);
+    return module;
+}

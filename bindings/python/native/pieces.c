@@ -1,0 +1,136 @@
+/* A stream of the library. `dadofennel._stream` sees to it that one thread at a time is in it. */
+#include "native.h"
+
+#include <stdlib.h>
+
+/* How many matches a stream gives at once. */
+enum { ROOM = 256 };
+
+typedef struct {
+    PyObject_HEAD
+    dado_stream *handle;
+} Pieces;
+
+static PyTypeObject *pieces_type;
+
+static void pieces_free(PyObject *self) {
+    PyTypeObject *type = Py_TYPE(self);
+    dado_stream_free(&((Pieces *)self)->handle);
+    PyObject_Free(self);
+    Py_DECREF(type);
+}
+
+/* Begins a stream of matches, or of whole words under the kind of a number. */
+static PyObject *stream(PyObject *module, PyObject *args) {
+    PyObject *owner, *kind;
+    const dado_automaton *ac;
+    Pieces *made;
+    dado_status status;
+    unsigned long number = 0;
+    (void)module;
+    if (!PyArg_ParseTuple(args, "O!O", owner_type, &owner, &kind)) return NULL;
+    if (kind != Py_None && (number = PyLong_AsUnsignedLong(kind)) == (unsigned long)-1 && PyErr_Occurred()) return NULL;
+    made = PyObject_New(Pieces, pieces_type);
+    if (made == NULL) return NULL;
+    made->handle = NULL, ac = ((Owner *)owner)->handle;
+    status = kind == Py_None ? dado_stream_new(ac, &made->handle) : dado_word_stream_new(ac, (uint32_t)number, &made->handle);
+    if (status == DADO_OK) return (PyObject *)made;
+    Py_DECREF(made);
+    refuse(status);
+    return NULL;
+}
+
+/* Takes the first bytes of a piece, from a place in it on, and says how many. */
+static PyObject *pieces_push(PyObject *self, PyObject *args) {
+    PyObject *piece;
+    Py_ssize_t at;
+    Py_buffer lent;
+    size_t taken = 0, length;
+    dado_status status = DADO_OK;
+    if (!PyArg_ParseTuple(args, "On", &piece, &at) || PyObject_GetBuffer(piece, &lent, PyBUF_SIMPLE) < 0) return NULL;
+    if (at < 0 || at > lent.len) at = lent.len;
+    length = (size_t)(lent.len - at);
+    UNLOCKED(length, status = dado_stream_push(&((Pieces *)self)->handle, length ? (const uint8_t *)lent.buf + at : NULL, length, &taken));
+    PyBuffer_Release(&lent);
+    if (status == DADO_OK) return PyLong_FromSize_t(taken);
+    refuse(status);
+    return NULL;
+}
+
+/* The next matches that are decided. -1 with an exception. */
+static int next_some(PyObject *self, dado_match *room, size_t *count) {
+    dado_status status;
+    Py_BEGIN_ALLOW_THREADS
+    status = dado_stream_some(&((Pieces *)self)->handle, room, ROOM, count);
+    Py_END_ALLOW_THREADS
+    return status > DADO_NONE ? refuse(status) : 0;
+}
+
+static int append_all(PyObject *list, const dado_match *room, size_t count) {
+    size_t i;
+    for (i = 0; i < count; i++) {
+        PyObject *match = match_of(&room[i], 0);
+        int done = match == NULL ? -1 : PyList_Append(list, match);
+        Py_XDECREF(match);
+        if (done < 0) return -1;
+    }
+    return 0;
+}
+
+/* All matches that are decided now. */
+static PyObject *pieces_matches(PyObject *self, PyObject *none) {
+    dado_match room[ROOM];
+    PyObject *list = PyList_New(0);
+    size_t count = ROOM;
+    (void)none;
+    while (list != NULL && count == ROOM)
+        if (next_some(self, room, &count) < 0 || append_all(list, room, count) < 0) Py_CLEAR(list);
+    return list;
+}
+
+/* Some of them, as three lists. Fewer than there is room for are the last ones. */
+static PyObject *pieces_batch(PyObject *self, PyObject *none) {
+    dado_match room[ROOM];
+    size_t count = 0;
+    (void)none;
+    return next_some(self, room, &count) < 0 ? NULL : lists_of(room, count, 0);
+}
+
+/* The place after all that was pushed, and that up to which everything is decided. */
+static PyObject *pieces_view(PyObject *self, PyObject *none) {
+    dado_held held;
+    dado_status status = dado_stream_view(&((Pieces *)self)->handle, &held);
+    (void)none;
+    if (status == DADO_OK) return Py_BuildValue("NN", PyLong_FromSize_t(held.from + held.len), PyLong_FromSize_t(held.cut));
+    refuse(status);
+    return NULL;
+}
+
+static PyObject *pieces_finish(PyObject *self, PyObject *none) {
+    dado_status status = dado_stream_finish(&((Pieces *)self)->handle);
+    (void)none;
+    if (status == DADO_OK) Py_RETURN_NONE;
+    refuse(status);
+    return NULL;
+}
+
+static PyMethodDef methods[] = {
+    {"push", pieces_push, METH_VARARGS, "Takes bytes of a piece from a place on, and says how many."},
+    {"matches", pieces_matches, METH_NOARGS, "All matches that are decided now."},
+    {"batch", pieces_batch, METH_NOARGS, "Some matches that are decided now, as three lists."},
+    {"view", pieces_view, METH_NOARGS, "Where what was pushed ends, and up to which place all is decided."},
+    {"finish", pieces_finish, METH_NOARGS, "Ends the text."},
+    {NULL, NULL, 0, NULL},
+};
+
+static PyType_Slot slots[] = {{Py_tp_dealloc, pieces_free}, {Py_tp_methods, methods}, {0, NULL}};
+static PyType_Spec spec = {"dadofennel._native.Pieces", sizeof(Pieces), 0, Py_TPFLAGS_DEFAULT, slots};
+
+static PyMethodDef stream_function = {"stream", stream, METH_VARARGS, "Begins a stream of an owner: of matches, or of words of a kind."};
+
+int pieces_ready(PyObject *module) {
+    PyObject *function = PyCFunction_NewEx(&stream_function, NULL, NULL);
+    pieces_type = (PyTypeObject *)PyType_FromSpec(&spec);
+    if (function == NULL || pieces_type == NULL || PyModule_AddObject(module, "stream", function) < 0) return -1;
+    return PyModule_AddIntConstant(module, "ROOM", ROOM);
+}

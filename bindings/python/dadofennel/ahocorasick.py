@@ -51,19 +51,28 @@ class _Made:
         self.every = _Automaton(words)
         self._longest: Once[_Automaton[Any]] = Once()
         self.lent: Dict[int, List[int]] = {}
+        self.change = native.Change()
 
     def again(self) -> "_Made":
         """The same, for other searches."""
         other = copy(self)
-        other.lent = {}
+        other.lent, other.change = {}, native.Change()
         return other
 
     def longest(self) -> "_Automaton[Any]":
         """What searches for the leftmost-longest matches: it is built when it is needed first."""
         return self._longest.value or self._longest.made(lambda: _Automaton(self.words, "leftmost-longest"))
 
+    def short_pairs(self, given: Any, string: Word, start: int, end: int, longest: bool) -> Optional[native.Pairs]:
+        """The pairs of a short string, if they can be found at once."""
+        every = self._longest.value if longest else self.every
+        if every is None:
+            return None
+        return native.pairs(every._built, self.change, self.order, given, string, start, min(end, len(string)), not longest)
+
     def end(self) -> None:
         """Ends all searches: what they would still give of the matches that they have found is gone."""
+        self.change.end()
         for ends in list(self.lent.values()):
             ends.clear()
 
@@ -186,6 +195,8 @@ class Automaton:
             with self._lock:
                 if version == self._version:  # else other words were added or removed meanwhile
                     made.order = list(self._values.values())
+                    if self._made is not None:
+                        self._made.change.end()
                     self._made, self._version, self.kind = made, next(_versions), AHOCORASICK
                     return None
 
@@ -253,7 +264,7 @@ class Automaton:
     def __iter__(self) -> Iterator[Word]:
         return self.keys()
 
-    def iter(self, string: Word, start: int = -1, end: int = -1, ignore_white_space: bool = False) -> "_Search":
+    def iter(self, string: Word, start: int = -1, end: int = -1, ignore_white_space: bool = False) -> "Union[_Search, native.Pairs]":
         """The occurrences of all words in `string[start:end]`, overlapping ones too: pairs of the place of the last character,
         and the value. They come in order of that place, and longer words first. White space can be left out of the string."""
         made = self._made
@@ -262,15 +273,21 @@ class Automaton:
                                  "convert the trie to an automaton.")
         if not isinstance(string, made.type):
             raise TypeError("string required" if made.type is str else "bytes required")
-        return _Search(self, made, string, max(start, 0), len(string) if end == -1 else end, bool(ignore_white_space))
+        low, high = max(start, 0), len(string) if end == -1 else end
+        if not ignore_white_space:
+            pairs = made.short_pairs((_Search, self, made, string, low, high), string, low, high, False)
+            if pairs is not None:
+                return pairs
+        return _Search(self, made, string, low, high, bool(ignore_white_space))
 
-    def iter_long(self, string: Word, *bounds: int) -> "_LongSearch":
+    def iter_long(self, string: Word, *bounds: int) -> "Union[_LongSearch, native.Pairs]":
         """The leftmost-longest matches in `string[start:end]`, which don't overlap: pairs as those of `iter`."""
         made = self._made
         if made is None or self.kind != AHOCORASICK:
             raise AttributeError("not an automaton yet; add some words and call make_automaton")
         start, end = _range(bounds, len(self._word(string)))
-        return _LongSearch(self, made, string, start, end)
+        pairs = made.short_pairs((_LongSearch, self, made, string, start, end), string, start, end, True)
+        return _LongSearch(self, made, string, start, end) if pairs is None else pairs
 
     def find_all(self, string: Word, callback: Callable[[int, Any], Any], *bounds: int) -> None:
         """Calls `callback` with each pair of `iter`."""
@@ -476,3 +493,17 @@ class _LongSearch(_Search):
         if self._ends:
             return self._string[self._ends[-1] - self._shift + 1:index + 1]
         return super()._unsettled(index)
+
+
+def _set(pairs: native.Pairs, string: Word, reset: bool) -> None:
+    """Goes on with another string. A search that stands where the pairs do takes their place."""
+    (kind, *given), search, count, has_ended = pairs.state()
+    if search is None:
+        search = kind(*given)
+        for _ in range(count + has_ended):
+            next(search, None)
+    search.set(string, reset)
+    pairs.go_on(search)
+
+
+native.use_set(_set)

@@ -83,20 +83,28 @@ static int by_names(const Signature *it, PyObject *const *given, PyObject *names
     return 0;
 }
 
-int arguments_of(const Signature *it, PyObject *const *given, Py_ssize_t count, PyObject *names, PyObject **out) {
+/* What is wrong with so many arguments, by place and by name. */
+static int check_count(const Signature *it, Py_ssize_t count, PyObject *const *out) {
     int i;
     if (count > it->positional) {
         PyErr_Format(PyExc_TypeError, "%s() takes at most %d positional arguments, and %zd were given", it->call, it->positional, count);
         return -1;
     }
-    for (i = 0; i < it->count; i++) out[i] = i < count ? given[i] : NULL;
-    if (names != NULL && by_names(it, given + count, names, out) < 0) return -1;
     for (i = 0; i < it->needed; i++)
         if (out[i] == NULL) {
             PyErr_Format(PyExc_TypeError, "%s() missing the argument '%s'", it->call, it->names[i]);
             return -1;
         }
     return 0;
+}
+
+int arguments_of(const Signature *it, PyObject *const *given, Py_ssize_t count, PyObject *names, PyObject **out) {
+    int i, by_place = count < it->positional ? (int)count : it->positional;
+    for (i = 0; i < by_place; i++) out[i] = given[i];
+    for (; i < it->count; i++) out[i] = NULL;
+    if (names == NULL && count >= it->needed && count <= it->positional) return 0;
+    if (names != NULL && by_names(it, given + count, names, out) < 0) return -1;
+    return check_count(it, count, out);
 }
 
 /* Takes the memory of a `Match` at once, if a match that is made so is as one that a call makes. From CPython 3.14 on a tuple keeps its
@@ -216,8 +224,14 @@ static int add_all(PyObject *module) {
         add_words(module, "ENGINES", engines, 4) < 0)
         return -1;
     if (texts_ready() < 0 || owners_ready(module) < 0 || walks_ready(module) < 0) return -1;
-    return calls_ready(module) < 0 || pieces_ready(module) < 0 ? -1 : 0;
+    return calls_ready(module) < 0 || pairs_ready(module) < 0 || pieces_ready(module) < 0 ? -1 : 0;
 }
+
+/* The one symbol that the module shows. The headers before 3.9 don't say so. */
+#ifdef __GNUC__
+__attribute__((visibility("default")))
+#endif
+PyMODINIT_FUNC PyInit__native(void);
 
 /* What the module keeps is kept once for all interpreters of a process, so it can't be loaded into one with a lock of its own. */
 PyMODINIT_FUNC PyInit__native(void) {

@@ -150,9 +150,10 @@ PyObject *found_new(const dado_match *found, size_t count, size_t shift);
 /* The patterns, starts and ends of some matches, as three lists. */
 PyObject *lists_of(const dado_match *found, size_t count, size_t shift);
 
-/* ---- calls.c, change.c, pieces.c ---- */
+/* ---- calls.c, change.c, pairs.c, pieces.c ---- */
 
 int calls_ready(PyObject *module);
+int pairs_ready(PyObject *module);
 int pieces_ready(PyObject *module);
 
 PyObject *automaton_replace(PyObject *self, PyObject *const *given, Py_ssize_t count, PyObject *names);

@@ -42,7 +42,7 @@ class Automaton(native.Searches[AnyStr], Generic[AnyStr]):
     Raises `BuildError`, `TypeError` where the patterns aren't all of one type, and `MemoryError`.
     """
 
-    __slots__ = ("_built", "__weakref__")
+    __slots__ = ("__weakref__",)
 
     def __init__(
         self,

@@ -1,6 +1,7 @@
 """The extension module: the library for C, and the searches of an automaton. `native/` has its sources."""
 from typing import Any, AnyStr, Callable, Generic, Iterable, Iterator, List, Optional, Tuple
 
+from ._built import Built
 from ._match import Match
 from ._replacements import Replacements
 
@@ -28,6 +29,7 @@ class Core:
     def coded(self, text: str, /) -> bytes: ...
 
 class Searches(Generic[AnyStr]):
+    _built: Built
     def is_match(self, text: Any, start: Optional[int] = None, end: Optional[int] = None, *, anchored: bool = False) -> bool: ...
     def find(
         self, text: Any, start: Optional[int] = None, end: Optional[int] = None, *, anchored: bool = False, earliest: bool = False,

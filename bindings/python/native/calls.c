@@ -2,6 +2,19 @@
 #include "docs.h"
 #include "native.h"
 
+/* An automaton of Python has its core in a field, which `__init__` sets, and each call takes and holds. */
+typedef struct {
+    PyObject_HEAD
+    Core *core;
+} Searches;
+
+Core *core_of(PyObject *automaton) {
+    Core *core = ((Searches *)automaton)->core;
+    if (core == NULL) PyErr_SetString(PyExc_AttributeError, "the automaton was not built");
+    Py_XINCREF(core);
+    return core;
+}
+
 /* ---- One match ---- */
 
 /* The status of a search of a span, and its match, with places as the caller counts them. -1 with an exception. */
@@ -278,9 +291,53 @@ static PyMethodDef methods[] = {
     {NULL, NULL, 0, NULL},
 };
 
-/* The type has no fields: an automaton of Python keeps its core in an attribute, which each call takes and holds. */
-static PyType_Slot slots[] = {{Py_tp_methods, methods}, {0, NULL}};
-static PyType_Spec spec = {"dadofennel._native.Searches", sizeof(PyObject), 0, Py_TPFLAGS_DEFAULT | Py_TPFLAGS_BASETYPE, slots};
+static PyObject *get_built(PyObject *self, void *unused) {
+    (void)unused;
+    return (PyObject *)core_of(self);
+}
+
+static int set_built(PyObject *self, PyObject *core, void *unused) {
+    Searches *it = (Searches *)self;
+    Core *before = it->core;
+    (void)unused;
+    if (core == NULL || !PyObject_TypeCheck(core, core_type) || ((Core *)core)->plain == NULL) {
+        PyErr_SetString(PyExc_TypeError, "what was built is a core that was begun");
+        return -1;
+    }
+    Py_INCREF(core);
+    it->core = (Core *)core;
+    Py_XDECREF(before);
+    return 0;
+}
+
+/* Whether a type of `PyType_FromSpec` that others are derived from has to visit the type of its instances: from 3.9 on. */
+static int visits_type;
+
+static int searches_visit(PyObject *self, visitproc visit, void *arg) {
+    if (visits_type) Py_VISIT(Py_TYPE(self));
+    Py_VISIT(((Searches *)self)->core);
+    return 0;
+}
+
+static int searches_clear(PyObject *self) {
+    Py_CLEAR(((Searches *)self)->core);
+    return 0;
+}
+
+static void searches_free(PyObject *self) {
+    PyTypeObject *type = Py_TYPE(self);
+    freefunc free_memory = (freefunc)PyType_GetSlot(type, Py_tp_free);
+    PyObject_GC_UnTrack(self);
+    searches_clear(self);
+    free_memory(self);
+    Py_DECREF(type);
+}
+
+static PyGetSetDef fields[] = {{"_built", get_built, set_built, "What searches.", NULL}, {NULL, NULL, NULL, NULL, NULL}};
+static PyType_Slot slots[] = {{Py_tp_dealloc, searches_free}, {Py_tp_traverse, searches_visit}, {Py_tp_clear, searches_clear},
+                              {Py_tp_methods, methods},       {Py_tp_getset, fields},           {0, NULL}};
+static PyType_Spec spec = {"dadofennel._native.Searches", sizeof(Searches), 0,
+                           Py_TPFLAGS_DEFAULT | Py_TPFLAGS_BASETYPE | Py_TPFLAGS_HAVE_GC, slots};
 
 static PyMethodDef functions[] = {
     {"batches", batches, METH_VARARGS, "The matches of a part of a text, or all occurrences, as batches of three lists."},
@@ -289,8 +346,9 @@ static PyMethodDef functions[] = {
 };
 
 int calls_ready(PyObject *module) {
-    PyObject *type = PyType_FromSpec(&spec);
+    PyObject *type = PyType_FromSpec(&spec), *version = PySys_GetObject("hexversion");
     size_t i;
+    visits_type = version != NULL && PyLong_AsLong(version) >= 0x03090000;
     if (type == NULL || PyModule_AddObject(module, "Searches", type) < 0) return -1;
     for (i = 0; i < sizeof functions / sizeof functions[0]; i++) {
         PyObject *function = PyCFunction_NewEx(&functions[i], NULL, NULL);

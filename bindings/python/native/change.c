@@ -6,19 +6,33 @@
 
 /* ---- Replacements ---- */
 
+/* How many replacements need no memory of their own. */
+enum { NEAR = 32 };
+
 /* The bytes of the replacement of each pattern, and the objects that hold them. */
 typedef struct {
+    dado_bytes near[NEAR];
     dado_bytes *at;
     size_t count;
-    PyObject *held;
+    PyObject *texts, *others;     /* the replacements; bytes that were made of some of them, or NULL */
 } Slices;
 
 static void let_go(Slices *it) {
-    free(it->at);
-    Py_XDECREF(it->held);
+    if (it->at != it->near) free(it->at);
+    Py_XDECREF(it->texts);
+    Py_XDECREF(it->others);
 }
 
-/* The UTF-8 of a replacement, or its bytes. A `str` keeps its UTF-8 from then on; where it has lone surrogates, `bytes` are held for it. */
+/* The UTF-8 of a text with lone surrogates, which is held from now on; borrowed. */
+static PyObject *other_of(Slices *it, PyObject *text) {
+    PyObject *raw = utf8_of(text);
+    if (it->others == NULL) it->others = PyList_New(0);
+    if (raw != NULL && (it->others == NULL || PyList_Append(it->others, raw) < 0)) Py_CLEAR(raw);
+    Py_XDECREF(raw);
+    return raw;
+}
+
+/* The UTF-8 of a replacement, or its bytes. A `str` beyond ASCII keeps its UTF-8 from then on. */
 static int slice_of(Slices *it, PyObject *text, dado_bytes *out) {
     Characters of;
     char *at = NULL;
@@ -32,12 +46,8 @@ static int slice_of(Slices *it, PyObject *text, dado_bytes *out) {
         at = (char *)PyUnicode_AsUTF8AndSize(text, &length);
         if (at == NULL) {
             PyErr_Clear();
-            text = utf8_of(text);
-            if (text == NULL || PyList_Append(it->held, text) < 0) {
-                Py_XDECREF(text);
-                return -1;
-            }
-            Py_DECREF(text);
+            text = other_of(it, text);
+            if (text == NULL) return -1;
         }
     }
     if (at == NULL && PyBytes_AsStringAndSize(text, &at, &length) < 0) return -1;
@@ -48,17 +58,23 @@ static int slice_of(Slices *it, PyObject *text, dado_bytes *out) {
 /* The same replacement for all patterns. */
 static int one_for_all(Slices *it, PyObject *text) {
     size_t i;
-    if (PyList_Append(it->held, text) < 0 || (it->count != 0 && slice_of(it, text, it->at) < 0)) return -1;
+    Py_INCREF(text);
+    it->texts = text;
+    if (it->count != 0 && slice_of(it, text, it->at) < 0) return -1;
     for (i = 1; i < it->count; i++) it->at[i] = it->at[0];
     return 0;
 }
 
-/* Whether something is a list or tuple of as many texts as there are patterns, of their type. */
+static PyObject *item(PyObject *texts, size_t i) {
+    return PyTuple_CheckExact(texts) ? PyTuple_GetItem(texts, (Py_ssize_t)i) : PyList_GetItem(texts, (Py_ssize_t)i);
+}
+
+/* Whether a list or a tuple has as many texts as there are patterns, of their type. */
 static int is_one_each(const Core *core, PyObject *texts) {
     size_t i;
-    if (PyTuple_Size(texts) != (Py_ssize_t)core->count) return 0;
+    if ((PyTuple_CheckExact(texts) ? PyTuple_Size(texts) : PyList_Size(texts)) != (Py_ssize_t)core->count) return 0;
     for (i = 0; i < core->count; i++) {
-        PyObject *text = PyTuple_GetItem(texts, (Py_ssize_t)i);
+        PyObject *text = item(texts, i);
         if (core->text == 1 ? !PyUnicode_Check(text) : !PyBytes_CheckExact(text)) return 0;
     }
     return 1;
@@ -81,10 +97,11 @@ static PyObject *values_of(const Core *core, PyObject *dict) {
     return values;
 }
 
-/* The replacements as a tuple: what isn't one of the plain cases is asked of Python, which raises what is wrong with it. */
-static PyObject *texts_of(Core *core, PyObject *replacements) {
+/* The replacements as a list or a tuple, of which the caller is an owner. What isn't one of the plain cases is asked of Python, which
+ * raises what is wrong with it. A list may change while a long text is searched, so that is given a tuple. */
+static PyObject *texts_of(Core *core, PyObject *replacements, int is_long) {
     PyObject *texts = NULL, *asked;
-    if (PyTuple_CheckExact(replacements)) texts = replacements, Py_INCREF(texts);
+    if (PyTuple_CheckExact(replacements) || (PyList_CheckExact(replacements) && !is_long)) texts = replacements, Py_INCREF(texts);
     else if (PyList_CheckExact(replacements)) texts = PyList_AsTuple(replacements);
     else if (PyDict_CheckExact(replacements)) texts = values_of(core, replacements);
     if (PyErr_Occurred()) {
@@ -99,40 +116,53 @@ static PyObject *texts_of(Core *core, PyObject *replacements) {
     return texts;
 }
 
-static int all_of(Slices *it, Core *core, PyObject *replacements) {
-    PyObject *texts = texts_of(core, replacements);
+static int all_of(Slices *it, Core *core, PyObject *replacements, int is_long) {
     size_t i;
-    int done = texts == NULL || PyList_Append(it->held, texts) < 0 ? -1 : 0;
-    for (i = 0; done == 0 && i < it->count; i++) {
-        PyObject *text = PyTuple_GetItem(texts, (Py_ssize_t)i);
-        done = text == NULL ? -1 : slice_of(it, text, &it->at[i]);
+    it->texts = texts_of(core, replacements, is_long);
+    if (it->texts == NULL) return -1;
+    for (i = 0; i < it->count; i++) {
+        PyObject *text = item(it->texts, i);
+        if (text == NULL || slice_of(it, text, &it->at[i]) < 0) return -1;
     }
-    Py_XDECREF(texts);
-    return done;
+    return 0;
 }
 
-static int slices_of(Slices *it, Core *core, PyObject *replacements) {
+/* Takes the replacements. After it no code of Python runs before a short text is searched. */
+static int slices_of(Slices *it, Core *core, PyObject *replacements, int is_long) {
     int is_one = core->text == 1 ? PyUnicode_CheckExact(replacements) : core->text == 0 && PyBytes_CheckExact(replacements), done;
-    it->count = core->count, it->held = PyList_New(0), it->at = malloc((core->count + 1) * sizeof *it->at);
-    if (it->at == NULL) refuse(DADO_NO_MEMORY);
-    done = it->held == NULL || it->at == NULL ? -1 : is_one ? one_for_all(it, replacements) : all_of(it, core, replacements);
+    it->count = core->count, it->texts = it->others = NULL;
+    it->at = it->count <= NEAR ? it->near : malloc(it->count * sizeof *it->at);
+    if (it->at == NULL) return refuse(DADO_NO_MEMORY);
+    done = is_one ? one_for_all(it, replacements) : all_of(it, core, replacements, is_long);
     if (done < 0) let_go(it);
     return done;
 }
 
 /* ---- Replacing ---- */
 
-static PyObject *replaced(Core *core, PyObject *source, const Slices *slices) {
-    Haystack text;
+/* The text with its matches replaced: of UTF-8, or of bytes. */
+static PyObject *replaced(const Core *core, const Haystack *text, const Slices *slices, int is_text) {
     dado_text made = DADO_NO_TEXT;
     dado_status status;
+    const char *at;
+    PyObject *result = NULL;
+    UNLOCKED(text->len, status = dado_replace(core->plain->handle, text->at, text->len, slices->at, slices->count, &made));
+    at = made.len ? (const char *)made.at : "";
+    if (status != DADO_OK) refuse(status);
+    else result = is_text ? PyUnicode_DecodeUTF8(at, (Py_ssize_t)made.len, "surrogatepass") : PyBytes_FromStringAndSize(at, (Py_ssize_t)made.len);
+    dado_text_free(&made);
+    return result;
+}
+
+static PyObject *replaced_by(Core *core, PyObject *source, PyObject *replacements) {
+    Haystack text;
+    Slices slices;
     PyObject *result = NULL;
     if (haystack_of(&text, core, source, NULL, NULL, EXACT, NULL) < 0) return NULL;
-    UNLOCKED(text.len, status = dado_replace(core->plain->handle, text.at, text.len, slices->at, slices->count, &made));
-    if (status != DADO_OK) refuse(status);
-    else if (PyUnicode_Check(source)) result = PyUnicode_DecodeUTF8(made.len ? (const char *)made.at : "", (Py_ssize_t)made.len, "surrogatepass");
-    else result = PyBytes_FromStringAndSize((const char *)made.at, (Py_ssize_t)made.len);
-    dado_text_free(&made);
+    if (slices_of(&slices, core, replacements, text.len > SHORT) == 0) {
+        result = replaced(core, &text, &slices, PyUnicode_Check(source));
+        let_go(&slices);
+    }
     release(&text);
     return result;
 }
@@ -148,16 +178,12 @@ static int is_of_python(const Core *core, PyObject *text, PyObject *replacements
 PyObject *automaton_replace(PyObject *self, PyObject *const *args, Py_ssize_t count, PyObject *names) {
     static const Signature signature = {"replace", {"text", "replacements"}, 2, 2, 2};
     PyObject *given[2], *result = NULL;
-    Slices slices;
     Core *core;
     int python;
     if (arguments_of(&signature, args, count, names, given) < 0 || (core = core_of(self)) == NULL) return NULL;
     python = is_of_python(core, given[0], given[1]);
     if (python > 0) result = PyObject_CallMethod((PyObject *)core, "replaced", "OO", given[0], given[1]);
-    else if (python == 0 && slices_of(&slices, core, given[1]) == 0) {
-        result = replaced(core, given[0], &slices);
-        let_go(&slices);
-    }
+    else if (python == 0) result = replaced_by(core, given[0], given[1]);
     Py_DECREF(core);
     return result;
 }

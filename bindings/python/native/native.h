@@ -59,8 +59,6 @@ typedef struct {
 
 extern PyTypeObject *owner_type, *core_type;
 int owners_ready(PyObject *module);
-/* The core of an automaton of Python: a new reference. */
-Core *core_of(PyObject *automaton);
 /* Whether it was built for searches that are anchored so; for all occurrences; for whole words. -1 with the error, if not. */
 int serves(const Core *core, int anchored);
 int serves_listing(const Core *core);
@@ -151,6 +149,9 @@ PyObject *found_new(const dado_match *found, size_t count, size_t shift);
 PyObject *lists_of(const dado_match *found, size_t count, size_t shift);
 
 /* ---- calls.c, change.c, pairs.c, pieces.c ---- */
+
+/* The core of an automaton of Python: a new reference. */
+Core *core_of(PyObject *automaton);
 
 int calls_ready(PyObject *module);
 int pairs_ready(PyObject *module);

@@ -5,9 +5,6 @@
 
 PyTypeObject *owner_type, *core_type;
 
-/* The name of the attribute in which an automaton of Python has its core. */
-static PyObject *built_name;
-
 static void owner_free(PyObject *self) {
     PyTypeObject *type = Py_TYPE(self);
     dado_free(&((Owner *)self)->handle);
@@ -198,15 +195,6 @@ static PyMethodDef core_methods[] = {
 static PyType_Slot core_slots[] = {{Py_tp_dealloc, core_free}, {Py_tp_methods, core_methods}, {0, NULL}};
 static PyType_Spec core_spec = {"dadofennel._native.Core", sizeof(Core), 0, Py_TPFLAGS_DEFAULT | Py_TPFLAGS_BASETYPE, core_slots};
 
-Core *core_of(PyObject *automaton) {
-    PyObject *core = PyObject_GetAttr(automaton, built_name);
-    if (core != NULL && !(PyObject_TypeCheck(core, core_type) && ((Core *)core)->plain != NULL)) {
-        PyErr_SetString(PyExc_TypeError, "the automaton was not built");
-        Py_CLEAR(core);
-    }
-    return (Core *)core;
-}
-
 int serves(const Core *core, int anchored) {
     if (anchored && core->start_kind == DADO_UNANCHORED) return refuse(DADO_NOT_ANCHORED);
     if (!anchored && core->start_kind == DADO_ANCHORED) return refuse(DADO_NOT_UNANCHORED);
@@ -244,10 +232,9 @@ static PyMethodDef build_function = {"build", build, METH_VARARGS,
 
 int owners_ready(PyObject *module) {
     PyObject *function = PyCFunction_NewEx(&build_function, NULL, NULL);
-    built_name = PyUnicode_InternFromString("_built");
     owner_type = (PyTypeObject *)PyType_FromSpec(&owner_spec);
     core_type = (PyTypeObject *)PyType_FromSpec(&core_spec);
-    if (function == NULL || built_name == NULL || owner_type == NULL || core_type == NULL) return -1;
+    if (function == NULL || owner_type == NULL || core_type == NULL) return -1;
     Py_INCREF(owner_type), Py_INCREF(core_type);
     if (PyModule_AddObject(module, "build", function) < 0 || PyModule_AddObject(module, "Owner", (PyObject *)owner_type) < 0) return -1;
     return PyModule_AddObject(module, "Core", (PyObject *)core_type);

@@ -911,6 +911,31 @@ class Matches(unittest.TestCase):
         counted = [self.blocks() for _ in range(4)]
         self.assertLess(counted[-1] - counted[1], 50)
 
+    def test_types_keep_no_reference(self):
+        """What is let go of gives back its reference to its type; and a cycle is collected."""
+        class Named(str):
+            pass
+
+        class Lent(bytearray):
+            pass
+
+        def turn():
+            for _ in range(100):
+                word, text = Named("fox"), Lent(b"a fox " * 2000)
+                word.automaton = automaton = Automaton([word])
+                automaton.find("a fox€"), automaton.stream(), list(automaton.finditer("x" * 5000)), automaton.finditer("fox"), copy.copy(automaton)
+                text.matches = Automaton([b"fox"]).finditer(text)
+                next(text.matches)
+            gc.collect()
+
+        turn()
+        types = [Automaton, type(Automaton(["a"])._built), native.Owner, native.Core, native.Searches, Named, Lent]
+        types += map(type, (Automaton(["a"]).finditer("a" * 5000), Automaton(["a"]).finditer("a"), Automaton(["a"]).stream()._pieces))
+        before = list(map(sys.getrefcount, types))
+        turn()
+        for one, count in zip(types, before):
+            self.assertLess(abs(sys.getrefcount(one) - count), 20, one)
+
     def blocks(self):
         automaton = Automaton(["fox", "é"])
         for text in ("a fox, ", "a fox, " * 3000, "é fox€", "€ fox, " * 3000):

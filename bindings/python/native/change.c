@@ -149,7 +149,8 @@ static PyObject *replaced(const Core *core, const Haystack *text, const Slices *
     UNLOCKED(text->len, status = dado_replace(core->plain->handle, text->at, text->len, slices->at, slices->count, &made));
     at = made.len ? (const char *)made.at : "";
     if (status != DADO_OK) refuse(status);
-    else result = is_text ? PyUnicode_DecodeUTF8(at, (Py_ssize_t)made.len, "surrogatepass") : PyBytes_FromStringAndSize(at, (Py_ssize_t)made.len);
+    else if (is_text) result = PyUnicode_DecodeUTF8(at, (Py_ssize_t)made.len, "surrogatepass");
+    else result = PyBytes_FromStringAndSize(at, (Py_ssize_t)made.len);
     dado_text_free(&made);
     return result;
 }
@@ -324,7 +325,8 @@ static int mask_lent(Core *core, PyObject *source, int star, int words) {
     return status == DADO_OK ? 0 : refuse(status);
 }
 
-static PyObject *mask_lying(PyObject *self, const Signature *signature, PyObject *const *args, Py_ssize_t count, PyObject *names, int words) {
+static PyObject *mask_lying(PyObject *self, const Signature *signature, PyObject *const *args, Py_ssize_t count, PyObject *names,
+                            int words) {
     PyObject *given[2];
     Core *core;
     int star, done = -1;

@@ -41,7 +41,9 @@ static PyObject *match_by_call(const dado_match *it, size_t shift) {
     return made;
 }
 
-PyObject *match_of(const dado_match *it, size_t shift) { return match_memory != NULL ? match_at_once(it, shift) : match_by_call(it, shift); }
+PyObject *match_of(const dado_match *it, size_t shift) {
+    return match_memory != NULL ? match_at_once(it, shift) : match_by_call(it, shift);
+}
 
 int refuse(dado_status status) {
     PyObject *given;

@@ -129,7 +129,7 @@ static void pairs_free(PyObject *self) {
 }
 
 static PyMethodDef pairs_methods[] = {
-    {"state", pairs_state, METH_NOARGS, "What it was made of, what gives the pairs now, how many it gave before, and whether more were asked for."},
+    {"state", pairs_state, METH_NOARGS, "What it was made of, what gives the pairs now, how many it gave, and whether more were asked for."},
     {"go_on", pairs_go_on, METH_O, "Lets another search give the pairs."},
     {"set", (PyCFunction)(void (*)(void))pairs_set, METH_VARARGS | METH_KEYWORDS,
      "set($self, string, reset=False)\n--\n\nGoes on with another string, as if it followed what was searched so far."},
@@ -172,7 +172,7 @@ static PyObject *pairs(PyObject *module, PyObject *const *args, Py_ssize_t count
     dado_status status = DADO_NONE;
     (void)module;
     if (count != 8 || !PyObject_TypeCheck(args[0], core_type) || Py_TYPE(args[1]) != change_type || !PyList_Check(args[2])) {
-        PyErr_SetString(PyExc_TypeError, "pairs are of a core, a change, values, what was given, a text, its bounds, and whether all are meant");
+        PyErr_SetString(PyExc_TypeError, "pairs are of a core, a change, values, what was given, a text, two bounds and a truth value");
         return NULL;
     }
     core = (Core *)args[0], listed = args[7] == Py_True;
@@ -211,8 +211,8 @@ int pairs_ready(PyObject *module) {
     pairs_type = (PyTypeObject *)PyType_FromSpec(&pairs_spec);
     if (change_type == NULL || pairs_type == NULL) return -1;
     Py_INCREF(change_type), Py_INCREF(pairs_type);
-    if (PyModule_AddObject(module, "Change", (PyObject *)change_type) < 0 || PyModule_AddObject(module, "Pairs", (PyObject *)pairs_type) < 0)
-        return -1;
+    if (PyModule_AddObject(module, "Change", (PyObject *)change_type) < 0) return -1;
+    if (PyModule_AddObject(module, "Pairs", (PyObject *)pairs_type) < 0) return -1;
     for (i = 0; i < sizeof functions / sizeof functions[0]; i++) {
         PyObject *function = PyCFunction_NewEx(&functions[i], NULL, NULL);
         if (function == NULL || PyModule_AddObject(module, functions[i].ml_name, function) < 0) return -1;

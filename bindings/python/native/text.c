@@ -73,30 +73,36 @@ typedef struct {
     unsigned told; /* what its word says */
 } Sample;
 
-/* Makes the samples: four kinds of characters in two lengths, and two texts of a type of their own, whose characters are elsewhere. Where
- * the characters follow is tested at once. -1 with an exception, 0 where it isn't so. */
+static const struct {
+    Py_UCS4 first;
+    unsigned width, told;
+} kinds[] = {{0x41, 1, 1 | FOLLOWS | IS_ASCII}, {0xA1, 1, 1 | FOLLOWS}, {0x2200, 2, 2 | FOLLOWS}, {0x1F600, 4, 4 | FOLLOWS}};
+
+/* Whether the characters of a sample of a kind follow its other fields, as far after its beginning as those of the samples before it.
+ * -1 with an exception. */
+static int follow(PyObject *text, int kind, size_t length) {
+    Py_ssize_t size = size_of(text);
+    size_t *base = kind == 0 ? &layout.ascii : &layout.other, at;
+    if (size < 0) return -1;
+    if ((size_t)size < sizeof(PyObject) + (length + 1) * kinds[kind].width) return 0;
+    at = (size_t)size - (length + 1) * kinds[kind].width;
+    if (*base == 0) *base = at;
+    return at == *base && holds(text, at, kinds[kind].width, kinds[kind].first, length);
+}
+
+/* Makes the samples: four kinds of characters in two lengths, and two texts of a type of their own, whose characters are elsewhere. -1
+ * with an exception, 0 where the characters aren't found. */
 static int samples_of(Sample *samples, PyObject *apart) {
-    static const struct {
-        Py_UCS4 first;
-        unsigned width, told;
-    } kinds[] = {{0x41, 1, 1 | FOLLOWS | IS_ASCII}, {0xA1, 1, 1 | FOLLOWS}, {0x2200, 2, 2 | FOLLOWS}, {0x1F600, 4, 4 | FOLLOWS}};
-    int i;
-    for (i = 0; i < SAMPLES; i++) {
-        int kind = i / 2 % 4;
-        Py_ssize_t length = i % 2 ? 8 : 3, size;
-        samples[i].text = sample(kinds[kind].first, length, i < 8 ? NULL : apart);
-        samples[i].told = i < 8 ? kinds[kind].told : 1 | IS_ASCII;
+    int i, found = 1;
+    for (i = 0; i < SAMPLES && found == 1; i++) {
+        int kind = i / 2 % 4, is_apart = i >= 8;
+        Py_ssize_t length = i % 2 ? 8 : 3;
+        samples[i].text = sample(kinds[kind].first, length, is_apart ? apart : NULL);
+        samples[i].told = is_apart ? 1 | IS_ASCII : kinds[kind].told;
         if (samples[i].text == NULL) return -1;
-        if (i >= 8) continue;
-        size = size_of(samples[i].text);
-        if (size < 0) return -1;
-        size -= (length + 1) * (Py_ssize_t)kinds[kind].width;
-        if (size < (Py_ssize_t)sizeof(PyObject) || !holds(samples[i].text, (size_t)size, kinds[kind].width, kinds[kind].first, (size_t)length)) return 0;
-        if (i == 0) layout.ascii = (size_t)size;
-        else if (kind != 0 && layout.other == 0) layout.other = (size_t)size;
-        if ((size_t)size != (kind == 0 ? layout.ascii : layout.other)) return 0;
+        if (!is_apart) found = follow(samples[i].text, kind, (size_t)length);
     }
-    return 1;
+    return found;
 }
 
 static int all_say(const Sample *samples, size_t word, size_t shift) {

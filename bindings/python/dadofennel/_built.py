@@ -64,7 +64,9 @@ class Built(native.Core):
         """What a match is replaced by."""
         if callable(replacements):
             return cast(Callable[[Match], Any], replacements)
-        texts = self.one_each(replacements)
+        if type(replacements) is (str if self.text else bytes) and self.patterns:
+            return lambda _: replacements
+        texts = self.texts(replacements)
         return lambda found: texts[found.pattern]
 
     def replaced(self, text: Any, replacements: Any) -> Any:

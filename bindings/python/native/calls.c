@@ -201,11 +201,36 @@ static PyObject *words_in(PyObject *module, PyObject *args) {
 
 /* ---- Many texts ---- */
 
-/* All matches of a text, as a list. */
-static PyObject *found_each(Core *core, PyObject *text) {
-    static const Asked asked = {MATCHES, 0, 0, 0, 0};
-    PyObject *matches = matches_in(core, text, NULL, NULL, &asked), *list = matches == NULL ? NULL : PySequence_List(matches);
-    Py_XDECREF(matches);
+static PyObject *list_of_few(const dado_match *few, size_t count, size_t shift) {
+    PyObject *list = PyList_New((Py_ssize_t)count);
+    size_t i;
+    for (i = 0; list != NULL && i < count; i++) {
+        PyObject *match = match_of(&few[i], shift);
+        if (match == NULL) Py_CLEAR(list);
+        else PyList_SetItem(list, (Py_ssize_t)i, match);
+    }
+    return list;
+}
+
+/* All matches of a text, as a list. Those of a short text are found at once; where they are many, or the text is long, by a walk. */
+static PyObject *found_each(Core *core, PyObject *source) {
+    uint8_t near[SHORT];
+    dado_match few[FEW];
+    Haystack text;
+    Going going;
+    PyObject *walk = NULL, *list = NULL;
+    const Owner *owner;
+    int is_all = 0, failed;
+    size_t count = 0;
+    if (haystack_of(&text, core, source, NULL, NULL, PARTS, near) < 0) return NULL;
+    owner = searcher_of(&text);
+    begin(&going, MATCHES, 0, &text, 0, 0);
+    failed = owner == NULL || (text.len <= SHORT && is_last_part(&text) && first_few(owner, &text, &going, few, &count, &is_all) < 0);
+    if (!failed && !is_all) walk = walk_new(&text, source, near, &going, few, count, 0, 0);
+    else release(&text);
+    if (walk != NULL) list = PySequence_List(walk);
+    else if (is_all) list = list_of_few(few, count, text.shift);
+    Py_XDECREF(walk);
     return list;
 }
 

@@ -127,6 +127,9 @@ static int all_of(Slices *it, Core *core, PyObject *replacements, int is_long) {
     return 0;
 }
 
+/* The replacements as a tuple, for Python. */
+PyObject *core_texts(PyObject *self, PyObject *replacements) { return texts_of((Core *)self, replacements, 1); }
+
 /* Takes the replacements. After it no code of Python runs before a short text is searched. */
 static int slices_of(Slices *it, Core *core, PyObject *replacements, int is_long) {
     int is_one = core->text == 1 ? PyUnicode_CheckExact(replacements) : core->text == 0 && PyBytes_CheckExact(replacements), done;

@@ -157,6 +157,7 @@ int calls_ready(PyObject *module);
 int pairs_ready(PyObject *module);
 int pieces_ready(PyObject *module);
 
+PyObject *core_texts(PyObject *self, PyObject *replacements);
 PyObject *automaton_replace(PyObject *self, PyObject *const *given, Py_ssize_t count, PyObject *names);
 PyObject *automaton_mask(PyObject *self, PyObject *const *given, Py_ssize_t count, PyObject *names);
 PyObject *automaton_mask_words(PyObject *self, PyObject *const *given, Py_ssize_t count, PyObject *names);

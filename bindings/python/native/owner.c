@@ -185,6 +185,7 @@ static PyObject *core_serves(PyObject *self, PyObject *anchored) {
 
 static PyMethodDef core_methods[] = {
     {"begin", core_begin, METH_VARARGS, "Sets what searches ask for, once."},
+    {"texts", core_texts, METH_O, "The replacements as a tuple, one for each pattern."},
     {"serves", core_serves, METH_O, "Raises an `Error` where it wasn't built for searches that are anchored so."},
     {"engine", core_engine, METH_NOARGS, "The number of the engine that searches."},
     {"memory", core_memory, METH_NOARGS, "About how many bytes the automaton takes."},

@@ -229,7 +229,7 @@ static PyObject *found_each(Core *core, PyObject *source) {
     if (!failed && !is_all) walk = walk_new(&text, source, near, &going, few, count, 0, 0);
     else release(&text);
     if (walk != NULL) list = PySequence_List(walk);
-    else if (is_all) list = list_of_few(few, count, text.shift);
+    else if (!failed && is_all) list = list_of_few(few, count, text.shift);
     Py_XDECREF(walk);
     return list;
 }

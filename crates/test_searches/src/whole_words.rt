@@ -249,8 +249,11 @@ impl Refused {
             .automaton
             .try_replace_words(LeftmostLongest, on.alloc, b"a", &names);
         let refused = match made {
-            Err(ReplaceError::Match(error)) => Some(*error.kind()),
-            Err(ReplaceError::Memory) | Ok(_) => None,
+            Ok(_text) => None,
+            Err(refused) => match refused {
+                ReplaceError::Match(error) => Some(*error.kind()),
+                ReplaceError::Memory => None,
+            },
         };
         equal(on.rt, &refused, &Some(self.why), "refused, too");
         Ok(())

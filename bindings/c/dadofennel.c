@@ -251,6 +251,15 @@ void dado_text_free(dado_text *text) {
     *text = none;
 }
 
+/* Puts a text that was made in the place of the caller's. */
+static dado_status hold(dado_status status, dado_text made, dado_text *text) {
+    if (status != DADO_OK) return status;
+    proved()->text_view(&made.owner, &made.at, &made.len);
+    dado_text_free(text);
+    *text = made;
+    return DADO_OK;
+}
+
 dado_status dado_replace(const dado_automaton *ac, const void *haystack, size_t len, const dado_bytes *replacements, size_t count,
                          dado_text *text) {
     dado_text made = DADO_NO_TEXT;
@@ -259,11 +268,18 @@ dado_status dado_replace(const dado_automaton *ac, const void *haystack, size_t 
     if (ac == NULL) return DADO_NO_AUTOMATON;
     if ((haystack == NULL && len != 0) || (replacements == NULL && count != 0)) return DADO_BAD_ARGUMENT;
     status = proved()->replace(ac, haystack, len, replacements, count, &made.owner);
-    if (status != DADO_OK) return status;
-    proved()->text_view(&made.owner, &made.at, &made.len);
-    dado_text_free(text);
-    *text = made;
-    return DADO_OK;
+    return hold(status, made, text);
+}
+
+dado_status dado_replace_words(const dado_automaton *ac, uint32_t kind, const void *haystack, size_t len, const dado_bytes *replacements,
+                               size_t count, dado_text *text) {
+    dado_text made = DADO_NO_TEXT;
+    dado_status status;
+    if (text == NULL) return DADO_BAD_ARGUMENT;
+    if (ac == NULL) return DADO_NO_AUTOMATON;
+    if ((haystack == NULL && len != 0) || (replacements == NULL && count != 0)) return DADO_BAD_ARGUMENT;
+    status = proved()->replace_words(ac, kind, haystack, len, replacements, count, &made.owner);
+    return hold(status, made, text);
 }
 
 /* ---- Text that comes in pieces ---- */

@@ -467,6 +467,18 @@ void dado_text_free(dado_text *text);
 dado_status dado_replace(const dado_automaton *ac, const void *haystack, size_t len, const dado_bytes *replacements, size_t count,
                          dado_text *text);
 
+/*
+ * The haystack with each of its whole words under `kind` replaced by the replacement of its pattern, to `*text`, as dado_replace does it
+ * with matches. The words are those of dado_words_some.
+ *
+ * DADO_OK; DADO_NO_AUTOMATON; DADO_BAD_ARGUMENT: `text`, or an array that isn't empty, is NULL; DADO_BAD_KIND: `kind` is none of the
+ * three; DADO_WRONG_COUNT: `count` isn't the number of patterns; DADO_NOT_UNANCHORED; DADO_NOT_STANDARD: the automaton is of a leftmost
+ * kind; DADO_EMPTY_PATTERN: one of its patterns is empty; DADO_NO_MEMORY. The last six are tested in this order. On any but DADO_OK
+ * `*text` is unchanged. Takes memory. Any number of threads at the same time, each with a text of its own.
+ */
+dado_status dado_replace_words(const dado_automaton *ac, uint32_t kind, const void *haystack, size_t len, const dado_bytes *replacements,
+                               size_t count, dado_text *text);
+
 /* ---- Text that comes in pieces ---- */
 
 /*

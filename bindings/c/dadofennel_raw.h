@@ -95,6 +95,9 @@ typedef struct dado_raw_view {
           size_t room))                                                                                                                    \
     CALL(dado_status, replace,                                                                                                             \
          (const dado_automaton *at, const uint8_t *haystack, size_t len, const dado_bytes *replacements, size_t count, void **owner))      \
+    CALL(dado_status, replace_words,                                                                                                       \
+         (const dado_automaton *at, uint32_t kind, const uint8_t *haystack, size_t len, const dado_bytes *replacements, size_t count,      \
+          void **owner))                                                                                                                   \
     CALL(void, text_view, (void **owner, const uint8_t **at, size_t *len))                                                                 \
     CALL(void, text_free, (void **owner))                                                                                                  \
     CALL(dado_status, stream_new, (const dado_automaton *at, dado_stream **stream))                                                        \

@@ -1,4 +1,4 @@
-/* Whole words, one after another, in pieces, all of them, and masked: rows, batches of each size, texts beside a loop that compares each
+/* Whole words, one after another, in pieces, all of them, replaced and masked: rows, batches of each size, texts beside a loop that compares each
  * pattern at each place, and each status. */
 #include "check.h"
 
@@ -130,6 +130,29 @@ static void masked_alike(const dado_automaton *ac, const dado_bytes *patterns, u
     CHECK(memcmp(masked, wanted, len) == 0);
 }
 
+/* The text with its words replaced, beside one that is put together of what that loop finds. */
+static void replaced_alike(const dado_automaton *ac, uint32_t kind, const dado_bytes *patterns, uint32_t count, const uint8_t *at,
+                           size_t len) {
+    static const dado_bytes cycle[] = {WORD("<one>"), {NULL, 0}, WORD("2")};
+    static uint8_t wanted[4096];
+    dado_bytes names[8];
+    dado_text text = DADO_NO_TEXT;
+    size_t place = 0, length = 0;
+    dado_match word = {0, 0, 0};
+    uint32_t n;
+    CHECK(count <= 8);
+    for (n = 0; n < count && n < 8; n++) names[n] = cycle[n % 3];
+    while (next_word(kind, patterns, count, at, len, place, &word)) {
+        memcpy(wanted + length, at + place, word.start - place), length += word.start - place;
+        if (names[word.pattern].len != 0) memcpy(wanted + length, names[word.pattern].at, names[word.pattern].len);
+        length += names[word.pattern].len, place = word.end;
+    }
+    if (len != place) memcpy(wanted + length, at + place, len - place), length += len - place;
+    CHECK(dado_replace_words(ac, kind, at, len, names, count, &text) == DADO_OK);
+    CHECK(text.len == length && (length == 0 || memcmp(text.at, wanted, length) == 0));
+    dado_text_free(&text);
+}
+
 /* The words of a text in batches of a size, beside that loop. */
 static void alike(const dado_automaton *ac, uint32_t kind, const dado_bytes *patterns, uint32_t count, const uint8_t *at, size_t len,
                   size_t room) {
@@ -148,6 +171,29 @@ static void alike(const dado_automaton *ac, uint32_t kind, const dado_bytes *pat
     }
     CHECK(status == DADO_NONE && given == 0 && from == place);
     CHECK(!next_word(kind, patterns, count, at, len, place, &wanted));
+    if (room == 1) replaced_alike(ac, kind, patterns, count, at, len);
+}
+
+/* Each status of a replacement of words; the text that was there stays. */
+static void replaced_statuses(const dado_automaton *ac, const dado_automaton *leftmost, const dado_automaton *anchored,
+                              const dado_automaton *with_empty) {
+    static const dado_bytes dog[] = {WORD("dog"), WORD("")};
+    dado_text text = DADO_NO_TEXT;
+    CHECK(dado_replace_words(ac, 2, BYTES("cat, concat"), dog, 1, &text) == DADO_OK);
+    CHECK(text.len == 11 && memcmp(text.at, "dog, concat", 11) == 0);
+    CHECK(dado_replace_words(NULL, 2, BYTES("cat"), dog, 1, &text) == DADO_NO_AUTOMATON);
+    CHECK(dado_replace_words(ac, 2, BYTES("cat"), dog, 1, NULL) == DADO_BAD_ARGUMENT);
+    CHECK(dado_replace_words(ac, 2, NULL, 3, dog, 1, &text) == DADO_BAD_ARGUMENT);
+    CHECK(dado_replace_words(ac, 2, BYTES("cat"), NULL, 1, &text) == DADO_BAD_ARGUMENT);
+    CHECK(dado_replace_words(anchored, 3, BYTES("cat"), dog, 2, &text) == DADO_BAD_KIND);
+    CHECK(dado_replace_words(anchored, 2, BYTES("cat"), dog, 2, &text) == DADO_WRONG_COUNT);
+    CHECK(dado_replace_words(anchored, 2, BYTES("cat"), dog, 1, &text) == DADO_NOT_UNANCHORED);
+    CHECK(dado_replace_words(leftmost, 2, BYTES("cat"), dog, 1, &text) == DADO_NOT_STANDARD);
+    CHECK(dado_replace_words(with_empty, 2, BYTES("cat"), dog, 2, &text) == DADO_EMPTY_PATTERN);
+    CHECK(text.len == 11 && memcmp(text.at, "dog, concat", 11) == 0);
+    /* the haystack may lie in the text that is replaced */
+    CHECK(dado_replace_words(ac, 0, text.at, text.len, dog, 1, &text) == DADO_OK && text.len == 11);
+    dado_text_free(&text);
 }
 
 /* `cat` within a word, at both ends, beside `_`, beside a character beyond ASCII; `new york` and what begins it. */
@@ -328,6 +374,7 @@ static void statuses(void) {
     from = 1;
     CHECK(dado_words_some(ac, 2, BYTES("xcat cat"), &from, many, 2, &count) == DADO_OK && count == 1 && is(&many[0], 0, 5, 8));
     other_statuses(ac, leftmost, anchored, with_empty);
+    replaced_statuses(ac, leftmost, anchored, with_empty);
     dado_free(&ac);
     dado_free(&leftmost);
     dado_free(&anchored);

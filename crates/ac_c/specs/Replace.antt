@@ -108,9 +108,13 @@ IsReplacedBy ac haystack replacements (Ok text) =
 IsReplacedBy ac haystack replacements (Err status) =
     (IsReplaced ac replacements × (status ≡ no_memory)) ⊎ IsReplaceRefused ac replacements status
 
--- a text that holds it; or there is none, and the one that was there stays
+-- The text that was made is held; or memory ran out, or there is none, and the one that was there stays.
+abbrev pub HoldsText : Result (Vec ℕ) ℕ → HeldText → HeldText → ℕ → Type 0
+HoldsText (Ok text) old new status =
+    ((status ≡ ok) × (new ≡ Some (record { bytes = text }))) ⊎ ((status ≡ no_memory) × (new ≡ old))
+HoldsText (Err error) old new status = (status ≡ error) × (new ≡ old)
+
+-- the text with each match replaced is held; or the status says why not
 abbrev pub AnswersText : AhoCorasick → List ℕ → List (Bor (List ℕ)) → HeldText → HeldText → ℕ → Type 0
 AnswersText ac haystack replacements old new status =
-    (IsReplaced ac replacements × (status ≡ ok)
-    × ((text : Vec ℕ) × (text.items ≡ text_by ac haystack replacements) × (new ≡ Some (record { bytes = text }))))
-    ⊎ (IsReplacedBy ac haystack replacements (Err status) × (new ≡ old))
+    (r : Result (Vec ℕ) ℕ) × IsReplacedBy ac haystack replacements r × HoldsText r old new status

@@ -1,16 +1,23 @@
 -- What a walk over whole words returns, from a place that C keeps.
-use Rattle.std.specs.Prelude.{◌≡◌, ◌⊎◌, ℕ, zero, suc, ◌+◌, ◌-◌, ◌*◌, ◌<◌, ◌≤◌, List, length, drop, Option, Some, None, Result, Ok, Err, slice_get}
+use Rattle.std.specs.Prelude.{◌≡◌, ◌≢◌, ◌⊎◌, ℕ, zero, suc, ◌+◌, ◌-◌, ◌*◌, ◌<◌, ◌≤◌, List, length, drop, Option, Some, None, Result, Ok, Err, slice_get}
+use Rattle.std.specs.Global.{Vec}
+use denote.Ref.{Bor}
 use Rattle.ac_input.specs.Occurrence.{Occurrence}
 use Rattle.ac_input.specs.Work.{longest, lookups_per_byte}
 use Rattle.ac_input.specs.declared.search.MatchKind.{MatchKind}
 use Rattle.ac_input.specs.declared.search.MatchKind.TheVariants.{Standard}
 use Rattle.ac_input.specs.declared.steps.Steps.{Steps}
 use Rattle.ac_automaton.specs.InMemory.Words.{AnswersWordsFrom, WordWalk, fresh_words, words_left}
+use Rattle.ac_automaton.specs.InMemory.Words.Replace.{ReplacesWholeWords}
 use Rattle.ac_automaton.specs.declared.error.MatchErrorKind.{MatchErrorKind}
-use Rattle.aho_corasick.specs.AhoCorasick.{as_built, supported_by}
+use Rattle.ac_automaton.specs.declared.error.ReplaceError.{ReplaceError}
+use Rattle.ac_automaton.specs.declared.error.ReplaceError.TheVariants.{Match, Memory}
+use Rattle.aho_corasick.specs.AhoCorasick.{as_built, pattern_count, supported_by}
 use Rattle.aho_corasick.specs.declared.ahocorasick.AhoCorasick.{AhoCorasick}
 use Rattle.ac_c.specs.Build.{kind_by}
-use Rattle.ac_c.specs.Status.{bad_cursor, bad_kind, refusal_status}
+use Rattle.ac_c.specs.Replace.{HoldsText}
+use Rattle.ac_c.specs.Status.{bad_cursor, bad_kind, no_memory, refusal_status, wrong_count}
+use Rattle.ac_c.specs.Text.{HeldText}
 use Rattle.ac_c.specs.Walk.{AreGiven, given_status}
 use Rattle.ac_c.specs.declared.found.Found.{Found}
 use Rattle.ac_c.specs.declared.words.Words.{Words}
@@ -90,3 +97,25 @@ AreWordsUnder ac None haystack from old new r = (r ≡ Err bad_kind) × (new ≡
 abbrev pub AnswersSomeWords : AhoCorasick → ℕ → List ℕ → ℕ → List Found → List Found → Words → Type 0
 AnswersSomeWords ac kind haystack from old new words =
     (r : Result (ℕ × ℕ) ℕ) × AreWordsUnder ac (kind_by kind) haystack from old new r × (words ≡ given_words from (length old) r)
+
+-- ---- replaced
+
+-- What the library's replacement of words returns, as C sees it: the text, or the status.
+abbrev pub given_text : Result (Vec ℕ) ReplaceError → Result (Vec ℕ) ℕ
+given_text (Ok text) = Ok text
+given_text (Err (Match error)) = Err (refusal_status error)
+given_text (Err Memory) = Err no_memory
+
+-- the text with each of its whole words under the kind of a number replaced; or the status: the number names no kind, there isn't one
+-- replacement for each pattern, or the library's replacement is refused
+abbrev pub AreWordsReplaced : AhoCorasick → Option MatchKind → List ℕ → List (Bor (List ℕ)) → Result (Vec ℕ) ℕ → Type 0
+AreWordsReplaced ac None haystack replacements r = r ≡ Err bad_kind
+AreWordsReplaced ac (Some kind) haystack replacements r =
+    ((length replacements ≢ pattern_count ac) × (r ≡ Err wrong_count))
+    ⊎ ((length replacements ≡ pattern_count ac) × (made : Result (Vec ℕ) ReplaceError)
+    × ReplacesWholeWords (as_built ac) (supported_by ac) kind haystack replacements made × (r ≡ given_text made))
+
+-- that text is held; or the status says why not
+abbrev pub AnswersWordText : AhoCorasick → ℕ → List ℕ → List (Bor (List ℕ)) → HeldText → HeldText → ℕ → Type 0
+AnswersWordText ac kind haystack replacements old new status =
+    (r : Result (Vec ℕ) ℕ) × AreWordsReplaced ac (kind_by kind) haystack replacements r × HoldsText r old new status

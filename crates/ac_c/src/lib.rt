@@ -25,7 +25,7 @@ ghost use Rattle.ac_c.specs.Stream.{AnswersStream, AnswersNext, AnswersPush, Ans
 ghost use Rattle.ac_c.specs.Text.{held_len};
 ghost use Rattle.ac_c.specs.Tell.{AnswersLength, TellsAbout};
 ghost use Rattle.ac_c.specs.Walk.{AnswersSome, AnswersStep, cursor};
-ghost use Rattle.ac_c.specs.Words.{AnswersSomeWords};
+ghost use Rattle.ac_c.specs.Words.{AnswersSomeWords, AnswersWordText};
 
 pub mod build;
 pub mod find;
@@ -585,6 +585,26 @@ pub unsafe extern "C" fn dado_raw_replace(
 {
     let ac = at as *const AhoCorasick;
     replace::made(&*ac, alloc, haystack, replacements, text)
+}
+
+/// The text with each of its whole words under a kind replaced, in memory of the library's.
+#[unsafe(no_mangle)]
+pub unsafe extern "C" fn dado_raw_replace_words(
+    at: *const Opaque,
+    kind: u32,
+    alloc: Global,
+    haystack: &[u8],
+    replacements: &[&[u8]],
+    text: &mut Text,
+) -> u32
+    ghost g: { Lent }
+    requires* lent { sem 𝓛 (is_lent at g) }
+    ensures* lasts { sem 𝓛 (lasting g) }
+    ensures answer { AnswersWordText g.automaton kind haystack.now replacements.now text.old.value
+        text.new.value result }
+{
+    let ac = at as *const AhoCorasick;
+    words::replace_words(&*ac, kind, alloc, haystack, replacements, text)
 }
 
 /// How many bytes a pattern has.

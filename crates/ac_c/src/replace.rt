@@ -4,7 +4,7 @@
 //! is taken, and a buffer that is too short stays as it was. A text that C holds is freed once the new one is made, and not before.
 ghost use Rattle.std.specs.Prelude.{◌≡◌, ◌≤◌, ◌+◌, ◌++◌, length, take, drop, Some};
 ghost use Rattle.ac_c.specs.Walking.{IsAccounted, WalksToEnd};
-ghost use Rattle.ac_c.specs.Replace.{AnswersInto, AnswersText, AreReplaceable, CostsInto, CostsLen, IsLenBy, IsLenOf, IsReplaced, IsReplacedBy, begun_with, is_long, text_along, text_by, walk_over};
+ghost use Rattle.ac_c.specs.Replace.{AnswersInto, AnswersText, AreReplaceable, CostsInto, CostsLen, HoldsText, IsLenBy, IsLenOf, IsReplaced, IsReplacedBy, begun_with, is_long, text_along, text_by, walk_over};
 
 use crate::status::{NO_MEMORY, OK, TOO_MANY_BYTES, TOO_SHORT, WRONG_COUNT, refused};
 use crate::text::{Bytes, Text};
@@ -203,6 +203,22 @@ fn replaced_by(
     }
 }
 
+/// Puts a text behind a pointer, in place of the one that was there, which stays where there is no text or no memory.
+pub fn hold(alloc: Global, made: Result<Vec<u8>, u32>, text: &mut Text) -> u32
+    ensures { HoldsText made text.old.value text.new.value result }
+{
+    match made {
+        Err(status) => status,
+        Ok(bytes) => match Box::new(alloc, Bytes { bytes }) {
+            Err(_) => NO_MEMORY,
+            Ok(made) => {
+                *text = Text::from_box(made);
+                OK
+            }
+        },
+    }
+}
+
 /// The text in memory of its own.
 pub fn made(
     ac: &AhoCorasick,
@@ -213,14 +229,5 @@ pub fn made(
 ) -> u32
     ensures { AnswersText ac.now haystack.now replacements.now text.old.value text.new.value result }
 {
-    match replaced_by(ac, alloc, haystack, replacements) {
-        Err(status) => status,
-        Ok(bytes) => match Box::new(alloc, Bytes { bytes }) {
-            Err(_) => NO_MEMORY,
-            Ok(made) => {
-                *text = Text::from_box(made);
-                OK
-            }
-        },
-    }
+    hold(alloc, replaced_by(ac, alloc, haystack, replacements), text)
 }

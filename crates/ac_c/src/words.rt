@@ -1,13 +1,17 @@
-//! The whole words of a text, from a place that C keeps.
+//! The whole words of a text, from a place that C keeps, and the text with each of them replaced.
 //!
 //! No word is empty and none overlap, so a walk goes on from the end of its last word, and C keeps that place alone.
 ghost use Rattle.std.specs.Prelude.{◌≡◌, ◌≤◌, length};
-ghost use Rattle.ac_c.specs.Words.{AnswersSomeWords, AreWordsBy, CostsFilled, CostsWords, GivesWords, given_words};
+ghost use Rattle.ac_c.specs.Build.{kind_by};
+ghost use Rattle.ac_c.specs.Words.{AnswersSomeWords, AnswersWordText, AreWordsBy, AreWordsReplaced, CostsFilled, CostsWords, GivesWords, given_words};
 
 use crate::build::kind_by;
 use crate::found::Found;
-use crate::status::{BAD_CURSOR, BAD_KIND, NONE, OK, refused};
-use aho_corasick::{AhoCorasick, FindWordIter, MatchKind, Steps};
+use crate::replace::hold;
+use crate::status::{BAD_CURSOR, BAD_KIND, NO_MEMORY, NONE, OK, WRONG_COUNT, refused};
+use crate::text::Text;
+use aho_corasick::{AhoCorasick, FindWordIter, MatchKind, ReplaceError, Steps};
+use std::alloc::Global;
 
 /// From where a walk over words goes on, how many words it gave, and the status.
 #[repr(C)]
@@ -91,4 +95,42 @@ pub fn next_words(
         None => Err(BAD_KIND),
     };
     as_words(from, room, given)
+}
+
+/// The text with each of its whole words under a kind replaced, or the status.
+fn words_replaced(
+    ac: &AhoCorasick,
+    kind: u32,
+    alloc: Global,
+    haystack: &[u8],
+    replacements: &[&[u8]],
+) -> Result<Vec<u8>, u32>
+    ensures { AreWordsReplaced ac.now (kind_by kind) haystack.now replacements.now result }
+{
+    let Some(kind) = kind_by(kind) else {
+        return Err(BAD_KIND);
+    };
+    if replacements.len() != ac.patterns_len() {
+        return Err(WRONG_COUNT);
+    }
+    match ac.try_replace_words(kind, alloc, haystack, replacements) {
+        Ok(text) => Ok(text),
+        Err(ReplaceError::Match(error)) => Err(refused(&error)),
+        Err(ReplaceError::Memory) => Err(NO_MEMORY),
+    }
+}
+
+/// The text with each of its whole words replaced, under the kind of this number, in memory of its own.
+pub fn replace_words(
+    ac: &AhoCorasick,
+    kind: u32,
+    alloc: Global,
+    haystack: &[u8],
+    replacements: &[&[u8]],
+    text: &mut Text,
+) -> u32
+    ensures { AnswersWordText ac.now kind haystack.now replacements.now text.old.value text.new.value result }
+{
+    let made = words_replaced(ac, kind, alloc, haystack, replacements);
+    hold(alloc, made, text)
 }

@@ -1,4 +1,4 @@
-//! Whole words, one after another.
+//! Whole words, one after another, and the text with each of them replaced.
 
 use std::iter::FusedIterator;
 
@@ -75,6 +75,61 @@ impl AhoCorasick {
             place: place_of(0, haystack.len(), None),
             batch: Batch::default(),
         })
+    }
+
+    /// The text with each whole word under a kind replaced by the replacement of its pattern.
+    ///
+    /// ```
+    /// use dadofennel::{AhoCorasick, MatchKind};
+    ///
+    /// let ac = AhoCorasick::new(["new", "new york"])?;
+    /// assert_eq!("old yorker, york", ac.replace_words(MatchKind::LeftmostLongest, "new yorker, new york", &["old", "york"]));
+    /// # Ok::<(), Box<dyn std::error::Error>>(())
+    /// ```
+    ///
+    /// # Panics
+    ///
+    /// Where there are not as many replacements as patterns.
+    pub fn replace_words<B: AsRef<str>>(&self, kind: MatchKind, haystack: &str, replace_with: &[B]) -> String {
+        supported(self.try_replace_words(kind, haystack, replace_with))
+    }
+
+    /// The text with each whole word under a kind replaced by the replacement of its pattern. See `replace_words`.
+    pub fn try_replace_words<B: AsRef<str>>(
+        &self,
+        kind: MatchKind,
+        haystack: &str,
+        replace_with: &[B],
+    ) -> Result<String, MatchError> {
+        self.assert_one_each(replace_with.len());
+        let mut dst = String::with_capacity(haystack.len());
+        let mut at = 0;
+        for word in self.try_find_word_iter(kind, haystack)? {
+            dst.push_str(&haystack[at..word.start()]);
+            dst.push_str(replace_with[word.pattern()].as_ref());
+            at = word.end();
+        }
+        dst.push_str(&haystack[at..]);
+        Ok(dst)
+    }
+
+    /// The bytes with each whole word under a kind replaced by the replacement of its pattern. See `replace_words`.
+    pub fn try_replace_words_bytes<B: AsRef<[u8]>>(
+        &self,
+        kind: MatchKind,
+        haystack: &[u8],
+        replace_with: &[B],
+    ) -> Result<Vec<u8>, MatchError> {
+        self.assert_one_each(replace_with.len());
+        let mut dst = Vec::with_capacity(haystack.len());
+        let mut at = 0;
+        for word in self.try_find_word_iter(kind, haystack)? {
+            dst.extend_from_slice(&haystack[at..word.start()]);
+            dst.extend_from_slice(replace_with[word.pattern()].as_ref());
+            at = word.end();
+        }
+        dst.extend_from_slice(&haystack[at..]);
+        Ok(dst)
     }
 
     /// An error where the automaton can't search for words.

@@ -340,6 +340,16 @@ fn rows_of_words() {
         let wanted: Vec<_> = (0..3000).map(|at| (0, 4 * at..4 * at + 3)).collect();
         assert_eq!(wanted, of(&["cat"], kind, &many));
     }
+    let ac = AhoCorasick::new(["new", "new york"]).unwrap();
+    for (kind, wanted) in [
+        (MatchKind::Standard, "old yorker, old york, ünew"),
+        (MatchKind::LeftmostFirst, "old yorker, old york, ünew"),
+        (MatchKind::LeftmostLongest, "old yorker, york, ünew"),
+    ] {
+        let text = "new yorker, new york, ünew";
+        assert_eq!(wanted, ac.replace_words(kind, text, &["old", "york"]));
+        assert_eq!(Ok(wanted.as_bytes().to_vec()), ac.try_replace_words_bytes(kind, text.as_bytes(), &["old", "york"]));
+    }
     let last = |kind| of(&["new", "new york"], kind, "new yorker, new york")[1].clone();
     assert_eq!((0, 12..15), last(MatchKind::Standard));
     assert_eq!((0, 12..15), last(MatchKind::LeftmostFirst));

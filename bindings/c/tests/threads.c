@@ -102,11 +102,31 @@ static void pass_on(void) {
     dado_stream_free(&passed.stream);
 }
 
+/* The first calls of all, by all threads at the same moment, get the same code. */
+static pthread_barrier_t begin;
+
+static void *which(void *nothing) {
+    (void)nothing;
+    pthread_barrier_wait(&begin);
+    return (void *)dado_cpu();
+}
+
+static void choose(void) {
+    pthread_t threads[THREADS];
+    void *code;
+    size_t i;
+    CHECK(pthread_barrier_init(&begin, NULL, THREADS) == 0);
+    for (i = 0; i < THREADS; i++) CHECK(pthread_create(&threads[i], NULL, which, NULL) == 0);
+    for (i = 0; i < THREADS; i++) CHECK(pthread_join(threads[i], &code) == 0 && code == (void *)dado_cpu());
+    pthread_barrier_destroy(&begin);
+}
+
 int main(void) {
     static const dado_bytes words[] = {WORD("abc"), WORD("bcd"), WORD("c")};
     static struct seen all[THREADS];
     uint32_t engine;
     size_t i;
+    choose();
     for (i = 0; i < LEN; i++) haystack[i] = (uint8_t)"abcdefgh"[(i * i / 7 + i) % 8];
     memcpy(haystack, "-------abc", 10);
     for (engine = DADO_NONCONTIGUOUS; engine <= DADO_DFA; engine++) {

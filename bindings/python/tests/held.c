@@ -1,7 +1,7 @@
 /* Calls that look at the memory of an automaton, or of a stream, before and after the library does. The library isn't built for
  * AddressSanitizer, and this is: so it sees one that is freed while a call has it. Each `__wrap_` stands in the place of the call
  * (`ld --wrap`), which `__real_` is. */
-#include "dadofennel.h"
+#include "dadofennel_raw.h"
 
 static void look(const void *at) {
     volatile char seen = *(const volatile char *)at;

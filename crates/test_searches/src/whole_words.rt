@@ -79,7 +79,12 @@ impl Words<'_> {
         let made = on
             .automaton
             .try_replace_words(self.kind, on.alloc, self.text, &names)?;
-        same(on.rt, &made, &named(on.alloc, self.text, self.gives)?, self.shows);
+        same(
+            on.rt,
+            &made,
+            &named(on.alloc, self.text, self.gives)?,
+            self.shows,
+        );
         Ok(())
     }
 }

@@ -1,9 +1,9 @@
 //! Replacement in memory.
 //!
 //! The matches of a haystack are taken one after another, as [`FindIter`](crate::iter::FindIter) returns them, or its whole words, as
-//! [`FindWordIter`](crate::in_memory::words::FindWordIter) does. The text between
-//! two of them is copied, and the replacement is put in place of the match. The result is one piece of memory, at first as large
-//! as the haystack; it grows as any `Vec` does if the replacements are longer than what they replace.
+//! [`FindWordIter`](crate::in_memory::words::FindWordIter) does. The text between two of them is copied, and the replacement is put
+//! in place of the match. The result is one piece of memory, at first as large as the haystack; it grows as any `Vec` does if the
+//! replacements are longer than what they replace.
 //!
 //! In a text a match may begin or end within a character, if a pattern isn't text itself. Such a match is skipped, so that the
 //! result stays text.

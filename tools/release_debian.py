@@ -1,4 +1,4 @@
-"""Debian's packages of a release: what each has of an installation under /usr, and its control files."""
+"""Debian's packages of a release: what each has of an installation under /usr or of the wheel, and its control files."""
 import gzip
 import hashlib
 import os
@@ -7,9 +7,8 @@ import subprocess
 import tempfile
 import time
 
-MULTIARCH = "x86_64-linux-gnu"
-ARCHITECTURE = "amd64"
-LIB = f"usr/lib/{MULTIARCH}"
+import release_files
+
 MAINTAINER = "Dadofennel maintainers <maintainers@users.noreply.dadofennel.example>"
 
 ABOUT = """\
@@ -18,13 +17,15 @@ ABOUT = """\
  patterns there are. Every search is proved to do what its contract says.
 """
 
+PYTHON = "python3-dadofennel"
+
 # Of each package: its fields, its synopsis, what it adds to the description, and its files: where each is, or whose folder, in the
-# installation, and where it goes, if that is elsewhere. A name that ends in .1 is packed.
+# installation, and where it goes, if that is elsewhere. A manual page is packed.
 PACKAGES = {
     "acsub": (
         {"Section": "text", "Depends": "libc6 (>= {program})", "Multi-Arch": "foreign"},
         "replace, list or mask what many patterns match in a stream",
-        " .\n This is the program.\n",
+        " .\n This is the program.\n{needs}",
         [
             ("usr/bin/acsub", ""),
             ("usr/share/man/man1/acsub.1", ""),
@@ -36,8 +37,8 @@ PACKAGES = {
     "libdadofennel1": (
         {"Section": "libs", "Depends": "libc6 (>= {library})", "Multi-Arch": "same"},
         "search for many patterns at once - shared library",
-        " .\n This is the shared library.\n",
-        [(f"{LIB}/libdadofennel.so.1", ""), (f"{LIB}/libdadofennel.so.{{soversion}}", "")],
+        " .\n This is the shared library.\n{needs}",
+        [("{lib}/libdadofennel.so.{major}", ""), ("{lib}/libdadofennel.so.{soversion}", "")],
     ),
     "libdadofennel-dev": (
         {"Section": "libdevel", "Depends": "libdadofennel1 (= {version}), libc6-dev", "Multi-Arch": "same"},
@@ -45,13 +46,25 @@ PACKAGES = {
         " .\n These are the headers, the archive, and what pkg-config and CMake read.\n",
         [
             ("usr/include", ""),
-            (f"{LIB}/libdadofennel.a", ""),
-            (f"{LIB}/libdadofennel.so", ""),
-            (f"{LIB}/pkgconfig", ""),
-            (f"{LIB}/cmake", ""),
+            ("{lib}/libdadofennel.a", ""),
+            ("{lib}/libdadofennel.so", ""),
+            ("{lib}/pkgconfig", ""),
+            ("{lib}/cmake", ""),
             ("usr/share/doc/dadofennel/examples", "usr/share/doc/libdadofennel-dev/examples"),
         ],
     ),
+    PYTHON: (
+        {"Section": "python", "Depends": "python3 (>= 3.8), libc6 (>= {python})"},
+        "search for many patterns at once - Python module",
+        " .\n This is the module dadofennel for Python.\n{needs}",
+        [("usr/lib/python3", "")],
+    ),
+}
+
+# What compiles Python's modules once the package is there, and removes that before it goes.
+SCRIPTS = {
+    "postinst": "if command -v py3compile > /dev/null; then\n    py3compile -p {name}\nfi\n",
+    "prerm": "if command -v py3clean > /dev/null; then\n    py3clean -p {name}\nfi\n",
 }
 
 COPYRIGHT = """\
@@ -127,7 +140,7 @@ def control(folder, name, fields, about, known):
         "Package": name,
         "Source": "dadofennel",
         "Version": known["version"],
-        "Architecture": ARCHITECTURE,
+        "Architecture": known["architecture"],
         "Maintainer": MAINTAINER,
         "Installed-Size": str(size),
         **{field: text.format(**known) for field, text in fields.items()},
@@ -138,16 +151,15 @@ def control(folder, name, fields, about, known):
     write(f"{folder}/DEBIAN/md5sums", sums)
 
 
-def shared(folder, name, soversion):
+def shared(folder, name, machine, known):
     """What says which package has the shared library, since which version it has each symbol, and that the loader is told of it."""
-    soname = f"libdadofennel.so.{soversion.split('.')[0]}"
-    words = ["nm", "-D", "--defined-only", "--with-symbol-versions", f"{folder}/{LIB}/libdadofennel.so.{soversion}"]
-    said = subprocess.run(words, stdout=subprocess.PIPE, check=True).stdout.decode()
+    soname, path = f"libdadofennel.so.{known['major']}", f"{folder}/{known['lib']}/libdadofennel.so.{known['soversion']}"
+    said = release_files.said_by(machine.tool("nm"), "-D", "--defined-only", "--with-symbol-versions", path)
     names = sorted(line.split()[2].replace("@@", "@") for line in said.splitlines())
     names = [it if "@" in it else f"{it}@{it}" for it in names]
     lines = "".join(f" {it} 1.0.0\n" for it in names)
     write(f"{folder}/DEBIAN/symbols", f"{soname} {name} #MINVER#\n* Build-Depends-Package: libdadofennel-dev\n{lines}")
-    write(f"{folder}/DEBIAN/shlibs", f"libdadofennel {soversion.split('.')[0]} {name} (>= {soversion})\n")
+    write(f"{folder}/DEBIAN/shlibs", f"libdadofennel {known['major']} {name} (>= {known['soversion']})\n")
     write(f"{folder}/DEBIAN/triggers", "activate-noawait ldconfig\n")
 
 
@@ -161,22 +173,51 @@ def settle(folder, when):
             os.utime(path, (when, when), follow_symlinks=False)
 
 
-def make(installed, dist, version, glibc, when):
-    """Writes each package to a folder, of what is installed below another one. `glibc` has what the program and the library need."""
-    so = next(it for it in os.listdir(f"{installed}/{LIB}") if it.startswith("libdadofennel.so.") and it.count(".") == 4)
-    soversion = so[len("libdadofennel.so."):]
-    known = {"version": version, "soversion": soversion, **glibc}
-    for name, (fields, synopsis, more, files) in PACKAGES.items():
-        with tempfile.TemporaryDirectory(prefix="package-") as folder:
-            for source, to in files:
-                source = source.format(**known)
-                put(f"{installed}/{source}", f"{folder}/{to or source}")
-            documents(folder, name, version, when, f"{installed}/usr/share/doc/dadofennel/LICENSE")
-            control(folder, name, fields, f"{synopsis}\n{ABOUT}{more}", known)
-            if name.startswith("lib") and not name.endswith("-dev"):
-                shared(folder, name, soversion)
-            settle(folder, when)
-            environment = dict(os.environ, SOURCE_DATE_EPOCH=str(when))
-            words = ["dpkg-deb", "--root-owner-group", "-Zxz", "--threads-max=1", "--build", folder]
-            words += [f"{dist}/{name}_{version}_{ARCHITECTURE}.deb"]
-            subprocess.run(words, stdout=subprocess.DEVNULL, check=True, env=environment)
+def python_below(folder, wheel):
+    """Installs a wheel under usr/lib/python3 below a folder, as Debian has modules: dpkg's own list stands for RECORD."""
+    for name, data in release_files.members(wheel):
+        to = f"{folder}/usr/lib/python3/dist-packages/{name}"
+        if name.endswith(".dist-info/RECORD"):
+            to, data = f"{os.path.dirname(to)}/INSTALLER", "debian\n"
+        write(to, data)
+
+
+def scripts(folder, name):
+    for script, text in SCRIPTS.items():
+        write(f"{folder}/DEBIAN/{script}", "#!/bin/sh\nset -e\n" + text.format(name=name))
+        os.chmod(f"{folder}/DEBIAN/{script}", 0o755)
+
+
+def package(name, built, dist, known, when):
+    """Writes one package."""
+    fields, synopsis, more, files = PACKAGES[name]
+    with tempfile.TemporaryDirectory(prefix="package-") as folder:
+        for source, to in files:
+            source = source.format(**known)
+            put(f"{built.usual}/{source}", f"{folder}/{to or source}")
+        documents(folder, name, known["version"], when, f"{built.usual}/usr/share/doc/dadofennel/LICENSE")
+        control(folder, name, fields, f"{synopsis}\n{ABOUT}{more.format(**known)}", known)
+        if name == PYTHON:
+            scripts(folder, name)
+        elif name.startswith("lib") and not name.endswith("-dev"):
+            shared(folder, name, built.machine, known)
+        settle(folder, when)
+        environment = dict(os.environ, SOURCE_DATE_EPOCH=str(when))
+        words = ["dpkg-deb", "--root-owner-group", "-Zxz", "--threads-max=1", "--build", folder]
+        words += [f"{dist}/{name}_{known['version']}_{built.machine.debian}.deb"]
+        subprocess.run(words, stdout=subprocess.DEVNULL, check=True, env=environment)
+
+
+def make(built, dist, version, when, wheel=None):
+    """Writes a machine's packages to a folder: of what is built for it, and of the wheel, where there is one."""
+    soversion = release_files.header_version()
+    known = {"version": version, "soversion": soversion, "major": soversion.split(".")[0], "architecture": built.machine.debian}
+    needs = f" It needs {built.machine.needs}.\n" if built.machine.needs else ""
+    known.update(built.glibc, lib=f"usr/lib/{built.machine.multiarch}", needs=needs)
+    names = [it for it in PACKAGES if it not in ("acsub", PYTHON)] + ["acsub"] * bool(built.program)
+    if wheel:
+        python_below(built.usual, wheel)
+        known["python"] = release_files.least_glibc(built.machine, release_files.only(f"{built.usual}/usr/lib/python3/dist-packages/dadofennel/*.so"))
+        names.append(PYTHON)
+    for name in names:
+        package(name, built, dist, known, when)

@@ -174,12 +174,14 @@ def settle(folder, when):
 
 
 def python_below(folder, wheel):
-    """Installs a wheel under usr/lib/python3 below a folder, as Debian has modules: dpkg's own list stands for RECORD."""
+    """Installs a wheel under usr/lib/python3 below a folder, as Debian has modules: dpkg's own list stands for RECORD, and the package's
+    copyright for LICENSE."""
     for name, data in release_files.members(wheel):
         to = f"{folder}/usr/lib/python3/dist-packages/{name}"
         if name.endswith(".dist-info/RECORD"):
             to, data = f"{os.path.dirname(to)}/INSTALLER", "debian\n"
-        write(to, data)
+        if not name.endswith(".dist-info/LICENSE"):
+            write(to, data)
 
 
 def scripts(folder, name):

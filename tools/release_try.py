@@ -9,6 +9,7 @@ import subprocess
 import sys
 import tempfile
 
+import launch
 import release_aarch64
 import release_files
 from release_room import COMPILERS, TOOLCHAIN, Here, Room, Rows, equal, without_toolchain
@@ -16,8 +17,11 @@ from release_rows import by_cmake, by_pkg_config, examples_work, program_works
 
 SUITE = "bookworm"
 NEEDED = ["gcc", "libc6-dev", "pkg-config", "cmake", "make"]
+PYTHON = ["python3", "python3-venv"]
+PYTHON_TESTS = ["test_automaton", "test_threads", "test_ahocorasick"]
 EXAMPLES = "/usr/share/doc/libdadofennel-dev/examples"
 PACKAGES = ("acsub", "libdadofennel1", "libdadofennel-dev")
+PACKAGE = "python3-dadofennel"
 MACHINE = "x86_64"
 
 
@@ -51,9 +55,22 @@ def is_bare(room):
             raise AssertionError(f"{name} is there")
 
 
-def has_compiler(room):
+def has(room, *names):
+    """Installs packages of Debian itself."""
     room.must("apt-get", "update")
-    room.must("apt-get", "install", "-y", "--no-install-recommends", *NEEDED)
+    room.must("apt-get", "install", "-y", "--no-install-recommends", *names)
+
+
+def module_works(room, python):
+    """The tests of Python's package, outside the repository."""
+    for name in PYTHON_TESTS:
+        room.must(python, "-W", "error", f"/tests/{name}.py", folder="/tests", PYTHONDONTWRITEBYTECODE="1", CASES="300")
+
+
+def is_installed_by_pip(room, wheel):
+    """pip installs the wheel into a new environment, with no index of packages."""
+    room.must("python3", "-m", "venv", "/venv")
+    room.must("/venv/bin/pip", "install", "--quiet", "--no-index", "--disable-pip-version-check", wheel)
 
 
 def packages_leave_nothing(room, *names):
@@ -87,7 +104,7 @@ def in_debian(rows, room, dist, version):
     rows.row("the program of the package", program_works, room, "acsub", version)
     rows.row("the tarball is unpacked", room.must, "tar", "-xzf", f"/dist/{name}.tar.gz", "-C", "/opt")
     rows.row("the program of the tarball", program_works, room, f"/opt/{name}/bin/acsub", version)
-    rows.row("a compiler is installed", has_compiler, room)
+    rows.row("a compiler is installed", has, room, *NEEDED)
     rows.row("libdadofennel-dev is installed", room.must, "dpkg", "-i", f"/dist/{packages['libdadofennel-dev']}")
     rows.row("the package's examples, by pkg-config", by_pkg_config, room, "", "/usr/lib/x86_64-linux-gnu", EXAMPLES, "/built/package")
     rows.row("the package's examples, by CMake", by_cmake, room, "", EXAMPLES, version, "/built/package-cmake")
@@ -98,6 +115,22 @@ def in_debian(rows, room, dist, version):
         examples = f"{prefix}/share/doc/dadofennel/examples"
         rows.row(f"the examples in {prefix}, by pkg-config", by_pkg_config, room, prefix, f"{prefix}/lib", examples, f"/built{prefix}")
         rows.row(f"the examples in {prefix}, by CMake", by_cmake, room, prefix, examples, version, f"/built{prefix}-cmake")
+    for wheel in glob.glob(f"{dist}/*_{MACHINE}.whl"):
+        python_in_debian(rows, room, wheel, f"{dist}/{PACKAGE}_{version}_amd64.deb")
+
+
+def python_in_debian(rows, room, wheel, package):
+    """The wheel, and the package of Debian that was made of it, by Debian's Python."""
+    for it in (wheel, package):
+        room.bring(it, f"/dist/{os.path.basename(it)}")
+    room.bring(f"{launch.REPOSITORY}/bindings/python/tests", "/tests")
+    rows.row("Python is installed", has, room, *PYTHON)
+    rows.row("pip installs the wheel", is_installed_by_pip, room, f"/dist/{os.path.basename(wheel)}")
+    rows.row("the tests of Python's package, by the wheel", module_works, room, "/venv/bin/python")
+    rows.row(f"{PACKAGE} is installed", room.must, "dpkg", "-i", f"/dist/{os.path.basename(package)}")
+    rows.row(f"the tests of Python's package, by {PACKAGE}", module_works, room, "/usr/bin/python3")
+    room.must("rm", "-r", "/venv")
+    rows.row(f"what {PACKAGE} brings goes with it", packages_leave_nothing, room, PACKAGE)
 
 
 def with_libc_alone(rows, room, dist, version):

@@ -17,7 +17,7 @@ use crate::in_memory::words::{FindWordIter, find_word_iter, find_word_iter_from}
 use crate::in_memory::{find, overlapping};
 use crate::stream::devices::watched::Watched;
 use crate::stream::mask::words::mask_words_stream;
-use crate::stream::mask::{StreamMask, mask_stream};
+use crate::stream::mask::{StreamMask, StreamWordMask, mask_stream};
 use crate::stream::overlapping::{ListPlace, Listed};
 use crate::stream::pump::{pump_all_words, pump_words};
 use crate::stream::replace::replace_words_counted;
@@ -49,6 +49,7 @@ pub trait Search: Automaton {
     ghost use Rattle.ac_automaton.specs.Masking.{CostsMask, Masks, MasksFrom};
     ghost use Rattle.ac_automaton.specs.Masking.Words.{CostsMaskWords, MasksWords};
     ghost use Rattle.ac_automaton.specs.Masking.Words.Stream.{CostsMaskWordsStream, MasksWordsStream};
+    ghost use Rattle.ac_automaton.specs.Masking.Words.Pushed.{AnswersNewWordMasking};
     ghost use Rattle.ac_automaton.specs.Stream.Mask.{AnswersNewMask, CostsMaskStream, MasksStream};
     ghost use Rattle.ac_automaton.specs.Stream.Overlapping.{AcceptsListing};
     ghost use Rattle.ac_automaton.specs.Stream.Overlapping.Walk.{IsAheadFor, ListsNext, MayList};
@@ -578,6 +579,21 @@ pub trait Search: Automaton {
         ensures { AnswersNewMask (Self.built self.now) (Self.supports self.now) mask result }
     {
         StreamMask::new(self, mask, alloc)
+    }
+
+    /// A masking of the whole words of a stream whose pieces are pushed when they come: see [`StreamWordMask`]. It borrows the automaton;
+    /// [`StreamWordMask::new`] makes one that owns it. Returns an error where [`try_mask_words_stream`](Search::try_mask_words_stream)
+    /// does before it reads.
+    final fn try_stream_word_mask<'a>(
+        &'a self,
+        alloc: Global,
+        mask: u8,
+    ) -> Result<StreamWordMask<&'a Self>, StreamError>
+    where
+        Self: Sized,
+        ensures { AnswersNewWordMasking (Self.built self.now) (Self.supports self.now) mask result }
+    {
+        StreamWordMask::new(self, mask, alloc)
     }
 }
 

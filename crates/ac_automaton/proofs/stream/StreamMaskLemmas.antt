@@ -24,7 +24,7 @@ use Rattle.ac_automaton.specs.Automaton.{Built, IsReadCost, StartTells}
 use Rattle.ac_automaton.specs.Masking.{MasksFrom, masked_in}
 use Rattle.ac_automaton.specs.Stream.{CanBeCounted, NothingIsLive, Picks, room_of}
 use Rattle.ac_automaton.specs.Stream.Devices.Buffer.{Held, IsRollPaid, room_for, rolled}
-use Rattle.ac_automaton.specs.Stream.Mask.{AppendsFront, CutsAfter, FillsMask, HasMadeRoom, HasMasked, HasMaskedAll, HasOutrun, HasTakenIn, IsAllMasked, IsOpenFor, MaskCounts, MasksFront, MasksPushed, MasksRead, TakesPiece, IsMaskCut, IsOnMask, IsStreamMask, IsWithinMaskBudget, MaskProgress, front_of, mask_at, masked_of, passed_to, ready_of}
+use Rattle.ac_automaton.specs.Stream.Mask.{AppendsFront, CutsAfter, FillsMask, HasMadeRoom, HasMasked, HasMaskedAll, HasOutrun, HasTakenIn, IsAllMasked, IsOpenWithin, MaskCounts, MasksFront, MasksPushedWithin, MasksRead, TakesPiece, IsMaskCut, IsOnMask, IsOnMaskBy, IsStreamMask, IsMaskPaid, MaskProgress, front_of, mask_at, masked_of, passed_to, ready_of}
 use Rattle.ac_automaton.specs.declared.automaton.Automaton.{Ghosts}
 use Rattle.ac_automaton.specs.declared.error.StreamError.{StreamError}
 use Rattle.ac_automaton.specs.declared.error.StreamError.TheVariants.{Config, Read, Write, WriteZero, Memory, Position}
@@ -87,8 +87,9 @@ module _ (s : MaskProgress) (bytes : List ℕ) (course : IsOnMask s)
 -- ---- the places of what it keeps
 
 -- the bytes that wait stay when what was ready is dropped
-pub course-dropped : (s : MaskProgress) (from moved : ℕ) → s.from ≤ from → from ≤ s.cut
-    → 7 * moved ≤ length (passed_to s) → IsOnMask s → IsOnMask (record s { from = from; out = s.cut; moved = moved })
+pub course-dropped : {IsCut : Dictionary → List ℕ → ℕ → Type 0} {room bytes : ℕ} (s : MaskProgress) (from moved : ℕ)
+    → s.from ≤ from → from ≤ s.cut → 7 * moved ≤ bytes → IsOnMaskBy IsCut room bytes s
+    → IsOnMaskBy IsCut room bytes (record s { from = from; out = s.cut; moved = moved })
 course-dropped s from moved later sooner few course = record {
   standard = course.standard;
   filled = course.filled;
@@ -106,8 +107,9 @@ course-dropped s from moved later sooner few course = record {
 }
 
 -- after the last piece all that is masked is ready
-pub course-finished : (s : MaskProgress) → IsOnMask s
-    → IsOnMask (record s { closed = true; out = s.cut; cut = s.at })
+pub course-finished : {IsCut : Dictionary → List ℕ → ℕ → Type 0} {room bytes : ℕ} (s : MaskProgress)
+    → IsOnMaskBy IsCut room bytes s
+    → IsOnMaskBy IsCut room bytes (record s { closed = true; out = s.cut; cut = s.at })
 course-finished s course = record {
   standard = course.standard;
   filled = course.filled;
@@ -185,9 +187,43 @@ pub passed-more : (s : MaskProgress) (piece : List ℕ) → passed_to (after_pie
 passed-more s piece = concat-append s.pieces (piece ∷ []) ∙ ap (λ l. passed_to s ++ l) (append-nil piece)
 
 -- its front is as it was
-pub front-same : (s : MaskProgress) (piece : List ℕ) → IsOnMask s → front_of (after_piece s piece) ≡ front_of s
-front-same s piece course =
-    ap (take s.at) (passed-more s piece) ∙ take-append-le s.at (passed_to s) piece course.ordered.1
+pub front-same : (s : MaskProgress) (piece : List ℕ) → s.at ≤ length (passed_to s)
+    → front_of (after_piece s piece) ≡ front_of s
+front-same s piece within =
+    ap (take s.at) (passed-more s piece) ∙ take-append-le s.at (passed_to s) piece within
+
+-- it is on its course, where more bytes pay for what was moved
+pub course-grown : {IsCut : Dictionary → List ℕ → ℕ → Type 0} {room few bytes : ℕ} (s : MaskProgress) (piece : List ℕ)
+    → length piece ≤ room → few ≤ bytes → IsOnMaskBy IsCut room few s
+    → IsOnMaskBy IsCut room bytes (after_piece s piece)
+course-grown {IsCut} {room} s piece short_one more course =
+    let both = length-append (passed_to s) piece in
+    let long = ap length (passed-more s piece) in
+    record {
+      standard = course.standard;
+      filled = course.filled;
+      ready = course.ready;
+      ordered = (course.ordered.0, omega (arith, course.ordered.1, both, long));
+      open_ = λ e.
+          subst (λ l. IsCut s.built.dictionary l s.cut) (sym (front-same s piece course.ordered.1)) (course.open_ e);
+      closed_ = course.closed_;
+      short = All-push (λ l. length l ≤ room) s.pieces piece course.short short_one;
+      paid = record {
+        some = course.paid.some;
+        looked = course.paid.looked;
+        scanned = course.paid.scanned;
+        moved = omega (arith, course.paid.moved, more);
+      };
+    }
+
+-- and its looks are paid for
+pub paid-grown : (s : MaskProgress) (piece : List ℕ) → s.at ≤ length (passed_to s) → IsMaskPaid s
+    → IsMaskPaid (after_piece s piece)
+paid-grown s piece within =
+    subst
+    (λ l. (live : Option ℕ) → IsLive s.built.dictionary false l live
+    → (s.looked + live_len l live ≤ 2 * s.at) × (IsTrue s.built.deterministic → s.looked ≤ s.at))
+    (sym (front-same s piece within))
 
 module _ {Reaches : List ℕ → StateID → Type 0} {s : MaskProgress} {sid : StateID} {old new : Held} {was : Bool}
     (piece : List ℕ) (is : IsStreamMask Reaches s sid old was) (grown : IsGrown old new piece) where
@@ -213,25 +249,11 @@ module _ {Reaches : List ℕ → StateID → Type 0} {s : MaskProgress} {sid : S
   mask-grown over few many =
       let course = is.course in
       let more = passed-more s piece in
-      let same = front-same s piece course in
+      let same = front-same s piece course.ordered.1 in
       let both = length-append (passed_to s) piece in
       let long = ap length more in
       record {
-        course = record {
-          standard = course.standard;
-          filled = course.filled;
-          ready = course.ready;
-          ordered = (course.ordered.0, omega (arith, course.ordered.1, both, long));
-          open_ = λ e. subst (λ l. IsMaskCut s.built.dictionary l s.cut) (sym same) (course.open_ e);
-          closed_ = course.closed_;
-          short = All-push (λ l. length l ≤ room_of Picks s.built) s.pieces piece course.short piece-short;
-          paid = record {
-            some = course.paid.some;
-            looked = course.paid.looked;
-            scanned = course.paid.scanned;
-            moved = omega (arith, course.paid.moved, both, long);
-          };
-        };
+        course = course-grown s piece piece-short (omega (arith, both, long)) course;
         reads = subst (λ l. Reaches l sid) (sym same) is.reads;
         bytes = grown.bytes ∙ ap (λ l. l ++ piece) is.bytes
             ∙ append_assoc (drop s.from (masked_of s)) (drop s.at (passed_to s)) piece
@@ -241,10 +263,7 @@ module _ {Reaches : List ℕ → StateID → Type 0} {s : MaskProgress} {sid : S
         keep = grown.keep ∙ is.keep;
         read = grown.read ∙ ap (λ n. n + length piece) is.read ∙ sym both ∙ sym long;
         roll = grown.paid;
-        lookups = subst
-            (λ l. (live : Option ℕ) → IsLive s.built.dictionary false l live
-            → (s.looked + live_len l live ≤ 2 * s.at) × (IsTrue s.built.deterministic → s.looked ≤ s.at))
-            (sym same) is.lookups;
+        lookups = paid-grown s piece course.ordered.1 is.lookups;
         countable = λ e. subst CanBeCounted (sym more) (few e);
         uncountable = λ e. subst (λ l. ¬ CanBeCounted l) (sym more) (many e);
       }
@@ -328,7 +347,7 @@ idle-live b x ns standard filled tells is = (
 abbrev new_of : MaskProgress → List ℕ
 new_of s = drop s.at (passed_to s)
 
-all-read : (s : MaskProgress) → front_of s ++ new_of s ≡ passed_to s
+pub all-read : (s : MaskProgress) → front_of s ++ new_of s ≡ passed_to s
 all-read s = take-append-drop s.at (passed_to s)
 
 -- it is held after what is masked
@@ -359,16 +378,65 @@ masked_all s cut taken =
       scanned = s.scanned + taken.scanned.value;
     }
 
+-- what the new bytes cost is paid for
+abbrev pub IsNewPaid : MaskProgress → Steps → Type 0
+IsNewPaid s taken =
+    (live : Option ℕ) → IsLive s.built.dictionary false (passed_to s) live
+    → (s.looked + taken.looked.value + live_len (passed_to s) live ≤ 2 * length (passed_to s))
+    × (IsTrue s.built.deterministic → s.looked + taken.looked.value ≤ length (passed_to s))
+    × (length (passed_to s) ≤ s.looked + taken.looked.value) × (taken.scanned.value ≡ 0)
+    × (taken.moved.value ≡ 0)
+
+-- so its looks are paid for once all is masked
+pub paid-masked : (s : MaskProgress) (cut : ℕ) (taken : Steps) → IsNewPaid s taken → IsMaskPaid (masked_all s cut taken)
+paid-masked s cut taken new live alive =
+    let front : take (length (passed_to s)) (passed_to s) ≡ passed_to s = take_all (length (passed_to s)) (passed_to s)
+    (omega arith) in
+    let paid = new live (subst (λ l. IsLive s.built.dictionary false l live) front alive) in
+    let one = paid.0 in (
+      subst (λ l. s.looked + taken.looked.value + live_len l live ≤ 2 * length (passed_to s)) (sym front) one,
+      paid.1,
+    )
+
+-- and it is on its course, with a later cut
+pub course-masked : {IsCut : Dictionary → List ℕ → ℕ → Type 0} {room bytes : ℕ} (s : MaskProgress) (cut : ℕ)
+    (taken : Steps) → IsNewPaid s taken → s.closed ≡ false → s.out ≤ cut → cut ≤ length (passed_to s)
+    → IsCut s.built.dictionary (passed_to s) cut → IsOnMaskBy IsCut room bytes s
+    → IsOnMaskBy IsCut room bytes (masked_all s cut taken)
+course-masked {IsCut} s cut taken new unclosed later within is_cut course =
+    let front : take (length (passed_to s)) (passed_to s) ≡ passed_to s = take_all (length (passed_to s)) (passed_to s)
+    (omega arith) in
+    let live = live-some in
+    let paid = new live.0 live.1 in
+    let scanned = paid.3 in
+    record {
+      standard = course.standard;
+      filled = course.filled;
+      ready = (course.ready.0, later);
+      ordered = (within, omega arith);
+      open_ = λ e. subst (λ l. IsCut s.built.dictionary l cut) (sym front) is_cut;
+      closed_ = λ e. absurd (false≢true (sym unclosed ∙ e));
+      short = course.short;
+      paid = record {
+        some = paid.2;
+        looked = by s.built.deterministic paid.1 (let two = paid.0 in omega (arith, two));
+        scanned = let zero_scans = course.paid.scanned in omega (arith, scanned, zero_scans);
+        moved = course.paid.moved;
+      };
+    }
+  where
+    by : (d : Bool) → (IsTrue d → s.looked + taken.looked.value ≤ length (passed_to s))
+        → s.looked + taken.looked.value ≤ 2 * length (passed_to s)
+        → s.looked + taken.looked.value ≤ lookups_per_byte d * length (passed_to s)
+    by true one two = let e = one refl in omega (arith, e)
+    by false one two = two
+
 module _ {S : Type 0} (A : Ghosts S) (a : S) (s : MaskProgress) (sid : StateID) (old : Held) (over : Bool)
     (built : A.built a ≡ s.built) (is : IsStreamMask (A.Reaches a No) s sid old over) {fresh taken : Steps}
     (none : AreNone fresh)
     (cost : IsReadCost (A.built a) (A.Reaches a) No sid (drop (s.at - s.from) old.bytes) fresh taken) where
   -- what the new bytes cost is paid for
-  pub new-paid : (live : Option ℕ) → IsLive s.built.dictionary false (passed_to s) live
-      → (s.looked + taken.looked.value + live_len (passed_to s) live ≤ 2 * length (passed_to s))
-      × (IsTrue s.built.deterministic → s.looked + taken.looked.value ≤ length (passed_to s))
-      × (length (passed_to s) ≤ s.looked + taken.looked.value) × (taken.scanned.value ≡ 0)
-      × (taken.moved.value ≡ 0)
+  pub new-paid : IsNewPaid s taken
   new-paid live after =
       let before = live-some in
       let was = is.lookups before.0 before.1 in
@@ -391,25 +459,6 @@ module _ {S : Type 0} (A : Ghosts S) (a : S) (s : MaskProgress) (sid : StateID) 
         run.moved ∙ none.moved,
       )
 
-  -- and lies within the budget
-  new-budget : IsWithinMaskBudget (masked_all s s.cut taken)
-  new-budget =
-      let live = live-some in
-      let paid = new-paid live.0 live.1 in
-      let scanned = paid.3 in
-      record {
-        some = paid.2;
-        looked = by s.built.deterministic paid.1 (let two = paid.0 in omega (arith, two));
-        scanned = let zero_scans = is.course.paid.scanned in omega (arith, scanned, zero_scans);
-        moved = is.course.paid.moved;
-      }
-    where
-      by : (d : Bool) → (IsTrue d → s.looked + taken.looked.value ≤ length (passed_to s))
-          → s.looked + taken.looked.value ≤ 2 * length (passed_to s)
-          → s.looked + taken.looked.value ≤ lookups_per_byte d * length (passed_to s)
-      by true one two = let e = one refl in omega (arith, e)
-      by false one two = two
-
   -- what it keeps is right once all is masked
   pub mask-all : {bytes : List ℕ} (new : Held) (next : StateID) (cut : ℕ)
       → MasksFrom (A.built a) (A.Reaches a No) s.mask sid (s.at - s.from) old.bytes bytes next → new ≡ record old { bytes = bytes }
@@ -420,7 +469,6 @@ module _ {S : Type 0} (A : Ghosts S) (a : S) (s : MaskProgress) (sid : StateID) 
       let course = is.course in
       let front : front_of t ≡ passed_to s = take_all (length (passed_to s)) (passed_to s) (omega arith) in
       let new_bytes = new-held s old.bytes course is.bytes in
-      let budget = new-budget in
       let long = front-length s course in
       let there : front_of s ++ drop (s.at - s.from) old.bytes ≡ passed_to s = ap (λ l. front_of s ++ l) new_bytes
       ∙ all-read s in
@@ -433,16 +481,7 @@ module _ {S : Type 0} (A : Ghosts S) (a : S) (s : MaskProgress) (sid : StateID) 
       ∙ ap (λ l. drop s.from (masked_in s.built s.mask l)) there in
       let len = masks.len in
       record {
-        course = record {
-          standard = course.standard;
-          filled = course.filled;
-          ready = (course.ready.0, later);
-          ordered = (is_cut.final.0, omega arith);
-          open_ = λ e. subst (λ l. IsMaskCut s.built.dictionary l cut) (sym front) is_cut;
-          closed_ = λ e. absurd (false≢true (sym unclosed ∙ e));
-          short = course.short;
-          paid = record { some = budget.some; looked = budget.looked; scanned = budget.scanned; moved = budget.moved };
-        };
+        course = course-masked s cut taken new-paid unclosed later is_cut.final.0 is_cut course;
         reads = subst (λ l. A.Reaches a No l next) (there ∙ sym front) (masks.reads (front_of s) is.reads);
         bytes = ap (λ h. h.bytes) grown ∙ all ∙ sym (append-nil (drop s.from (masked_in s.built s.mask (passed_to s))))
             ∙ ap (λ l. drop s.from (masked_in s.built s.mask l) ++ []) (sym front)
@@ -457,12 +496,7 @@ module _ {S : Type 0} (A : Ghosts S) (a : S) (s : MaskProgress) (sid : StateID) 
               within = let w = is.roll.within in omega (arith, w, len);
               paid = let p = is.roll.paid in omega (arith, p, len);
             });
-        lookups = λ live alive.
-            let paid = new-paid live (subst (λ l. IsLive s.built.dictionary false l live) front alive) in
-            let one = paid.0 in (
-              subst (λ l. s.looked + taken.looked.value + live_len l live ≤ 2 * length (passed_to s)) (sym front) one,
-              paid.1,
-            );
+        lookups = paid-masked s cut taken new-paid;
         countable = is.countable;
         uncountable = is.uncountable;
       }
@@ -541,7 +575,7 @@ mask-view A i all new piece more moved = λ j. record {
 pub taken-front : {Reaches : List ℕ → StateID → Type 0} {s : MaskProgress} {sid : StateID} {old : Held} {was : Bool}
     (piece : List ℕ) (n : ℕ) → IsStreamMask Reaches s sid old was
     → n ≡ min (length piece) (old.room - length old.bytes) → length (passed_to s) < s.from + room_of Picks s.built
-    → 0 < length piece → (0 < n) × MasksFront (after_piece s (take n piece)) piece n
+    → 0 < length piece → (0 < n) × MasksFront (room_of Picks s.built) (after_piece s (take n piece)) piece n
 taken-front {s} {old} piece n is many room some =
     let long = held-length s old.bytes is.course is.bytes in
     let roomy : old.room ≡ room_of Picks s.built = is.roll.room ∙ ap room_for is.keep in
@@ -653,8 +687,8 @@ taken-masked {last = last} taken few all =
     )
 
 -- where room was made, a piece may come
-pub open-for : {s t : MaskProgress} → HasMadeRoom s t → s.closed ≡ false → IsAllMasked s
-    → length (passed_to t) < t.from + room_of Picks t.built → IsOpenFor t
+pub open-for : {s t : MaskProgress} {room : ℕ} → HasMadeRoom s t → s.closed ≡ false → IsAllMasked s
+    → length (passed_to t) < t.from + room → IsOpenWithin room t
 open-for made unclosed masked room = record {
   unclosed = ap (λ u. u.closed) made.same ∙ unclosed;
   masked = ap (λ u. u.at) made.same ∙ masked ∙ ap (λ u. length (passed_to u)) (sym made.same);
@@ -688,24 +722,24 @@ module _ {s mid : MaskProgress} (t : MaskProgress) (made : HasMadeRoom s mid) wh
   fill-stopped remaining before after WriteZero masked few fills = absurd fills
   fill-stopped remaining before after Memory masked few fills = absurd fills
 
-  pub append-stopped : (piece : List ℕ) (error : StreamError) → 0 < length piece → AppendsFront mid t piece (Err error)
-      → MasksPushed s t piece (Err error)
-  append-stopped piece Position some appends =
+  pub append-stopped : (room : Built → ℕ) (piece : List ℕ) (error : StreamError) → 0 < length piece
+      → AppendsFront room mid t piece (Err error) → MasksPushedWithin room s t piece (Err error)
+  append-stopped room piece Position some appends =
       let n = appends.0 in
       let filled : 0 < length (take n piece) = let e = length-take n piece in omega (arith, e, some, appends.1) in (
         n,
         subst (HasOutrun s t) (sym (as_piece-some (take n piece) filled)) (outruns appends.2 appends.3),
       )
-  append-stopped piece (Read error) some appends = absurd appends
-  append-stopped piece (Config error) some appends = absurd appends
-  append-stopped piece (Write error) some appends = absurd appends
-  append-stopped piece WriteZero some appends = absurd appends
-  append-stopped piece Memory some appends = absurd appends
+  append-stopped room piece (Read error) some appends = absurd appends
+  append-stopped room piece (Config error) some appends = absurd appends
+  append-stopped room piece (Write error) some appends = absurd appends
+  append-stopped room piece WriteZero some appends = absurd appends
+  append-stopped room piece Memory some appends = absurd appends
 
   -- a piece came, and was masked
-  pub append-masked : {last : MaskProgress} (piece : List ℕ) {n : ℕ} → 0 < n → AppendsFront mid t piece (Ok n)
-      → HasMaskedAll t last → MasksPushed s last piece (Ok n)
-  append-masked {last} piece {n} any appends all =
+  pub append-masked : (room : Built → ℕ) {last : MaskProgress} (piece : List ℕ) {n : ℕ} → 0 < n
+      → AppendsFront room mid t piece (Ok n) → HasMaskedAll t last → MasksPushedWithin room s last piece (Ok n)
+  append-masked room {last} piece {n} any appends all =
       let front = appends.1 in
       let within = front.within in
       let filled : 0 < length (take n piece) = let e = length-take n piece in omega (arith, e, within, any) in
@@ -717,6 +751,6 @@ module _ {s mid : MaskProgress} (t : MaskProgress) (made : HasMadeRoom s mid) wh
         record {
           within = front.within;
           some = front.some;
-          full = λ lt. ap length same ∙ front.full lt ∙ ap₂ (λ p b. p + room_of Picks b) (sym from) (sym built);
+          full = λ lt. ap length same ∙ front.full lt ∙ ap₂ (λ p b. p + room b) (sym from) (sym built);
         },
       )

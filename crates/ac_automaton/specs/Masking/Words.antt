@@ -1,5 +1,6 @@
 -- Masking whole words by one walk over a text: where it stands, which bytes it has masked, what a call in memory returns, and
 -- what it costs.
+pub mod Pushed
 pub mod Stream
 use Rattle.std.specs.Prelude.{◌≡◌, ◌⊎◌, ℕ, ◌+◌, ◌-◌, ◌<◌, ◌≤◌, Bool, true, false, List, [], length, slice_index, slice_range, Option, Result, Ok, Err}
 use Rattle.ac_input.specs.Number.{StateID}

@@ -88,28 +88,38 @@ pub record IsMaskCut (m : Dictionary) (x : List ℕ) (cut : ℕ) : Type 0 where
   pub all : NothingIsLive m x → cut ≡ length x
 
 -- What a masking has cost. It made at least one look for each byte that it has masked, and at most one, or two if the
--- automaton isn't deterministic. It scanned nothing, and moved at most a seventh of the bytes.
-pub record IsWithinMaskBudget (s : MaskProgress) : Type 0 where
+-- automaton isn't deterministic. It scanned nothing, and moved at most a seventh of so many bytes.
+pub record IsWithinMaskBudget (bytes : ℕ) (s : MaskProgress) : Type 0 where
   pub some : s.at ≤ s.looked
   pub looked : s.looked ≤ lookups_per_byte s.built.deterministic * s.at
   pub scanned : s.scanned ≡ 0
-  pub moved : 7 * s.moved ≤ length (passed_to s)
+  pub moved : 7 * s.moved ≤ bytes
 
--- What holds of a masking wherever it stands. The bytes before the cut are final; once nothing more comes, all are.
-pub record IsOnMask (s : MaskProgress) : Type 0 where
+-- What holds of a masking wherever it stands, by what a cut of its text is, how long a piece may be, and of how many
+-- bytes a seventh may be moved. The bytes before the cut are final; once nothing more comes, all are.
+pub record IsOnMaskBy (IsCut : Dictionary → List ℕ → ℕ → Type 0) (room bytes : ℕ) (s : MaskProgress) : Type 0 where
   pub standard : s.built.dictionary.kind ≡ Standard
   pub filled : 1 ≤ shortest s.built.dictionary.patterns
   pub ready : (s.from ≤ s.out) × (s.out ≤ s.cut)
   pub ordered : (s.cut ≤ s.at) × (s.at ≤ length (passed_to s))
-  pub open_ : s.closed ≡ false → IsMaskCut s.built.dictionary (front_of s) s.cut
+  pub open_ : s.closed ≡ false → IsCut s.built.dictionary (front_of s) s.cut
   pub closed_ : s.closed ≡ true → s.cut ≡ s.at
-  pub short : AllFit (room_of Picks s.built) s.pieces
-  pub paid : IsWithinMaskBudget s
+  pub short : AllFit room s.pieces
+  pub paid : IsWithinMaskBudget bytes s
 
--- A masking was made, which was passed nothing yet; or the error says why not.
+-- so it is of a masking of all occurrences
+abbrev pub IsOnMask : MaskProgress → Type 0
+IsOnMask s = IsOnMaskBy IsMaskCut (room_of Picks s.built) (length (passed_to s)) s
+
+-- A masking was made, which was passed nothing yet and is on its course; or the error says why not.
+abbrev pub AnswersNewMaskBy : (MaskProgress → Type 0) → Built → (Anchored → Type 0) → ℕ
+    → Result MaskProgress StreamError → Type 0
+AnswersNewMaskBy IsOn b supports mask (Ok s) = CanStream OnlyStandard b supports × (s ≡ fresh_mask b mask) × IsOn s
+AnswersNewMaskBy IsOn b supports mask (Err error) = IsListingRefusal b supports error
+
+-- so it is of a masking of all occurrences
 abbrev pub AnswersNewMask : Built → (Anchored → Type 0) → ℕ → Result MaskProgress StreamError → Type 0
-AnswersNewMask b supports mask (Ok s) = CanStream OnlyStandard b supports × (s ≡ fresh_mask b mask) × IsOnMask s
-AnswersNewMask b supports mask (Err error) = IsListingRefusal b supports error
+AnswersNewMask = AnswersNewMaskBy IsOnMask
 
 -- ---- what its calls do
 
@@ -158,11 +168,15 @@ MasksRead remaining s t before after (Err Position) =
 MasksRead remaining s t before after (Err other) = ⊥
 
 -- Nothing waits to be masked, more may come, and there is room for it.
-pub record IsOpenFor (s : MaskProgress) : Type 0 where
+pub record IsOpenWithin (size : ℕ) (s : MaskProgress) : Type 0 where
   pub unclosed : s.closed ≡ false
   pub masked : IsAllMasked s
   pub none : s.out ≡ s.cut
-  pub room : length (passed_to s) < s.from + room_of Picks s.built
+  pub room : length (passed_to s) < s.from + size
+
+-- so it is of a masking of all occurrences
+abbrev pub IsOpenFor : MaskProgress → Type 0
+IsOpenFor s = IsOpenWithin (room_of Picks s.built) s
 
 -- Of each text that leads to the state: nothing is live, and all is final up to its end; or something is, and all is final
 -- up to `keep` bytes before the end, less one, or up to where it was.
@@ -189,22 +203,29 @@ FillsMask remaining s t before after (Err Position) =
 FillsMask remaining s t before after (Err other) = ⊥
 
 -- How many bytes of a piece were taken: at least one, if there is one, and all of them unless the room is full.
-pub record MasksFront (t : MaskProgress) (piece : List ℕ) (n : ℕ) : Type 0 where
+pub record MasksFront (room : ℕ) (t : MaskProgress) (piece : List ℕ) (n : ℕ) : Type 0 where
   pub within : n ≤ length piece
   pub some : piece ≢ [] → 0 < n
-  pub full : n < length piece → length (passed_to t) ≡ t.from + room_of Picks t.built
+  pub full : n < length piece → length (passed_to t) ≡ t.from + room
 
--- the result of a push: how many bytes were taken from the front of the piece; or that there are more bytes than places
+-- The result of a push, by how much room there is: how many bytes were taken from the front of the piece; or that there
+-- are more bytes than places.
+abbrev pub MasksPushedWithin : (Built → ℕ) → MaskProgress → MaskProgress → List ℕ → Result ℕ StreamError → Type 0
+MasksPushedWithin room s t piece (Ok n) = HasMasked s t (as_piece (take n piece)) × MasksFront (room t.built) t piece n
+MasksPushedWithin room s t piece (Err Position) = (n : ℕ) × HasOutrun s t (as_piece (take n piece))
+MasksPushedWithin room s t piece (Err other) = ⊥
+
+-- so it is of a masking of all occurrences
 abbrev pub MasksPushed : MaskProgress → MaskProgress → List ℕ → Result ℕ StreamError → Type 0
-MasksPushed s t piece (Ok n) = HasMasked s t (as_piece (take n piece)) × MasksFront t piece n
-MasksPushed s t piece (Err Position) = (n : ℕ) × HasOutrun s t (as_piece (take n piece))
-MasksPushed s t piece (Err other) = ⊥
+MasksPushed = MasksPushedWithin (room_of Picks)
 
 -- the first bytes of a piece, of which there are some, came
-abbrev pub AppendsFront : MaskProgress → MaskProgress → List ℕ → Result ℕ StreamError → Type 0
-AppendsFront s t piece (Ok n) = TakesPiece s t (take n piece) × MasksFront t piece n × CanBeCounted (passed_to t)
-AppendsFront s t piece (Err Position) = (n : ℕ) × (0 < n) × TakesPiece s t (take n piece) × ¬ CanBeCounted (passed_to t)
-AppendsFront s t piece (Err other) = ⊥
+abbrev pub AppendsFront : (Built → ℕ) → MaskProgress → MaskProgress → List ℕ → Result ℕ StreamError → Type 0
+AppendsFront room s t piece (Ok n) =
+    TakesPiece s t (take n piece) × MasksFront (room t.built) t piece n × CanBeCounted (passed_to t)
+AppendsFront room s t piece (Err Position) =
+    (n : ℕ) × (0 < n) × TakesPiece s t (take n piece) × ¬ CanBeCounted (passed_to t)
+AppendsFront room s t piece (Err other) = ⊥
 
 -- a masking that was told that nothing more comes: the rest is ready
 abbrev pub finished_mask : MaskProgress → MaskProgress

@@ -1,6 +1,7 @@
 //! The laws of streams: what of a text is decided, and that it doesn't matter how it is cut into pieces.
 //!
 //! These functions do nothing. Each states one law as its contract; a caller who needs the law calls the function, at no cost.
+ghost use Rattle.ac_automaton.specs.Masking.Words.Pushed.{PiecesChangeNoMaskedWords};
 ghost use Rattle.ac_automaton.specs.Stream.Laws.{DeathDecides};
 ghost use Rattle.ac_automaton.specs.Stream.Push.{PiecesChangeNothing};
 ghost use Rattle.ac_automaton.specs.Stream.Replacer.{PiecesChangeNoText};
@@ -21,4 +22,10 @@ pub fn pieces_change_nothing()
 /// Nor does it for the replaced text: two replacements that were given the same text hand out the same, once they are finished.
 pub fn pieces_change_no_text()
     ensures { PiecesChangeNoText }
+{}
+
+/// Nor does it for masked whole words: the slices that a masking hands out, one after another, are the masked text of what was pushed, up
+/// to the bytes that wait, and all of it once nothing more comes.
+pub fn pieces_change_no_masked_words()
+    ensures { PiecesChangeNoMaskedWords }
 {}

@@ -10,8 +10,9 @@
 //! prefilter is used.
 //!
 //! [`mask_stream`] masks a stream from a reader into a writer. A [`StreamMask`] owns neither: its pieces are pushed when they come.
-//! [`words`] masks whole words alone.
+//! [`words`] masks whole words alone, and so does a [`StreamWordMask`], whose pieces are pushed.
 ghost use Rattle.std.specs.Prelude.{◌≡◌, false, IfErr};
+ghost use Rattle.ac_automaton.specs.Masking.Words.Pushed.{AnswersNewWordMasking, IsOnWordMask, MasksWordsPushed, ready_words_of};
 ghost use Rattle.ac_automaton.specs.Stream.{CanBeCounted};
 ghost use Rattle.ac_automaton.specs.Stream.Mask.{AnswersNewMask, CostsMaskStream, IsOnMask, MaskCounts, MasksPushed, MasksStream, WritesMasked, finished_mask, fresh_mask, passed_to, ready_of};
 ghost use Rattle.ac_automaton.specs.Stream.Overlapping.{AcceptsListing};
@@ -29,6 +30,7 @@ mod masker;
 pub(crate) mod words;
 
 use masker::Masker;
+use words::pushed::WordMasking;
 
 /// A masking of a stream whose pieces are pushed when they come. It owns its automaton, or borrows it as a reference.
 ///
@@ -125,6 +127,108 @@ impl<A: Search> StreamMask<A> {
         ensures kept { IsOnMask self.new }
     {
         self.masker.push_counted(piece, steps)
+    }
+}
+
+/// A masking of the whole words of a stream whose pieces are pushed when they come. It owns its automaton, or borrows it as a reference.
+///
+/// ```text
+/// let mut stream = ac.try_stream_word_mask(alloc, b'*')?;
+/// while let Some(piece) = receive() {
+///     let mut rest = piece;
+///     while !rest.is_empty() {
+///         let n = stream.push(rest)?;
+///         rest = &rest[n..];
+///         send(stream.ready());
+///     }
+/// }
+/// stream.finish();
+/// send(stream.ready());
+/// ```
+///
+/// What it hands out, one slice after another, is the text that [`try_mask_words`](Search::try_mask_words) makes of what was pushed, up
+/// to the bytes that wait, however it is cut into pieces: see
+/// [`pieces_change_no_masked_words`](crate::stream::laws::pieces_change_no_masked_words). At most as many bytes wait as the longest
+/// pattern has, and none where nothing of what was read may still grow into an occurrence.
+#[derive(Drop)]
+pub struct StreamWordMask<A: Search> {
+    masking: WordMasking<A>,
+}
+
+impl<A: Search> Model for StreamWordMask<A> {
+    ghost use Rattle.ac_automaton.specs.Stream.{CanBeCounted};
+    ghost use Rattle.ac_automaton.specs.Stream.Mask.{IsAllMasked, MaskProgress, passed_to};
+
+    ghost Value = { MaskProgress };
+
+    ghost view = { λ i. i.masking };
+
+    ghost invariant = { λ i. CanBeCounted (passed_to i.masking) → IsAllMasked i.masking };
+}
+
+impl<A: Search + Drop> StreamWordMask<A> {
+    /// A masking of the whole words of a stream with this byte. It takes two buffers of `max(65536, 8 * (longest + 1))` bytes, and no
+    /// memory after them. Returns an error where [`StreamMask::new`] does.
+    pub fn new(automaton: A, mask: u8, alloc: Global) -> Result<StreamWordMask<A>, StreamError>
+        ensures { AnswersNewWordMasking (A.built automaton) (A.supports automaton) mask result }
+    {
+        let masking = WordMasking::new(automaton, mask, alloc)?;
+        Ok(StreamWordMask { masking })
+    }
+}
+
+impl<A: Search> StreamWordMask<A> {
+    /// The masked bytes that are ready: those after what was handed out before, up to the bytes that wait. The next push drops them.
+    pub fn ready(&self) -> &[u8]
+        ensures ready { result.now ≡ ready_words_of self.now }
+        ensures kept { IsOnWordMask self.now }
+    {
+        self.masking.ready()
+    }
+
+    /// Tells it that nothing more comes: a word may end with the last byte, and the bytes that waited are ready. After more bytes were
+    /// pushed than there are places, nothing is.
+    pub fn finish(&mut self)
+        ensures finished { CanBeCounted (passed_to self.old) → self.new ≡ finished_mask self.old }
+        ensures over { ¬ CanBeCounted (passed_to self.old) → self.new ≡ record self.old { out = self.old.cut } }
+        ensures kept { IsOnWordMask self.new }
+    {
+        self.masking.finish();
+    }
+
+    /// Whether nothing more comes.
+    pub fn is_finished(&self) -> bool
+        ensures { result ≡ self.now.closed }
+    {
+        self.masking.is_finished()
+    }
+
+    /// Takes the first bytes of a piece, as many as there is room for, and masks the words that are known. Returns how many: the piece
+    /// isn't needed any more. At least one is taken, if there is one. What was ready is dropped; what is ready now is what
+    /// [`StreamWordMask::ready`] lends.
+    ///
+    /// There is room for `max(65536, 8 * (longest + 1))` bytes, so a piece of up to seven eighths of that is taken whole. It copies each
+    /// byte twice, into one buffer as it is and into one to be masked. It allocates nothing, and moves a seventh of the bytes at most
+    /// within each buffer.
+    ///
+    /// It requires that it wasn't finished. Returns the error `Position` if there are more bytes than places, and each time after that.
+    pub fn push(&mut self, piece: &[u8]) -> Result<usize, StreamError>
+        requires unclosed { self.old.closed ≡ false }
+        ensures pushed { MasksWordsPushed self.old self.new piece.now result }
+        ensures kept { IsOnWordMask self.new }
+    {
+        let mut steps = Steps::new();
+        self.push_counted(piece, &mut steps)
+    }
+
+    /// The same; counts what it does.
+    pub fn push_counted(&mut self, piece: &[u8], steps: &mut Steps) -> Result<usize, StreamError>
+        requires unclosed { self.old.closed ≡ false }
+        ensures pushed { MasksWordsPushed self.old self.new piece.now result }
+        ensures counts { MaskCounts self.old self.new steps.old steps.new }
+        ensures kept { IsOnWordMask self.new }
+    {
+        self.masking.push_counted(piece, steps)
     }
 }
 

@@ -194,7 +194,7 @@ impl<A: Search> Masker<A> {
     fn append(&mut self, piece: &[u8]) -> Result<usize, StreamError>
         requires some { piece.now ≢ [] }
         requires open { IsOpenFor self.old }
-        ensures appended { AppendsFront self.old self.new piece.now result }
+        ensures appended { AppendsFront (room_of Picks) self.old self.new piece.now result }
         ensures kept { IsOnMask self.new }
     {
         let n = self.buffer.take(piece);

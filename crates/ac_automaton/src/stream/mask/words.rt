@@ -4,13 +4,15 @@
 //! the stream: one as it was read, and one masked so far. After each read the words are masked that are known by then: see
 //! [`masking::words`](crate::masking::words). A word that isn't known yet ends at the end of what was read, or later. So all is ready to
 //! be written but the last bytes: as many as the longest pattern has, and none where nothing is live. One byte before these is held too.
-ghost use Rattle.std.specs.Prelude.{◌≡◌, ◌+◌, ◌-◌, ◌<◌, ◌≤◌, ℕ, List, [], false, length, slice_range, IfErr, IfOk};
+//!
+//! [`mask_words_stream`] masks a stream from a reader into a writer, and [`pushed`] one whose pieces are pushed.
+ghost use Rattle.std.specs.Prelude.{◌≡◌, ◌+◌, ◌-◌, ◌<◌, ◌≤◌, ℕ, List, [], false, length, min, slice_range, take, IfErr, IfOk};
 ghost use Rattle.ac_input.specs.declared.search.Anchored.TheVariants.{No};
 ghost use Rattle.ac_input.specs.declared.search.MatchKind.TheVariants.{Standard};
 ghost use Rattle.ac_input.specs.Number.{StateID, usize_max};
 ghost use Rattle.ac_input.specs.Work.{longest, shortest};
 ghost use Rattle.ac_automaton.specs.Masking.Words.{CostsReading, MasksKnown};
-ghost use Rattle.ac_automaton.specs.Masking.Words.Stream.{AnswersNewWordMask, AreAlike, CostsMaskWordsStream, CountsMoves, FillsBoth, HasMadeRoomFor, IsMaskerRolled, IsWordMasker, MasksWordsStream, WritesMaskedWords, fresh_word_masker};
+ghost use Rattle.ac_automaton.specs.Masking.Words.Stream.{AnswersNewWordMask, AreAlike, CostsMaskWordsStream, CountsMoves, FillsBoth, HasMadeRoomFor, IsMaskerRolled, IsWordMasker, MasksWordsStream, WritesMaskedWords, fresh_word_masker, words_grown};
 ghost use Rattle.ac_automaton.specs.Stream.{IsOutOfMemory};
 ghost use Rattle.ac_automaton.specs.Stream.Overlapping.{AcceptsListing};
 ghost use Rattle.ac_automaton.specs.Stream.Replace.{IsBegun};
@@ -27,6 +29,8 @@ use ac_input::primitives::StateID;
 use ac_input::steps::Steps;
 use std::alloc::Global;
 use std::io::{Read, Write};
+
+pub(super) mod pushed;
 
 /// What a masking of whole words keeps between two reads.
 #[derive(Drop)]
@@ -94,6 +98,18 @@ impl WordMasker {
         }
         self.masked.take(&held[held.len() - n..]);
         Ok(n)
+    }
+
+    /// Takes the first bytes of a piece, as many as there is room for. Returns how many. They aren't masked yet.
+    fn take(&mut self, piece: &[u8]) -> usize
+        requires alike { AreAlike self.old }
+        ensures many { result ≡ min (length piece.now) (self.old.plain.room - length self.old.plain.bytes) }
+        ensures took { self.new ≡ words_grown self.old (take result piece.now) }
+        ensures alike { AreAlike self.new }
+    {
+        let n = self.plain.take(piece);
+        self.masked.take(&piece[..n]);
+        n
     }
 
     /// Masks what is known by now; all, if nothing follows.

@@ -37,7 +37,7 @@ use Rattle.ac_automaton.proofs.masking.words.CostLemmas.{costs-none, costs-then}
 use Rattle.ac_automaton.proofs.masking.words.WordMaskLemmas.{begins-masking}
 use Rattle.ac_automaton.proofs.stream.StreamMaskEndLemmas.{front-and}
 use Rattle.ac_automaton.proofs.stream.devices.MovedLemmas.{AreFilled-push, given-none, given-push, still-open, taken-none, taken-then}
-use Rattle.ac_automaton.proofs.stream.mask.words.WordMaskerLemmas.{masker-grown, masker-masked, masker-rolled, shows-part}
+use Rattle.ac_automaton.proofs.stream.mask.words.WordMaskerLemmas.{masker-grown, masker-masked, masker-out, masker-rolled, shows-part}
 use Rattle.ac_automaton.proofs.stream.mask.words.WritingLemmas.{concat-push}
 
 -- ---- where the words are final
@@ -366,22 +366,7 @@ module _ {W : Type 0} (contents : W → Option (List ℕ)) (b : Built) (Reaches 
       ∙ ready-part contents b Reaches mask settled piece t grown alike false last same masks cost place le inside
       (known-before b.dictionary y place cut.final) in
       record {
-        is = record {
-          alike = record {
-            keep = is.alike.keep;
-            len = is.alike.len;
-            read = is.alike.read;
-            plain = is.alike.plain;
-            masked = is.alike.masked;
-          };
-          keep = is.keep;
-          read = is.read;
-          within = is.within;
-          shown = is.shown;
-          has = is.has;
-          near = is.near;
-          held = omega arith;
-        };
+        is = masker-out place (omega arith) is;
         all = masks.0;
         cut = cut;
         countable = few;

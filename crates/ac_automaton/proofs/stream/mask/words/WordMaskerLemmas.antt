@@ -127,6 +127,26 @@ pub masker-held : {b : Built} {Reaches : List ℕ → StateID → Type 0} {mask 
 masker-held {x = x} {s} is =
     let e = ap length is.shown in let d = length-drop s.from x in let le = is.within in omega arith
 
+-- all else that it keeps is right wherever the next write begins
+pub masker-out : {b : Built} {Reaches : List ℕ → StateID → Type 0} {mask : ℕ} {x : List ℕ} {s : WordMasker} (out : ℕ)
+    → s.from ≤ out → IsWordMasker b Reaches mask x s → IsWordMasker b Reaches mask x (record s { out = out })
+masker-out out held is = record {
+  alike = record {
+    keep = is.alike.keep;
+    len = is.alike.len;
+    read = is.alike.read;
+    plain = is.alike.plain;
+    masked = is.alike.masked;
+  };
+  keep = is.keep;
+  read = is.read;
+  within = is.within;
+  shown = is.shown;
+  has = is.has;
+  near = is.near;
+  held = held;
+}
+
 module _ {b : Built} {Reaches : List ℕ → StateID → Type 0} {mask : ℕ} {x : List ℕ} {s t : WordMasker}
     (is : IsWordMasker b Reaches mask x s) where
   -- the last bytes were moved to the front

@@ -53,14 +53,14 @@ taken g c = view g c ∙ ap (λ s. after_piece s (take c.take-n.result c.args.pi
 -- how many bytes came
 front : (g : Over) (c : After-held g)
     → (0 < c.take-n.result)
-    × MasksFront
+    × MasksFront (room_of Picks (g.A.Automaton.built c.self.inside.automaton))
     (mask_with g.A.Automaton c.self.inside c.and-self-inside.result.items c.take-n.new.self)
     c.args.piece.now c.take-n.result
 front g c =
     let is = taken-front c.args.piece.now c.take-n.result c.self.invariant c.take-n.ensures.many
     (subst (λ s. length (passed_to s) < s.from + room_of Picks s.built) (sym c.self.view_is) c.requires.open.room)
     (not-empty c.args.piece.now c.requires.some) in
-    (is.0, subst (λ t. MasksFront t c.args.piece.now c.take-n.result) (sym (view g c)) is.1)
+    (is.0, subst (λ t. MasksFront (room_of Picks t.built) t c.args.piece.now c.take-n.result) (sym (view g c)) is.1)
 
 pub invariant_of-self : goal.invariant_of-self
 invariant_of-self g c = kept g (goal.at.invariant_of-self g c).After-held

@@ -3,7 +3,7 @@ use Rattle.std.proofs.Common.{◌≡◌, ◌<◌, length, sym, ap, subst, arith}
 use Rattle.std.proofs.lemmas.Grind.{common_steps}
 use Rattle.std.proofs.lemmas.Bool.Decides.{nat_tests}
 use Rattle.std.proofs.lemmas.Result.{err_from_is_err_and}
-use Rattle.ac_automaton.specs.Stream.{CanBeCounted}
+use Rattle.ac_automaton.specs.Stream.{CanBeCounted, Picks, room_of}
 use Rattle.ac_automaton.specs.Stream.Mask.{passed_to}
 use Rattle.ac_automaton.proofs.stream.StreamMaskLemmas.{append-masked, append-stopped, made-none, mask-counts-none, mask_by, open-for}
 use Rattle.ac_automaton.proofs.stream.StreamPushLemmas.{not-empty}
@@ -42,14 +42,14 @@ pub returns-in_err-n-clause-pushed : goal.returns-in_err-n-clause-pushed
 returns-in_err-n-clause-pushed g c =
     let p = err_from_is_err_and c.from_residual.result c.from_residual.ensures.1 in
     rw (p.1, p.2)
-    (append-stopped c.append.new.self c.make_room.ensures.made c.args.piece.now _
+    (append-stopped c.append.new.self c.make_room.ensures.made (room_of Picks) c.args.piece.now _
     (let some : 0 < length c.args.piece.now = grind (arith, nat_tests) in some) c.in_err-n.ensures.appended)
 
 pub returns-clause-pushed : goal.returns-clause-pushed
 returns-clause-pushed g c =
     let appended = c.in_ok-n.ensures.appended in
     let some : 0 < length c.args.piece.now = grind (arith, nat_tests) in
-    append-masked c.append.new.self c.make_room.ensures.made c.args.piece.now
+    append-masked c.append.new.self c.make_room.ensures.made (room_of Picks) c.args.piece.now
     (appended.1.some (λ none. let e = ap length none in omega (arith, e, some))) appended c.mask_new.ensures.masked
 
 pub returns-then-self-clause-pushed : goal.returns-then-self-clause-pushed

@@ -1,7 +1,15 @@
 # Completion of acsub for bash.
 _acsub() {
-    local word=${COMP_WORDS[COMP_CWORD]} before=${COMP_WORDS[COMP_CWORD - 1]} placed=0 i
+    local word=${COMP_WORDS[COMP_CWORD]} before=${COMP_WORDS[COMP_CWORD - 1]} redirection='^[0-9&]*[<>]+[&|]?$' placed=0 i
     local options="--text --stream --word --with --kind --fold --pairs --engine --no-prefilter --dense-depth --no-byte-classes --help --version"
+    # `--kind=K` is three words here: `--kind`, `=` and `K`.
+    if [[ $word == = ]]; then
+        word=
+    elif [[ $before == = ]]; then
+        before=${COMP_WORDS[COMP_CWORD - 2]}
+    fi
+    # Where nothing is offered, bash completes the name of a file by itself; here that is wrong.
+    compopt +o bashdefault +o default
     case $before in
     --kind) COMPREPLY=($(compgen -W "standard leftmost-first leftmost-longest" -- "$word")) ; return ;;
     --engine) COMPREPLY=($(compgen -W "auto noncontiguous contiguous dfa packed" -- "$word")) ; return ;;
@@ -11,17 +19,19 @@ _acsub() {
         COMPREPLY=($(compgen -W "$options" -- "$word"))
         return
     fi
-    # The words before this one that belong to no option.
+    # The words before this one that belong to no option and no redirection.
     for ((i = 1; i < COMP_CWORD; i++)); do
         case ${COMP_WORDS[i]} in
-        --with | --kind | --engine | --pairs | --dense-depth) ((i++)) ;;
+        --with | --kind | --engine | --pairs | --dense-depth)
+            if [[ ${COMP_WORDS[i + 1]} == = ]]; then ((i += 2)); else ((i++)); fi ;;
         -*) ;;
-        *) ((placed++)) ;;
+        *) if [[ ${COMP_WORDS[i]} =~ $redirection ]]; then ((i++)); else ((placed++)); fi ;;
         esac
     done
-    case $placed in
-    0) COMPREPLY=($(compgen -W "replace list overlap mask" -- "$word")) ;;
-    1) compopt -o filenames ; COMPREPLY=($(compgen -f -- "$word")) ;;
-    esac
+    if [[ $placed == 0 && ! $before =~ $redirection ]]; then
+        COMPREPLY=($(compgen -W "replace list overlap mask" -- "$word"))
+    else
+        compopt -o bashdefault -o default
+    fi
 }
-complete -F _acsub acsub
+complete -o bashdefault -o default -F _acsub acsub

@@ -1,8 +1,10 @@
 # Completion of acsub for fish.
 function __acsub_placed
-    # How many words belong to no option; true where they are as many as asked.
+    # How many words belong to no option and no redirection; true where they are as many as asked.
     set -l words (commandline -opc)
-    set -l placed 0
+    # The file of a redirection is one of the words.
+    set -l files (commandline -cp | string match -ra '[<>]\s*[^\s<>]+\s')
+    set -l placed (math 0 - (count $files))
     set -l skip 0
     for word in $words[2..-1]
         if test $skip = 1

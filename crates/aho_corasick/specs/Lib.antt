@@ -24,6 +24,7 @@ pub use Rattle.ac_automaton.specs.InMemory.Words
 pub use Rattle.ac_automaton.specs.InMemory.Words.Overlapping as WordListing
 pub use Rattle.ac_automaton.specs.Masking
 pub use Rattle.ac_automaton.specs.Masking.Words as WordMask
+pub use Rattle.ac_automaton.specs.Masking.Words.Pushed as PushedWordMask
 pub use Rattle.ac_automaton.specs.Masking.Words.Stream as StreamWordMask
 pub use Rattle.ac_automaton.specs.Stream
 pub use Rattle.ac_automaton.specs.Stream.Iter as StreamIter

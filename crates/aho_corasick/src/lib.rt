@@ -25,7 +25,7 @@ pub use ac_automaton::error::{MatchError, MatchErrorKind, ReplaceError, StreamEr
 pub use ac_automaton::iter::WalkPlace;
 pub use ac_automaton::output::Output;
 pub use ac_automaton::overlapping::OverlappingState;
-pub use ac_automaton::stream::mask::StreamMask;
+pub use ac_automaton::stream::mask::{StreamMask, StreamWordMask};
 pub use ac_automaton::stream::sink::Sink;
 pub use ac_automaton::stream::{
     OverlappingWordSearch, StreamKinds, StreamReplacer, StreamSearch, WordSearch,

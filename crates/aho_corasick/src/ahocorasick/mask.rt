@@ -8,6 +8,7 @@
 ghost use Rattle.std.specs.Prelude.{◌≡◌, false};
 ghost use Rattle.ac_automaton.specs.Masking.{CostsMask, Masks, masked_in};
 ghost use Rattle.ac_automaton.specs.Masking.Words.{CostsMaskWords, MasksWords};
+ghost use Rattle.ac_automaton.specs.Masking.Words.Pushed.{AnswersNewWordMasking};
 ghost use Rattle.ac_automaton.specs.Masking.Words.Stream.{CostsMaskWordsStream, MasksWordsStream};
 ghost use Rattle.ac_automaton.specs.Stream.Mask.{AnswersNewMask, CostsMaskStream, MasksStream};
 ghost use Rattle.ac_automaton.specs.Stream.Overlapping.{AcceptsListing};
@@ -17,7 +18,7 @@ ghost use Rattle.aho_corasick.specs.AhoCorasick.{as_built, kind_of, supported_by
 use super::AhoCorasick;
 use ac_automaton::error::{MatchError, ReplaceError, StreamError};
 use ac_automaton::search::Search;
-use ac_automaton::stream::mask::StreamMask;
+use ac_automaton::stream::mask::{StreamMask, StreamWordMask};
 use ac_automaton::watched::Watched;
 use ac_input::search::Anchored;
 use ac_input::steps::Steps;
@@ -188,5 +189,18 @@ impl AhoCorasick {
         ensures { AnswersNewMask (as_built self.now) (supported_by self.now) mask result }
     {
         Search::try_stream_mask(self, alloc, mask)
+    }
+
+    /// A masking of the whole words of a stream whose pieces come when they come: see [`StreamWordMask`]. It borrows the automaton; one
+    /// that owns it is made by [`StreamWordMask::new`], from a clone, which shares the automaton. Returns an error where
+    /// [`AhoCorasick::try_mask_words_stream`] does before it reads.
+    pub fn try_stream_word_mask<'a>(
+        &'a self,
+        alloc: Global,
+        mask: u8,
+    ) -> Result<StreamWordMask<&'a AhoCorasick>, StreamError>
+        ensures { AnswersNewWordMasking (as_built self.now) (supported_by self.now) mask result }
+    {
+        Search::try_stream_word_mask(self, alloc, mask)
     }
 }

@@ -100,6 +100,13 @@ def pythons():
     return [path for _, path in sorted(found.items())]
 
 
+def bundled_pip(python):
+    """The wheel of pip that a Python brings, from which it runs."""
+    asked = "import ensurepip, os; print(os.path.dirname(ensurepip.__file__))"
+    places = [f"{said_by(python, '-c', asked).strip()}/_bundled", "/usr/share/python-wheels"]
+    return next(it for place in places for it in sorted(glob.glob(f"{place}/pip-*.whl")))
+
+
 class Trial:
     """What is tried, row by row, in a folder outside the repository."""
 
@@ -127,10 +134,14 @@ class Trial:
             print(f"FAILED  {name}\n{error}", flush=True)
 
     def environment(self, python):
-        """A new environment of a Python, which has nothing but pip."""
+        """A new environment of a Python, which has nothing."""
         folder = f"{self.folder}/{len(os.listdir(self.folder))}"
-        self.run(python, "-m", "venv", folder)
+        self.run(python, "-m", "venv", "--without-pip", folder)
         return f"{folder}/bin/python"
+
+    def pip(self, python, *words, **variables):
+        """Runs the pip that comes with a Python, in an environment."""
+        return self.run(python, "-m", "pip", *words, PYTHONPATH=bundled_pip(python), **variables)
 
 
 def record_holds(trial, wheel):
@@ -151,15 +162,15 @@ def record_holds(trial, wheel):
 def tests_pass(trial, python, sources):
     """The package's own tests, and the examples of its page, of the sources distributed."""
     cases = os.environ.get("CASES", "300")
-    for name in ("test_automaton", "test_threads", "test_ahocorasick", "test_dask"):
-        warned = "ignore" if name == "test_dask" else "error"
-        trial.run(python, "-W", warned, f"{sources}/tests/{name}.py", CASES=cases)
+    for path in sorted(set(glob.glob(f"{sources}/tests/test_*.py")) - {f"{sources}/tests/test_build.py"}):
+        warned = "ignore" if path.endswith("test_dask.py") else "error"
+        trial.run(python, "-W", warned, path, CASES=cases)
     trial.run(python, f"{sources}/tests/examples.py", f"{sources}/README.md")
 
 
 def leaves_nothing(trial, python):
     """What was installed goes with the package."""
-    trial.run(python, "-m", "pip", "uninstall", "-q", "-y", "dadofennel")
+    trial.pip(python, "uninstall", "-q", "-y", "dadofennel")
     left = glob.glob(f"{os.path.dirname(os.path.dirname(python))}/lib/python3*/site-packages/dadofennel*")
     if left:
         raise AssertionError(f"{', '.join(left)} is left")
@@ -167,14 +178,14 @@ def leaves_nothing(trial, python):
 
 def wheel_serves(trial, python, wheel, sources):
     it = trial.environment(python)
-    trial.run(it, "-m", "pip", "install", "-q", "--no-index", "--no-deps", wheel)
+    trial.pip(it, "install", "-q", "--no-index", "--no-deps", wheel)
     tests_pass(trial, it, sources)
     leaves_nothing(trial, it)
 
 
 def sources_serve(trial, python, sdist, sources, variables):
     it = trial.environment(python)
-    trial.run(it, "-m", "pip", "install", "-q", "--no-index", "--no-build-isolation", sdist, **variables)
+    trial.pip(it, "install", "-q", "--no-index", "--no-build-isolation", sdist, **variables)
     tests_pass(trial, it, sources)
 
 
@@ -182,7 +193,7 @@ def sources_say_what_lacks(trial, python, sdist):
     """Without a library the build ends, and says what to do."""
     it = trial.environment(python)
     try:
-        trial.run(it, "-m", "pip", "install", "-q", "--no-index", "--no-build-isolation", sdist, PKG_CONFIG="/nowhere")
+        trial.pip(it, "install", "-q", "--no-index", "--no-build-isolation", sdist, PKG_CONFIG="/nowhere")
     except AssertionError as error:
         if "set DADOFENNEL_PREFIX to where it is" not in str(error):
             raise

@@ -1,9 +1,12 @@
 """The automaton: patterns that are searched for together."""
-from typing import Any, AnyStr, Dict, Generic, Iterable, Iterator, Optional, Sequence, Tuple, cast
+from itertools import islice
+from operator import attrgetter
+from typing import Any, AnyStr, Dict, Generic, Iterable, Iterator, List, Optional, Sequence, Tuple, cast
 
 from . import _native as native
-from . import _stream
-from ._built import Built, number_of, spliced
+from . import _masks, _stream
+from ._built import Built, limit_of, number_of, paired
+from ._masks import Masker
 from ._match import Match
 from ._replacements import Replacements
 
@@ -59,7 +62,7 @@ class Automaton(native.Searches[AnyStr], Generic[AnyStr]):
         row_memory: Optional[int] = None,
     ) -> None:
         settings: Dict[str, Any] = dict(
-            kind=kind, fold=fold, pairs=tuple(map(tuple, pairs)), start_kind=start_kind, engine=engine, prefilter=prefilter,
+            kind=kind, fold=fold, pairs=paired(pairs), start_kind=start_kind, engine=engine, prefilter=prefilter,
             byte_classes=byte_classes, dense_depth=dense_depth, row_memory=row_memory,
         )
         self._built = Built(patterns, settings)
@@ -107,15 +110,33 @@ class Automaton(native.Searches[AnyStr], Generic[AnyStr]):
     def __deepcopy__(self, memo: Any) -> "Automaton[AnyStr]":
         return self
 
-    def replace_words(self, text: Any, replacements: Replacements[AnyStr], kind: str = "standard") -> AnyStr:
-        """The text with each word of `find_words` replaced: the whole words under `kind`, one after another.
+    def subn(self, text: Any, replacements: Replacements[AnyStr], count: int = 0) -> Tuple[AnyStr, int]:
+        """What `replace` makes of the text, and how many matches were replaced. It takes and raises what `replace` does."""
+        return cast(Tuple[AnyStr, int], self._built.replaced_and_counted(text, replacements, limit_of("count", count)))
 
-        `replacements` are what `replace` takes, and the result is `str` or `bytes`, as the patterns are. Raises what `find_words` raises,
-        and for replacements what `replace` does.
+    def findall(self, text: Any, start: Optional[int] = None, end: Optional[int] = None) -> List[AnyStr]:
+        """What matched, of each match of `finditer`: a list of `str` or of `bytes`, as the patterns are.
+
+        With an automaton of kind leftmost-first, of which no pattern is empty, it is what `re.findall` gives for the patterns with `|`
+        between them. Raises `Error` as `finditer` does.
         """
-        built = self._built
-        words = native.words_in(built, text, kind)
-        return cast(AnyStr, spliced(text, words, built.replacement(replacements)))
+        return list(map(_text_of, self.finditer(text, start, end)))
+
+    def split(self, text: Any, maxsplit: int = 0) -> List[AnyStr]:
+        """What lies between the matches of `finditer`: one piece more than there are matches; with `maxsplit` the first matches alone.
+
+        Pieces may be empty, and none is left out. They are `str` or `bytes`, as the patterns are. Raises `Error` as `finditer` does, and
+        `ValueError` where `maxsplit` is negative.
+        """
+        limit, matches = limit_of("maxsplit", maxsplit), self.finditer(text)
+        whole: Any = text if isinstance(text, str) else memoryview(text).cast("B")
+        owned: Any = str if isinstance(text, str) else bytes
+        pieces, at = [], 0
+        for found in islice(matches, limit) if limit else matches:
+            pieces.append(owned(whole[at:found.start]))
+            at = found.end
+        pieces.append(owned(whole[at:]))
+        return pieces
 
     def replace_stream(self, reader: Any, writer: Any, replacements: Replacements[AnyStr]) -> int:
         """Writes what `reader` has to `writer`, with each match replaced as by `replace`, and returns how many there were.
@@ -127,14 +148,9 @@ class Automaton(native.Searches[AnyStr], Generic[AnyStr]):
         """
         built = self._built
         built.serves(False)
-        replacement = built.replacement(replacements)
         if not built.any_empty:
-            return _stream.replace(_stream.begun(built), built.longest, reader, writer, replacement)
-
-        def walked(text: Any, again: bool) -> Iterator[Match]:
-            return native.matches_after(built, text, again)
-
-        return _stream.replace_again(walked, built.kind != "standard", built.longest, reader, writer, replacement)
+            return _stream.replace(_stream.begun(built), built, reader, writer, replacements)
+        return _stream.replace_again(built, reader, writer, replacements)
 
     def replace_words_stream(
         self, reader: Any, writer: Any, replacements: Replacements[AnyStr], kind: str = "standard",
@@ -147,7 +163,36 @@ class Automaton(native.Searches[AnyStr], Generic[AnyStr]):
         """
         built = self._built
         stream = _stream.begun(built, number_of("kind", kind, native.KINDS))
-        return _stream.replace(stream, built.longest, reader, writer, built.replacement(replacements))
+        return _stream.replace(stream, built, reader, writer, replacements)
+
+    def mask_stream(self, reader: Any, writer: Any, star: Any = None) -> None:
+        """Writes what `reader` has to `writer`, with each character, or byte, that lies in an occurrence replaced by a star, as by `mask`.
+
+        Reader and writer are those of `replace_stream`. All that is decided is written before the next read: fewer bytes are kept
+        back than the longest pattern has, of `str` as UTF-8. Raises `Error` as `masker` does, and `BlockingIOError` where the reader or the writer doesn't wait.
+        """
+        _stream.mask(self.masker(star), self._built, reader, writer)
+
+    def mask_words_stream(self, reader: Any, writer: Any, star: Any = None) -> None:
+        """The same of the whole words alone, as by `mask_words`. Raises what `mask_words` does, and `BlockingIOError`."""
+        _stream.mask(self.word_masker(star), self._built, reader, writer)
+
+    def masker(self, star: Any = None) -> "Masker[AnyStr]":
+        """Begins a text that comes in pieces and is masked: `push` takes one, and `finish` ends the text; each returns masked text.
+
+        The star is that of `mask`. Raises `Error` for an automaton of a leftmost kind, for one that was built for anchored searches alone,
+        and where a pattern is empty.
+        """
+        return _masks.begun(self._built, star, None)
+
+    def word_masker(self, star: Any = None) -> "Masker[AnyStr]":
+        """Begins a text that comes in pieces, as `masker` does, of which the whole words are masked, as by `mask_words`.
+
+        Raises what `mask_words` does.
+        """
+        held: Automaton[AnyStr] = Automaton.__new__(Automaton)  # `__init__` may be called again on this one
+        held._built = self._built
+        return _masks.begun(self._built, star, held.mask_words)
 
     def stream(self) -> "_stream.Stream[AnyStr]":
         """Begins a text that comes in pieces: `push` takes one, and `finish` ends the text; each returns matches.
@@ -166,11 +211,15 @@ class Automaton(native.Searches[AnyStr], Generic[AnyStr]):
     def finditer_stream(self, reader: Any) -> Iterator[Match]:
         """The matches of what `reader` has, one after another, each as soon as it is decided: as `stream` gives them."""
         built = self._built
-        return _stream.found(_stream.begun(built), built.longest, reader)
+        return _stream.found(_stream.begun(built), built, reader)
 
     def find_words_stream(self, reader: Any, kind: str = "standard") -> Iterator[Match]:
         """The whole words of what `reader` has, one after another, each as soon as it is decided: as `word_stream` gives them."""
-        return _stream.found(self.word_stream(kind), self._built.longest, reader)
+        built = self._built
+        return _stream.found(_stream.begun(built, number_of("kind", kind, native.KINDS)), built, reader)
+
+
+_text_of = attrgetter("text")
 
 
 def _again(patterns: Tuple[Any, ...], settings: Dict[str, Any]) -> Automaton[Any]:

@@ -3,6 +3,8 @@
 An automaton of the library is freed with its `Owner`, and each call of the library holds the owner of what it searches by.
 """
 import sys
+from itertools import islice
+from operator import index
 from typing import Any, Callable, Dict, Iterable, List, Optional, Sequence, Tuple, Union, cast
 
 from . import _native as native
@@ -10,7 +12,8 @@ from ._characters import codes_of, encoded
 from ._mask import star_of
 from ._match import BuildError, Match
 from ._once import Once
-from ._replacements import one_each, owned
+from ._replacements import joined, one_each, owned
+from ._types import lends_bytes, wrong
 
 
 class Built(native.Core):
@@ -47,7 +50,7 @@ class Built(native.Core):
         engine = number_of("engine", settings["engine"], native.ENGINES)
         fold, prefilter, byte_classes = (bool(settings[name]) for name in ("fold", "prefilter", "byte_classes"))
         depth, memory = (_size(name, settings[name]) for name in ("dense_depth", "row_memory"))
-        pairs = bytes(_byte(it, self.text) for pair in settings["pairs"] if _is_pair(pair) for it in pair)
+        pairs = _pairs(settings["pairs"], self.text)
         status, owner, count, pattern = native.build(
             tuple(patterns), kind, start_kind, engine, fold, prefilter, byte_classes, depth, memory, pairs)
         if status == native.NO_MEMORY:
@@ -69,18 +72,23 @@ class Built(native.Core):
         texts = self.texts(replacements)
         return lambda found: texts[found.pattern]
 
-    def replaced(self, text: Any, replacements: Any) -> Any:
-        """The text with each match replaced, one after another."""
+    def replaced(self, text: Any, replacements: Any, count: int, kind: Optional[str]) -> Any:
+        """The text with its matches replaced, one after another, or its whole words of a kind; with `count` the first of them alone."""
+        return self.replaced_and_counted(text, replacements, count, kind)[0]
+
+    def replaced_and_counted(self, text: Any, replacements: Any, count: int, kind: Optional[str] = None) -> Tuple[Any, int]:
+        """The same, and how many were replaced."""
         replacement = self.replacement(replacements)
-        return spliced(text, native.matches_after(self, text, False), replacement)
+        matches = native.matches_after(self, text, False) if kind is None else native.words_in(self, text, kind)
+        return spliced(text, islice(matches, count) if count else matches, replacement)
 
     def star_of(self, star: Any, text: bool) -> Union[str, int]:
         """What masks."""
         return star_of(star, text)
 
 
-def spliced(text: Any, matches: Iterable[Match], replacement: Callable[[Match], Any]) -> Any:
-    """The text with these matches replaced."""
+def spliced(text: Any, matches: Iterable[Match], replacement: Callable[[Match], Any]) -> Tuple[Any, int]:
+    """The text with these matches replaced, and how many they are."""
     if not isinstance(text, str):
         text = memoryview(text).cast("B")
     pieces: List[Any] = []
@@ -89,22 +97,26 @@ def spliced(text: Any, matches: Iterable[Match], replacement: Callable[[Match], 
         pieces += text[at:found.start], replacement(found)
         at = found.end
     pieces.append(text[at:])
-    return "".join(pieces) if isinstance(text, str) else b"".join(pieces)
+    return joined(pieces, "" if isinstance(text, str) else b""), len(pieces) // 2
 
 
 def _of_one_type(patterns: Iterable[Any]) -> Tuple[Optional[bool], Tuple[Any, ...]]:
     """Whether they are `str`, nothing where there is none; and the patterns, those that are bytes-like as `bytes`."""
     if isinstance(patterns, (str, bytes)):
-        raise TypeError("the patterns are one string; give a list of them")
-    given = tuple(patterns)
-    kinds = {isinstance(pattern, str) for pattern in given}
-    if len(kinds) > 1:
-        raise TypeError("the patterns are neither all str nor all bytes")
-    if not kinds:
+        raise TypeError("patterns is one string; give a list of them")
+    try:
+        given = tuple(patterns)
+    except TypeError:
+        if hasattr(patterns, "__iter__"):
+            raise
+        raise wrong("patterns", patterns, "a list of str or of bytes") from None
+    if not given:
         return None, ()
-    if kinds == {True}:
-        return True, given
-    return False, tuple(owned(pattern) for pattern in given)
+    is_text = isinstance(given[0], str)
+    for number, pattern in enumerate(given):
+        if isinstance(pattern, str) is not is_text or not is_text and not lends_bytes(pattern):
+            raise wrong(f"patterns[{number}]", pattern, f"{'str' if is_text else 'bytes'} as patterns[0] is" if number else "str or bytes")
+    return is_text, given if is_text else tuple(owned(pattern) for pattern in given)
 
 
 def _fault_text(status: int, count: int, pattern: int) -> str:
@@ -113,26 +125,64 @@ def _fault_text(status: int, count: int, pattern: int) -> str:
 
 
 def number_of(name: str, word: str, words: Sequence[str]) -> int:
+    if not isinstance(word, str):
+        raise wrong(name, word, f"one of {', '.join(words)}")
     if word not in words:
         raise ValueError(f"{name} is {word!r}, and not one of {', '.join(words)}")
     return words.index(word)
 
 
 def _size(name: str, value: Optional[int]) -> Optional[int]:
-    if value is not None and not 0 <= value <= 2 * sys.maxsize + 1:
-        raise ValueError(f"{name} is {value}")
+    if value is None:
+        return None
+    try:
+        value = index(value)
+    except TypeError:
+        raise wrong(name, value, "a number or None") from None
+    if not 0 <= value <= 2 * sys.maxsize + 1:
+        raise ValueError(f"{name} is {value}, and not a number from 0 to {2 * sys.maxsize + 1}")
     return value
 
 
-def _is_pair(pair: Sequence[Any]) -> bool:
-    if len(pair) != 2:
-        raise ValueError(f"a pair has two bytes, not {len(pair)}")
-    return True
+def paired(pairs: Iterable[Any]) -> Tuple[Tuple[Any, ...], ...]:
+    """The pairs as tuples."""
+    try:
+        return tuple(map(tuple, pairs))
+    except TypeError:
+        raise wrong("pairs", pairs, "a list of pairs") from None
 
 
-def _byte(it: Any, text: Optional[bool]) -> int:
+def limit_of(name: str, value: Any) -> int:
+    """How many there may be at most, and 0 for all."""
+    try:
+        limit = index(value)
+    except TypeError:
+        raise wrong(name, value, "a number") from None
+    if limit < 0:
+        raise ValueError(f"{name} is {limit}, and not how many there may be, or 0 for all")
+    return limit
+
+
+def _pairs(pairs: Sequence[Any], text: Optional[bool]) -> bytes:
+    """The bytes of all pairs."""
+    raw = bytearray()
+    for number, pair in enumerate(pairs):
+        if len(pair) != 2:
+            raise ValueError(f"pairs[{number}] has {len(pair)} members, and not two")
+        raw += bytes(_byte(f"pairs[{number}]", it, text) for it in pair)
+    return bytes(raw)
+
+
+def _byte(name: str, it: Any, text: Optional[bool]) -> int:
     """The byte of a pair: a number, or one byte or character. A character beyond ASCII has several bytes, so it can't be paired."""
-    value = ord(it) if isinstance(it, (str, bytes)) else int(it)
+    if isinstance(it, (str, bytes)):
+        if len(it) != 1:
+            raise ValueError(f"{name} has {it!r}, and not one byte or character")
+        value = ord(it)
+    elif isinstance(it, int):
+        value = it
+    else:
+        raise wrong(f"a member of {name}", it, "a byte, a character or a number")
     if not 0 <= value < (128 if text else 256):
-        raise ValueError(f"{it!r} can't be in a pair")
+        raise ValueError(f"{name} has {it!r}, which can't be in a pair")
     return value

@@ -15,6 +15,9 @@ MOST_BEYOND = 127
 ENCODING = ("utf-8", "surrogatepass")
 """Lone surrogates have bytes of their own, so that every `str` can be a pattern or be searched."""
 
+CONTINUED = bytes(range(0x80, 0xC0))
+"""The bytes of UTF-8 that don't begin a character."""
+
 
 def encoded(text: str) -> bytes:
     return text.encode(*ENCODING)

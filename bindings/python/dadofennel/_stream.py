@@ -11,15 +11,14 @@ from typing import Any, AnyStr, Callable, Generic, Iterator, List, NoReturn, Opt
 
 from . import _native as native
 from ._built import Built
-from ._characters import encoded
+from ._characters import CONTINUED, encoded
 from ._match import Match
+from ._replacements import joined
 from ._turns import Part, in_turn
+from ._types import described, fits, of_patterns, wrong
 
 LEAST_READ = 1 << 18
 """How much is asked for at once, at least: bytes, or characters."""
-
-CONTINUED = bytes(range(0x80, 0xC0))
-"""The bytes of UTF-8 that don't begin a character."""
 
 
 class Stream(Generic[AnyStr]):
@@ -58,10 +57,9 @@ class Stream(Generic[AnyStr]):
         Raises `Error` once the text was finished, and where more was pushed than places can be counted.
         """
         with self._lock:
-            if self._text is None:
-                self._text = isinstance(piece, str)
-            elif isinstance(piece, str) is not self._text:
-                raise TypeError("patterns of str search str, and patterns of bytes search bytes")
+            if not fits(piece, self._text):
+                raise wrong("piece", piece, of_patterns(self._text))
+            self._text = isinstance(piece, str)
             data = self._bytes_of(piece)
             length = len(data) if isinstance(data, bytes) else memoryview(data).nbytes
             found: List[Match] = []
@@ -137,9 +135,9 @@ def begun(built: Built, words: Optional[int] = None) -> Stream[Any]:
     return stream
 
 
-def found(stream: Stream[Any], longest: int, reader: Any) -> Iterator[Match]:
+def found(stream: Stream[Any], built: Built, reader: Any) -> Iterator[Match]:
     """The matches of what a reader has, each as soon as it is decided."""
-    return in_turn(_parts(stream, pieces(reader, max(LEAST_READ, 8 * longest))))
+    return in_turn(_parts(stream, pieces(reader, built)))
 
 
 def _parts(stream: Stream[Any], read: Iterator[Any]) -> Iterator[Part[Match]]:
@@ -148,84 +146,107 @@ def _parts(stream: Stream[Any], read: Iterator[Any]) -> Iterator[Part[Match]]:
         yield left, left
 
 
-def pieces(reader: Any, size: int) -> Iterator[Any]:
+def pieces(reader: Any, built: Built) -> Iterator[Any]:
     """What a reader has, and an empty piece at its end."""
-    read = getattr(reader, "read1", reader.read)
+    read = getattr(reader, "read1", None) or getattr(reader, "read", None)
+    if not callable(read):
+        raise TypeError(f"reader is {described(reader)}, and has no read")
+    return _read(read, max(LEAST_READ, 8 * built.longest), built.text)
+
+
+def _read(read: Callable[[int], Any], size: int, is_text: Optional[bool]) -> Iterator[Any]:
     piece: Any = True
     while piece:
         piece = read(size)
         if piece is None:
             raise BlockingIOError("the reader has nothing yet, and it doesn't wait")
+        if not fits(piece, is_text):
+            raise wrong("what the reader returned", piece, of_patterns(is_text))
         yield piece
 
 
-def replace(stream: Any, longest: int, reader: Any, writer: Any, replacement: Callable[[Any], Any]) -> int:
+def replace(stream: Any, built: Built, reader: Any, writer: Any, replacements: Any) -> int:
     """Writes what `reader` has to `writer` with its matches replaced, and returns how many there were.
 
-    All that is decided is written before the next read. `replacement` is given a match with places in the whole of what was read.
+    All that is decided is written before the next read. A caller's function is given a match with places in the whole of what was read,
+    which holds the part that has it.
     """
-    window, gone, done, matches = None, 0, 0, 0
-    for piece in pieces(reader, max(LEAST_READ, 8 * longest)):
+    replacement, holds = built.replacement(replacements), callable(replacements)
+    write, window, gone, done, matches = _write_of(writer), None, 0, 0, 0
+    for piece in pieces(reader, built):
         window = piece if window is None else window + piece
         found = stream.push(piece) if piece else stream.finish()
         parts: List[Any] = []
         for it in found:
-            parts += window[done - gone:it.start - gone], replacement(it)
+            parts += window[done - gone:it.start - gone], replacement(native.hold(it, window, gone) if holds else it)
             done = it.end
         if done < stream.cut:
             parts.append(window[done - gone:stream.cut - gone])
             done = stream.cut
         matches += len(found)
-        _write(writer, parts, type(window)())
+        write(joined(parts, type(window)()))
         window, gone = window[done - gone:], done
     return matches
 
 
-def replace_again(walked: Callable[[Any, bool], Iterator[Any]], leftmost: bool, longest: int, reader: Any, writer: Any,
-                  replacement: Callable[[Any], Any]) -> int:
+def mask(masker: Any, built: Built, reader: Any, writer: Any) -> None:
+    """Writes what `reader` has to `writer`, masked. All that is decided is written before the next read."""
+    write = _write_of(writer)
+    for piece in pieces(reader, built):
+        write(masker.push(piece) if piece else masker.finish())
+
+
+def replace_again(built: Built, reader: Any, writer: Any, replacements: Any) -> int:
     """The same by a walk over what was read, for patterns of which one is empty.
 
-    `walked(text, again)` gives the matches of a text; `again` says that a match ended where it starts. Under a leftmost kind a match
-    is replaced once as much was read after its start as the longest pattern has. At most so much is kept from one read to the next,
-    and searched again.
+    Under a leftmost kind a match is replaced once as much was read after its start as the longest pattern has. At most so much is kept
+    from one read to the next, and searched again. A walk is told whether a match ended where it starts.
     """
-    held, gone, again, matches = None, 0, False, 0
-    for piece in pieces(reader, max(LEAST_READ, 8 * longest)):
+    replacement = built.replacement(replacements)
+    write, held, gone, again, matches = _write_of(writer), None, 0, False, 0
+    for piece in pieces(reader, built):
         over = not piece
         window = piece if held is None else held + piece
-        parts, at, undecided, found = _settled(window, walked(window, again), leftmost and not over, longest, gone, replacement)
+        walked = native.matches_after(built, window, again)
+        settles = len(window) + 1 if over or built.kind == "standard" else len(window) - built.longest
+        parts, at, undecided, found = _settled(window, walked, settles, gone, replacement)
         matches += found
-        keep = len(window) if over else max(at, min(undecided, len(window) - longest + 1))
+        keep = len(window) if over else max(at, min(undecided, len(window) - built.longest + 1))
         if keep > at:
             parts.append(window[at:keep])
         again = keep == at if found else again and keep == 0
-        _write(writer, parts, type(window)())
+        write(joined(parts, type(window)()))
         held, gone = window[keep:], gone + keep
     return matches
 
 
-def _settled(window: Any, matches: Iterator[Any], leftmost: bool, longest: int, gone: int,
-             replacement: Callable[[Any], Any]) -> Tuple[List[Any], int, int, int]:
+def _settled(window: Any, matches: Iterator[Any], settles: int, gone: int, replacement: Callable[[Any], Any]
+             ) -> Tuple[List[Any], int, int, int]:
     """What stands for the window up to the end of its last settled match; that place; where a match is that isn't settled, or the
-    window's end; and how many were settled."""
+    window's end; and how many were settled. One is where it starts no further than at `settles`."""
     parts: List[Any] = []
     at = count = 0
     for found in matches:
-        if leftmost and found.start + longest > len(window):
+        if found.start > settles:
             return parts, at, found.start, count
         moved = found._replace(start=found.start + gone, end=found.end + gone)
-        parts += window[at:found.start], replacement(moved)
+        parts += window[at:found.start], replacement(native.hold(moved, window, gone))
         at, count = found.end, count + 1
     return parts, at, len(window), count
 
 
-def _write(writer: Any, parts: List[Any], empty: Any) -> None:
-    """All of it in one call, or as many as a writer needs that takes a part of what it is given."""
-    text = empty.join(parts)
-    while text:
-        taken = writer.write(text)
-        if taken is None and isinstance(writer, io.RawIOBase):
-            raise BlockingIOError("the writer takes nothing yet, and it doesn't wait")
-        if taken is None or isinstance(text, str) or taken >= len(text):
-            return
-        text = text[taken:]
+def _write_of(writer: Any) -> Callable[[Any], None]:
+    """What writes all of a text: in one call, or as many as a writer needs that takes a part of what it is given."""
+    if not callable(getattr(writer, "write", None)):
+        raise TypeError(f"writer is {described(writer)}, and has no write")
+
+    def write(text: Any) -> None:
+        while text:
+            taken = writer.write(text)
+            if taken is None and isinstance(writer, io.RawIOBase):
+                raise BlockingIOError("the writer takes nothing yet, and it doesn't wait")
+            if taken is None or isinstance(text, str) or taken >= len(text):
+                return
+            text = text[taken:]
+
+    return write

@@ -10,11 +10,14 @@
 
 What differs: the words of an automaton are `str` or `bytes`, as its first word is. `iter_long` gives the leftmost-longest
 matches, also where version 1.4.1 of pyahocorasick loses one. A start or end of `iter` past the text is its end. Sequences of
-integers as words (`KEY_SEQUENCE`), `dump`, `save` and `load` are left out; `pickle` serves.
+integers as words (`KEY_SEQUENCE`) are left out. The file that `save` writes has a format of its own: `load` refuses one of pyahocorasick,
+and says so. `dump` numbers nodes from 0, and gives whole characters.
 
 Threads may share an automaton, as that of pyahocorasick, whose calls keep the interpreter's lock. Here a search lets go of it; so a
 search holds what it searches by, and a change of the words ends it.
 """
+import os
+import sys
 from copy import copy
 from itertools import count, takewhile
 from operator import length_hint
@@ -22,6 +25,7 @@ from threading import RLock
 from typing import Any, Callable, Dict, Iterator, List, Optional, Sequence, Tuple, Union
 
 from . import _native as native
+from . import _saved
 from ._automaton import Automaton as _Automaton
 from ._once import Once
 from ._trie import Trie, at_least, at_most, exactly
@@ -219,7 +223,7 @@ class Automaton:
     def match(self, word: Word) -> bool:
         """Whether some word begins with this one."""
         with self._lock:
-            return self.kind != EMPTY and self._whole_trie().node(self._word(word)) is not None
+            return self.kind != EMPTY and self._whole_trie().has(self._word(word))
 
     def longest_prefix(self, word: Word) -> int:
         """The length of the longest beginning of it that some word begins with."""
@@ -228,7 +232,7 @@ class Automaton:
 
     def _whole_trie(self) -> Trie:
         if self._trie is None:
-            self._trie = Trie(self._values)
+            self._trie = Trie(list(self._values))
         return self._trie
 
     def keys(self, prefix: Word = _missing, wildcard: Word = _missing, how: int = _missing, /) -> Iterator[Word]:
@@ -310,9 +314,69 @@ class Automaton:
                 "links_count": max(nodes - 1, 0), "sizeof_node": total // nodes if nodes else 0, "total_size": total,
             }
 
+    def dump(self) -> Optional[Tuple[List[Tuple[int, int]], List[Tuple[int, Any, int]], List[Tuple[int, int]]]]:
+        """The tree of the words, and `None` where there is none: its nodes, its edges, and after `make_automaton` the links that a search
+        goes where no edge leads on.
+
+        Nodes are numbers with 1 where a word ends, and else 0; node 0 has the empty beginning. An edge has two nodes, and between them the
+        character of a `str`, or a `bytes` of one byte. A link leads from a node to that of the longest end of its beginning.
+        """
+        with self._lock:
+            if not self._values:
+                return None
+            nodes, links = list(self._whole_trie().graph()), self.kind == AHOCORASICK
+        numbers = {way: number for number, (way, _, _) in enumerate(nodes)}
+        edges = [(number, it, numbers[way + it]) for number, (way, _, further) in enumerate(nodes) for it in further]
+        ends = [(number, int(is_word)) for number, (_, is_word, _) in enumerate(nodes)]
+        return ends, edges, [(number, _link(way, numbers)) for way, number in numbers.items() if number] if links else []
+
+    def save(self, *where: Any) -> None:
+        """Writes the words and values to a file: `save(path, serializer)` with `STORE_ANY`, and `save(path)` otherwise.
+
+        `serializer` makes `bytes` of a value, as `pickle.dumps` does. `load` reads the file. Raises `OSError` as `open` does.
+        """
+        if len(where) != (2 if self.store == STORE_ANY else 1):
+            raise ValueError(f"expected exactly {'two arguments' if self.store == STORE_ANY else 'one argument'}")
+        path, serializer = (*where, bytes)[:2]
+        _check_arguments(path, serializer)
+        with self._lock:
+            items, kind, type_of_words = list(self._values.items()), self.kind, self._type if self._values else None
+        _saved.save(path, self.store, kind, type_of_words, items, serializer)
+
+    def __sizeof__(self) -> int:
+        """About how many bytes it takes, the words included, and the values not."""
+        with self._lock:
+            made = self._made.every.memory if self._made is not None else 0
+            return object.__sizeof__(self) + sys.getsizeof(self._values) + sum(map(sys.getsizeof, self._values)) + made
+
     def __reduce__(self) -> Any:
         with self._lock:
             return _again, (self.store, list(self._values.items()), self.kind)
+
+
+def load(*where: Any) -> Automaton:
+    """The automaton that `save` has written to a file: `load(path, deserializer)`.
+
+    `deserializer` makes a value of `bytes`, as `pickle.loads` does; it is called with `STORE_ANY` alone. Raises `ValueError` where the
+    file is none of `save`, was cut short or changed, or is one of pyahocorasick; and `OSError` as `open` does.
+    """
+    if len(where) != 2:
+        raise ValueError("expected exactly two arguments")
+    _check_arguments(*where)
+    store, kind, items = _saved.load(*where)
+    return _again(store, items, kind)
+
+
+def _check_arguments(path: Any, call: Any) -> None:
+    if not isinstance(path, (str, os.PathLike)):
+        raise TypeError("the first argument must be a string, or a path")
+    if not callable(call):
+        raise TypeError("the second argument must be a callable object")
+
+
+def _link(way: Any, numbers: Dict[Any, int]) -> int:
+    """The node of the longest end of a way that is one."""
+    return next(numbers[way[at:]] for at in range(1, len(way) + 1) if way[at:] in numbers)
 
 
 def _again(store: int, items: List[Tuple[Word, Any]], kind: int) -> Automaton:

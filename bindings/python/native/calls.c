@@ -52,7 +52,7 @@ static PyObject *automaton_find(PyObject *self, PyObject *const *args, Py_ssize_
     if ((anchored = is_true(given[3])) < 0 || (earliest = is_true(given[4])) < 0) return NULL;
     status = found_in(self, given, anchored, earliest, &found);
     if (status == DADO_NONE) Py_RETURN_NONE;
-    return status < 0 ? NULL : match_of(&found, 0);
+    return status < 0 ? NULL : match_of(&found, 0, given[0]);
 }
 
 static PyObject *automaton_is_match(PyObject *self, PyObject *const *args, Py_ssize_t count, PyObject *names) {
@@ -100,8 +100,9 @@ static PyObject *matches_in(Core *core, PyObject *source, PyObject *start, PyObj
         release(&text);
         return NULL;
     }
-    if (!is_all || asked->as_lists) return walk_new(&text, source, near, &going, few, count, is_all, asked->as_lists);
-    made = found_new(few, count, text.shift);
+    if (!is_all || asked->as_lists || (count != 0 && !is_plain(source)))
+        return walk_new(&text, source, near, &going, few, count, is_all, asked->as_lists);
+    made = found_new(few, count, text.shift, source);
     release(&text);
     return made;
 }
@@ -130,13 +131,14 @@ static PyObject *overlapping(PyObject *self, PyObject *const *args, Py_ssize_t c
     return made;
 }
 
-/* The number of a kind; -1 with an exception. */
-static int kind_of(PyObject *word) {
+int kind_of(PyObject *word) {
     if (word == NULL) return DADO_STANDARD;
     if (PyUnicode_Check(word)) {
         if (PyUnicode_CompareWithASCIIString(word, "standard") == 0) return DADO_STANDARD;
         if (PyUnicode_CompareWithASCIIString(word, "leftmost-first") == 0) return DADO_LEFTMOST_FIRST;
         if (PyUnicode_CompareWithASCIIString(word, "leftmost-longest") == 0) return DADO_LEFTMOST_LONGEST;
+    } else {
+        return wrong_type("kind", word, "one of standard, leftmost-first, leftmost-longest");
     }
     PyErr_Format(PyExc_ValueError, "kind is %R, and not one of standard, leftmost-first, leftmost-longest", word);
     return -1;
@@ -201,11 +203,11 @@ static PyObject *words_in(PyObject *module, PyObject *args) {
 
 /* ---- Many texts ---- */
 
-static PyObject *list_of_few(const dado_match *few, size_t count, size_t shift) {
+static PyObject *list_of_few(const dado_match *few, size_t count, size_t shift, PyObject *source) {
     PyObject *list = PyList_New((Py_ssize_t)count);
     size_t i;
     for (i = 0; list != NULL && i < count; i++) {
-        PyObject *match = match_of(&few[i], shift);
+        PyObject *match = match_of(&few[i], shift, source);
         if (match == NULL) Py_CLEAR(list);
         else PyList_SetItem(list, (Py_ssize_t)i, match);
     }
@@ -229,7 +231,7 @@ static PyObject *found_each(Core *core, PyObject *source) {
     if (!failed && !is_all) walk = walk_new(&text, source, near, &going, few, count, 0, 0);
     else release(&text);
     if (walk != NULL) list = PySequence_List(walk);
-    else if (!failed && is_all) list = list_of_few(few, count, text.shift);
+    else if (!failed && is_all) list = list_of_few(few, count, text.shift, source);
     Py_XDECREF(walk);
     return list;
 }
@@ -248,11 +250,22 @@ static PyObject *is_match_each(Core *core, PyObject *text) {
     return status > DADO_NONE ? NULL : PyBool_FromLong(status == DADO_OK);
 }
 
+/* Says which of the texts isn't one, where that is what was raised. */
+static void name_text(const Core *core, PyObject *text, Py_ssize_t at) {
+    char name[40];
+    if (!PyErr_ExceptionMatches(PyExc_TypeError)) return;
+    PyErr_Clear();
+    PyOS_snprintf(name, sizeof name, "texts[%zd]", at);
+    misfits(core, text, name);
+}
+
 /* A list of what `of` gives for each text. */
 static PyObject *list_of(Core *core, PyObject *texts, PyObject *(*of)(Core *, PyObject *)) {
     PyObject *each = PyObject_GetIter(texts), *list = each == NULL ? NULL : PyList_New(0), *text;
+    if (each == NULL && PyErr_ExceptionMatches(PyExc_TypeError)) PyErr_Clear(), wrong_type("texts", texts, "a list of texts");
     while (list != NULL && (text = PyIter_Next(each)) != NULL) {
         PyObject *one = of(core, text);
+        if (one == NULL) name_text(core, text, PyList_Size(list));
         if (one == NULL || PyList_Append(list, one) < 0) Py_CLEAR(list);
         Py_XDECREF(one);
         Py_DECREF(text);
@@ -266,7 +279,7 @@ static PyObject *for_each(PyObject *self, PyObject *texts, PyObject *(*of)(Core 
     PyObject *list = NULL;
     Core *core;
     if (PyUnicode_Check(texts) || PyBytes_Check(texts)) {
-        PyErr_SetString(PyExc_TypeError, "the texts are one string; give a list of them");
+        PyErr_SetString(PyExc_TypeError, "texts is one string; give a list of them");
         return NULL;
     }
     core = core_of(self);
@@ -306,6 +319,7 @@ static PyMethodDef methods[] = {
     METHOD("find_words", find_words, FIND_WORDS_DOC),
     METHOD("overlapping_words", overlapping_words, OVERLAPPING_WORDS_DOC),
     METHOD("replace", automaton_replace, REPLACE_DOC),
+    METHOD("replace_words", automaton_replace_words, REPLACE_WORDS_DOC),
     METHOD("mask", automaton_mask, MASK_DOC),
     METHOD("mask_in_place", automaton_mask_in_place, MASK_IN_PLACE_DOC),
     METHOD("mask_words", automaton_mask_words, MASK_WORDS_DOC),
@@ -334,9 +348,6 @@ static int set_built(PyObject *self, PyObject *core, void *unused) {
     Py_XDECREF(before);
     return 0;
 }
-
-/* Whether a type of `PyType_FromSpec` that others are derived from has to visit the type of its instances: from 3.9 on. */
-static int visits_type;
 
 static int searches_visit(PyObject *self, visitproc visit, void *arg) {
     if (visits_type) Py_VISIT(Py_TYPE(self));
@@ -371,9 +382,8 @@ static PyMethodDef functions[] = {
 };
 
 int calls_ready(PyObject *module) {
-    PyObject *type = PyType_FromSpec(&spec), *version = PySys_GetObject("hexversion");
+    PyObject *type = PyType_FromSpec(&spec);
     size_t i;
-    visits_type = version != NULL && PyLong_AsLong(version) >= 0x03090000;
     if (type == NULL || PyModule_AddObject(module, "Searches", type) < 0) return -1;
     for (i = 0; i < sizeof functions / sizeof functions[0]; i++) {
         PyObject *function = PyCFunction_NewEx(&functions[i], NULL, NULL);

@@ -143,13 +143,15 @@ static int slices_of(Slices *it, Core *core, PyObject *replacements, int is_long
 
 /* ---- Replacing ---- */
 
-/* The text with its matches replaced: of UTF-8, or of bytes. */
-static PyObject *replaced(const Core *core, const Haystack *text, const Slices *slices, int is_text) {
+/* The text with its matches replaced, or with its whole words under a kind: of UTF-8, or of bytes. */
+static PyObject *replaced(const Core *core, const Haystack *text, const Slices *slices, int is_text, const uint32_t *words) {
+    const dado_automaton *ac = core->plain->handle;
     dado_text made = DADO_NO_TEXT;
     dado_status status;
     const char *at;
     PyObject *result = NULL;
-    UNLOCKED(text->len, status = dado_replace(core->plain->handle, text->at, text->len, slices->at, slices->count, &made));
+    UNLOCKED(text->len, status = words ? dado_replace_words(ac, *words, text->at, text->len, slices->at, slices->count, &made)
+                                       : dado_replace(ac, text->at, text->len, slices->at, slices->count, &made));
     at = made.len ? (const char *)made.at : "";
     if (status != DADO_OK) refuse(status);
     else if (is_text) result = PyUnicode_DecodeUTF8(at, (Py_ssize_t)made.len, "surrogatepass");
@@ -158,13 +160,13 @@ static PyObject *replaced(const Core *core, const Haystack *text, const Slices *
     return result;
 }
 
-static PyObject *replaced_by(Core *core, PyObject *source, PyObject *replacements) {
+static PyObject *replaced_by(Core *core, PyObject *source, PyObject *replacements, const uint32_t *words) {
     Haystack text;
     Slices slices;
     PyObject *result = NULL;
     if (haystack_of(&text, core, source, NULL, NULL, EXACT, NULL) < 0) return NULL;
     if (slices_of(&slices, core, replacements, text.len > SHORT) == 0) {
-        result = replaced(core, &text, &slices, PyUnicode_Check(source));
+        result = replaced(core, &text, &slices, PyUnicode_Check(source), words);
         let_go(&slices);
     }
     release(&text);
@@ -179,23 +181,53 @@ static int is_of_python(const Core *core, PyObject *text, PyObject *replacements
     return characters_of(text, &of) < 0 ? -1 : !of.is_ascii;
 }
 
-PyObject *automaton_replace(PyObject *self, PyObject *const *args, Py_ssize_t count, PyObject *names) {
-    static const Signature signature = {"replace", {"text", "replacements"}, 2, 2, 2};
-    PyObject *given[2], *result = NULL;
+/* How many matches are replaced at most: 0 for all of them. -1 with an exception. */
+static Py_ssize_t limit_of(PyObject *count) {
+    Py_ssize_t limit;
+    if (count == NULL) return 0;
+    if (!PyIndex_Check(count)) return wrong_type("count", count, "a number");
+    limit = PyNumber_AsSsize_t(count, NULL);
+    if (limit == -1 && PyErr_Occurred()) return -1;
+    if (limit >= 0) return limit;
+    PyErr_Format(PyExc_ValueError, "count is %zd, and not how many are replaced at most, or 0 for all", limit);
+    return -1;
+}
+
+/* The text with its matches replaced, or its words of a kind, by the library or by Python. */
+static PyObject *replace(PyObject *self, PyObject *const *given, PyObject *count, PyObject *kind, const uint32_t *words) {
     Core *core;
+    Py_ssize_t limit = limit_of(count);
+    PyObject *result = NULL;
     int python;
-    if (arguments_of(&signature, args, count, names, given) < 0 || (core = core_of(self)) == NULL) return NULL;
-    python = is_of_python(core, given[0], given[1]);
-    if (python > 0) result = PyObject_CallMethod((PyObject *)core, "replaced", "OO", given[0], given[1]);
-    else if (python == 0) result = replaced_by(core, given[0], given[1]);
+    if (limit < 0 || (core = core_of(self)) == NULL) return NULL;
+    python = fits(core, given[0], "text") < 0 ? -1 : limit > 0 ? 1 : is_of_python(core, given[0], given[1]);
+    if (python > 0) result = PyObject_CallMethod((PyObject *)core, "replaced", "OOnO", given[0], given[1], limit, kind);
+    else if (python == 0) result = replaced_by(core, given[0], given[1], words);
     Py_DECREF(core);
     return result;
 }
 
-/* ---- Masks ---- */
+PyObject *automaton_replace(PyObject *self, PyObject *const *args, Py_ssize_t count, PyObject *names) {
+    static const Signature signature = {"replace", {"text", "replacements", "count"}, 3, 3, 2};
+    PyObject *given[3];
+    return arguments_of(&signature, args, count, names, given) < 0 ? NULL : replace(self, given, given[2], Py_None, NULL);
+}
 
-/* A byte that UTF-8 doesn't have. */
-enum { COVERED = 0xFF };
+PyObject *automaton_replace_words(PyObject *self, PyObject *const *args, Py_ssize_t count, PyObject *names) {
+    static const Signature signature = {"replace_words", {"text", "replacements", "kind", "count"}, 4, 4, 2};
+    PyObject *given[4], *kind, *result;
+    uint32_t number;
+    int found;
+    if (arguments_of(&signature, args, count, names, given) < 0 || (found = kind_of(given[2])) < 0) return NULL;
+    number = (uint32_t)found;
+    kind = given[2] != NULL ? given[2] : PyUnicode_FromString("standard");
+    if (kind == NULL) return NULL;
+    result = replace(self, given, given[3], kind, &number);
+    if (given[2] == NULL) Py_DECREF(kind);
+    return result;
+}
+
+/* ---- Masks ---- */
 
 static dado_status masked(const Core *core, uint8_t *at, size_t len, uint8_t star, int words) {
     const dado_automaton *ac = core->plain->handle;
@@ -253,6 +285,17 @@ static PyObject *with_stars(const char *plain, const char *covered, size_t len, 
     return made;
 }
 
+/* The same of two objects of bytes. */
+PyObject *starred(PyObject *module, PyObject *args) {
+    const char *plain, *covered, *star;
+    Py_ssize_t len, length, width;
+    (void)module;
+    if (!PyArg_ParseTuple(args, "y#y#y#", &plain, &len, &covered, &length, &star, &width)) return NULL;
+    if (len == length) return with_stars(plain, covered, (size_t)len, star, (size_t)width);
+    PyErr_SetString(PyExc_ValueError, "the text and what is masked of it have different lengths");
+    return NULL;
+}
+
 static PyObject *masked_text(Core *core, PyObject *source, PyObject *star_given, int words) {
     char star[8];
     int width = star_of(core, star_given, star), plain;
@@ -297,11 +340,17 @@ static PyObject *own_bytes(PyObject *source) {
     return made;
 }
 
+/* Says that a text lends no bytes, where that is what was raised. */
+static PyObject *lends_none(const Core *core, PyObject *source) {
+    if (PyErr_ExceptionMatches(PyExc_TypeError)) PyErr_Clear(), misfits(core, source, "text");
+    return NULL;
+}
+
 static PyObject *masked_bytes(Core *core, PyObject *source, PyObject *star_given, int words) {
     int star = byte_of(core, star_given);
     PyObject *made = star < 0 ? NULL : own_bytes(source);
     dado_status status;
-    if (made == NULL) return NULL;
+    if (made == NULL) return star < 0 ? NULL : lends_none(core, source);
     status = masked(core, (uint8_t *)PyBytes_AsString(made), (size_t)PyBytes_Size(made), (uint8_t)star, words);
     if (status == DADO_OK) return made;
     Py_DECREF(made);
@@ -313,16 +362,22 @@ static PyObject *mask(PyObject *self, const Signature *signature, PyObject *cons
     PyObject *given[2], *made = NULL;
     Core *core;
     if (arguments_of(signature, args, count, names, given) < 0 || (core = core_of(self)) == NULL) return NULL;
-    if (fits(core, given[0]) == 0)
+    if (fits(core, given[0], "text") == 0)
         made = (PyUnicode_Check(given[0]) ? masked_text : masked_bytes)(core, given[0], given[1], words);
     Py_DECREF(core);
     return made;
 }
 
+/* Says what is wrong with a buffer that isn't lent, or can't be written. */
+static int not_lent(PyObject *source) {
+    if (PyErr_ExceptionMatches(PyExc_TypeError)) PyErr_Clear(), wrong_type("buffer", source, "bytes that can be written");
+    return -1;
+}
+
 static int mask_lent(Core *core, PyObject *source, int star, int words) {
     Py_buffer lent;
     dado_status status;
-    if (PyObject_GetBuffer(source, &lent, PyBUF_WRITABLE) < 0) return -1;
+    if (PyObject_GetBuffer(source, &lent, PyBUF_WRITABLE) < 0) return not_lent(source);
     status = masked(core, lent.buf, (size_t)lent.len, (uint8_t)star, words);
     PyBuffer_Release(&lent);
     return status == DADO_OK ? 0 : refuse(status);
@@ -334,7 +389,8 @@ static PyObject *mask_lying(PyObject *self, const Signature *signature, PyObject
     Core *core;
     int star, done = -1;
     if (arguments_of(signature, args, count, names, given) < 0 || (core = core_of(self)) == NULL) return NULL;
-    if (fits(core, given[0]) == 0 && (star = byte_of(core, given[1])) >= 0) done = mask_lent(core, given[0], star, words);
+    if (core->text == 1) PyErr_Format(PyExc_TypeError, "%s() is for patterns of bytes, and these are str", signature->call);
+    else if ((star = byte_of(core, given[1])) >= 0) done = mask_lent(core, given[0], star, words);
     Py_DECREF(core);
     if (done < 0) return NULL;
     Py_RETURN_NONE;

@@ -54,13 +54,20 @@
     "match. It takes and raises what `find_each` does."
 
 #define REPLACE_DOC                                                                                                                     \
-    "replace($self, text, replacements)\n--\n\n"                                                                                        \
-    "The text with each match of `finditer` replaced.\n\n"                                                                              \
+    "replace($self, text, replacements, count=0)\n--\n\n"                                                                               \
+    "The text with each match of `finditer` replaced; with `count` the first `count` of them alone.\n\n"                                \
     "`replacements` is a list with one for each pattern, in their order; or a mapping of each pattern, as it was given, to its\n"       \
     "replacement; or one for all patterns; or a function of the `Match` that returns one. The result is `str` or `bytes`, as the\n"     \
     "patterns are. Raises `Error` for an automaton that was built for anchored searches alone; `ValueError` where a list has\n"         \
-    "another length, or where a mapping lacks a pattern or has a key that is none; and `TypeError` where the replacements are\n"        \
-    "of another type than the patterns, or are nothing of these, as a set."
+    "another length, where a mapping lacks a pattern or has a key that is none, or where `count` is negative; and `TypeError` where\n"  \
+    "the replacements are of another type than the patterns, or are nothing of these, as a set."
+
+#define REPLACE_WORDS_DOC                                                                                                               \
+    "replace_words($self, text, replacements, kind='standard', count=0)\n--\n\n"                                                       \
+    "The text with each word of `find_words` replaced: the whole words under `kind`, one after another; with `count` the first\n"       \
+    "`count` of them alone.\n\n"                                                                                                       \
+    "`replacements` are what `replace` takes, and the result is `str` or `bytes`, as the patterns are. Raises what `find_words`\n"      \
+    "raises, and for replacements and `count` what `replace` does."
 
 #define MASK_DOC                                                                                                                        \
     "mask($self, text, star=None)\n--\n\n"                                                                                              \

@@ -1,49 +1,8 @@
 /* The module, what it raises, and the arguments of its calls. */
 #include "native.h"
 
-PyObject *match_type, *error_type;
-
-/* Makes the memory of a new `Match`: that of its type. */
-static allocfunc match_memory;
-/* `tuple.__new__`, which makes a `Match` where that memory wouldn't do. */
-static PyObject *tuple_new;
-
-static PyObject *number(size_t it) { return it <= LONG_MAX ? PyLong_FromLong((long)it) : PyLong_FromSize_t(it); }
-
-/* The numbers of a match, in a tuple that nothing else has seen. */
-static int set_numbers(PyObject *tuple, const dado_match *it, size_t shift) {
-    PyObject *pattern = number(it->pattern), *start = number(it->start + shift), *end = number(it->end + shift);
-    if (pattern == NULL || start == NULL || end == NULL) {
-        Py_XDECREF(pattern), Py_XDECREF(start), Py_XDECREF(end);
-        return -1;
-    }
-    PyTuple_SetItem(tuple, 0, pattern), PyTuple_SetItem(tuple, 1, start), PyTuple_SetItem(tuple, 2, end);
-    return 0;
-}
-
-/* A `Match` by the memory that its type makes, as `tuple.__new__` does it for a type of its own. It has numbers alone, so nothing leads
- * back to it, and the collector needn't look at it. */
-static PyObject *match_at_once(const dado_match *it, size_t shift) {
-    PyObject *made = match_memory((PyTypeObject *)match_type, 3);
-    if (made == NULL) return NULL;
-    if (set_numbers(made, it, shift) < 0) {
-        Py_DECREF(made);
-        return NULL;
-    }
-    PyObject_GC_UnTrack(made);
-    return made;
-}
-
-static PyObject *match_by_call(const dado_match *it, size_t shift) {
-    PyObject *made = NULL, *plain = PyTuple_New(3);
-    if (plain != NULL && set_numbers(plain, it, shift) == 0) made = PyObject_CallFunctionObjArgs(tuple_new, match_type, plain, NULL);
-    Py_XDECREF(plain);
-    return made;
-}
-
-PyObject *match_of(const dado_match *it, size_t shift) {
-    return match_memory != NULL ? match_at_once(it, shift) : match_by_call(it, shift);
-}
+PyObject *error_type;
+int visits_type;
 
 int refuse(dado_status status) {
     PyObject *given;
@@ -54,6 +13,14 @@ int refuse(dado_status status) {
     given = PyLong_FromUnsignedLong(status);
     if (given != NULL) PyErr_SetObject(error_type, given);
     Py_XDECREF(given);
+    return -1;
+}
+
+int wrong_type(const char *name, PyObject *it, const char *wanted) {
+    PyObject *type = PyObject_GetAttrString((PyObject *)Py_TYPE(it), "__name__");
+    if (it == Py_None) PyErr_Format(PyExc_TypeError, "%s is None, and not %s", name, wanted);
+    else if (type != NULL) PyErr_Format(PyExc_TypeError, "%s is of type %U, and not %s", name, type, wanted);
+    Py_XDECREF(type);
     return -1;
 }
 
@@ -109,34 +76,15 @@ int arguments_of(const Signature *it, PyObject *const *given, Py_ssize_t count, 
     return check_count(it, count, out);
 }
 
-/* Takes the memory of a `Match` at once, if a match that is made so is as one that a call makes. From CPython 3.14 on a tuple keeps its
- * hash, which a type's memory alone doesn't begin. */
-static int choose_memory(void) {
-    static const dado_match sample = {1000, 2000, 3};
-    PyObject *called = match_by_call(&sample, 0), *made = NULL;
-    int same = 0;
-    match_memory = (allocfunc)PyType_GetSlot((PyTypeObject *)match_type, Py_tp_alloc);
-    if (called != NULL && match_memory != NULL) made = match_at_once(&sample, 0);
-    if (made != NULL) {
-        same = PyObject_RichCompareBool(called, made, Py_EQ);
-        if (same == 1) same = PyObject_Hash(called) == PyObject_Hash(made);
-    }
-    Py_XDECREF(called), Py_XDECREF(made);
-    if (same != 1) match_memory = NULL;
-    return PyErr_Occurred() ? -1 : 0;
-}
-
-/* Takes the types that the calls make: `Match`, a tuple of three, and `Error`. */
+/* Takes the types that the calls make: `Match` and `Error`. */
 static PyObject *use(PyObject *module, PyObject *types) {
     PyObject *match, *error;
     (void)module;
     if (!PyArg_ParseTuple(types, "OO", &match, &error)) return NULL;
-    Py_INCREF(match), Py_INCREF(error);
-    Py_XDECREF(match_type), Py_XDECREF(error_type);
-    match_type = match, error_type = error;
-    Py_XDECREF(tuple_new);
-    tuple_new = PyObject_GetAttrString((PyObject *)&PyTuple_Type, "__new__");
-    if (tuple_new == NULL || choose_memory() < 0) return NULL;
+    if (take_match_type(match) < 0) return NULL;
+    Py_INCREF(error);
+    Py_XDECREF(error_type);
+    error_type = error;
     Py_RETURN_NONE;
 }
 
@@ -193,7 +141,8 @@ static const struct {
     const char *name;
     long value;
 } constants[] = {
-    {"OK", DADO_OK}, {"NO_MEMORY", DADO_NO_MEMORY}, {"PATTERN_TOO_LONG", DADO_PATTERN_TOO_LONG}, {"SHORT", SHORT},
+    {"OK", DADO_OK}, {"NO_MEMORY", DADO_NO_MEMORY}, {"PATTERN_TOO_LONG", DADO_PATTERN_TOO_LONG}, {"FINISHED", DADO_FINISHED},
+    {"SHORT", SHORT},
 };
 
 /* The words for kinds and engines, each at the place of its number in the header. */
@@ -219,14 +168,17 @@ static int add_words(PyObject *module, const char *name, const char *const *word
 }
 
 static int add_all(PyObject *module) {
+    PyObject *version = PySys_GetObject("hexversion");
     size_t i;
+    visits_type = version != NULL && PyLong_AsLong(version) >= 0x03090000;
     for (i = 0; i < sizeof constants / sizeof constants[0]; i++)
         if (PyModule_AddIntConstant(module, constants[i].name, constants[i].value) < 0) return -1;
     if (add_words(module, "KINDS", kinds, 3) < 0 || add_words(module, "START_KINDS", start_kinds, 3) < 0 ||
         add_words(module, "ENGINES", engines, 4) < 0)
         return -1;
-    if (texts_ready() < 0 || owners_ready(module) < 0 || walks_ready(module) < 0) return -1;
-    return calls_ready(module) < 0 || pairs_ready(module) < 0 || pieces_ready(module) < 0 ? -1 : 0;
+    if (texts_ready() < 0 || matches_ready(module) < 0 || owners_ready(module) < 0 || walks_ready(module) < 0) return -1;
+    if (calls_ready(module) < 0 || pairs_ready(module) < 0 || pieces_ready(module) < 0) return -1;
+    return maskers_ready(module);
 }
 
 /* The one symbol that the module shows. The headers before 3.9 don't say so. */

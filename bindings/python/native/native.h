@@ -17,11 +17,13 @@ enum {
 
 /* ---- module.c ---- */
 
-/* The types of dadofennel._match; they are there once `use` was called. */
-extern PyObject *match_type, *error_type;
+/* `dadofennel.Error`; it is there once `use` was called. */
+extern PyObject *error_type;
+/* Whether a type of `PyType_FromSpec` that others are derived from has to visit the type of its instances: from 3.9 on. */
+extern int visits_type;
 
-/* A new `Match`; `shift` is added to its places. */
-PyObject *match_of(const dado_match *it, size_t shift);
+/* Raises a `TypeError` which says what an argument is, and what it has to be; -1. */
+int wrong_type(const char *name, PyObject *it, const char *wanted);
 /* Raises what a status says, and returns -1. */
 int refuse(dado_status status);
 /* The arguments of a call, by their names. Those that weren't given are NULL; the first `needed` must be. */
@@ -33,6 +35,18 @@ typedef struct {
 int arguments_of(const Signature *it, PyObject *const *given, Py_ssize_t count, PyObject *names, PyObject **out);
 /* Whether an argument is true; one that wasn't given isn't. -1 with an exception. */
 int is_true(PyObject *it);
+
+/* ---- match.c ---- */
+
+/* `dadofennel.Match`; it is there once `use` was called. */
+extern PyTypeObject *match_type;
+
+int matches_ready(PyObject *module);
+int take_match_type(PyObject *type);
+/* A new `Match`; `shift` is added to its places. It holds the text, which may be NULL. */
+PyObject *match_of(const dado_match *it, size_t shift, PyObject *text);
+/* Whether a text is a `str` or `bytes` itself, which refers to nothing. */
+int is_plain(PyObject *text);
 
 /* ---- owner.c ---- */
 
@@ -105,8 +119,10 @@ int characters_of(PyObject *text, Characters *out);
 int copy_codes(const Core *core, PyObject *text, const Characters *of, size_t start, size_t len, uint8_t *to);
 /* The UTF-8 of a text, as bytes; lone surrogates have bytes, too. */
 PyObject *utf8_of(PyObject *text);
-/* -1 with a TypeError where the text isn't of the patterns' type. */
-int fits(const Core *core, PyObject *text);
+/* -1 with a TypeError, which has the argument's name, where the text isn't of the patterns' type. */
+int fits(const Core *core, PyObject *text, const char *name);
+/* The same TypeError. */
+int misfits(const Core *core, PyObject *text, const char *name);
 /* The part of `length` units that `start` and `end` name, as a slice does. */
 int bounds_of(size_t length, PyObject *start, PyObject *end, size_t *low, size_t *high);
 /* The haystack of a text. A copy of up to SHORT bytes goes to `near`. With PARTS a long copy may be one part after another; with EXACT the
@@ -143,12 +159,12 @@ dado_status some(const dado_automaton *ac, Going *it, const Haystack *text, dado
  * short text, and `is_over` says that there are no others. With `as_lists` it gives batches. */
 PyObject *walk_new(Haystack *text, PyObject *source, const uint8_t *near, const Going *going, const dado_match *found, size_t count,
                    int is_over, int as_lists);
-/* An iterator over some matches. */
-PyObject *found_new(const dado_match *found, size_t count, size_t shift);
+/* An iterator over some matches of a text that is plain. */
+PyObject *found_new(const dado_match *found, size_t count, size_t shift, PyObject *source);
 /* The patterns, starts and ends of some matches, as three lists. */
 PyObject *lists_of(const dado_match *found, size_t count, size_t shift);
 
-/* ---- calls.c, change.c, pairs.c, pieces.c ---- */
+/* ---- calls.c, change.c, pairs.c, pieces.c, maskers.c ---- */
 
 /* The core of an automaton of Python: a new reference. */
 Core *core_of(PyObject *automaton);
@@ -156,9 +172,17 @@ Core *core_of(PyObject *automaton);
 int calls_ready(PyObject *module);
 int pairs_ready(PyObject *module);
 int pieces_ready(PyObject *module);
+int maskers_ready(PyObject *module);
+/* What masks a text, as UTF-8, before the stars are put in: a byte that UTF-8 doesn't have. */
+enum { COVERED = 0xFF };
+PyObject *starred(PyObject *module, PyObject *args);
+
+/* The number of the kind that a word names; -1 with an exception. */
+int kind_of(PyObject *word);
 
 PyObject *core_texts(PyObject *self, PyObject *replacements);
 PyObject *automaton_replace(PyObject *self, PyObject *const *given, Py_ssize_t count, PyObject *names);
+PyObject *automaton_replace_words(PyObject *self, PyObject *const *given, Py_ssize_t count, PyObject *names);
 PyObject *automaton_mask(PyObject *self, PyObject *const *given, Py_ssize_t count, PyObject *names);
 PyObject *automaton_mask_words(PyObject *self, PyObject *const *given, Py_ssize_t count, PyObject *names);
 PyObject *automaton_mask_in_place(PyObject *self, PyObject *const *given, Py_ssize_t count, PyObject *names);

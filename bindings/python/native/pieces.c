@@ -69,7 +69,7 @@ static int next_some(PyObject *self, dado_match *room, size_t *count) {
 static int append_all(PyObject *list, const dado_match *room, size_t count) {
     size_t i;
     for (i = 0; i < count; i++) {
-        PyObject *match = match_of(&room[i], 0);
+        PyObject *match = match_of(&room[i], 0, NULL);
         int done = match == NULL ? -1 : PyList_Append(list, match);
         Py_XDECREF(match);
         if (done < 0) return -1;

@@ -179,10 +179,17 @@ int copy_codes(const Core *core, PyObject *text, const Characters *of, size_t st
 
 PyObject *utf8_of(PyObject *text) { return PyUnicode_AsEncodedString(text, "utf-8", "surrogatepass"); }
 
-int fits(const Core *core, PyObject *text) {
-    if (core->text < 0 || core->text == PyUnicode_Check(text)) return 0;
-    PyErr_SetString(PyExc_TypeError, "patterns of str search str, and patterns of bytes search bytes");
-    return -1;
+int misfits(const Core *core, PyObject *text, const char *name) {
+    if (core->text < 0) return wrong_type(name, text, "str or bytes");
+    return wrong_type(name, text, core->text ? "str as the patterns are" : "bytes as the patterns are");
+}
+
+int fits(const Core *core, PyObject *text, const char *name) {
+    return core->text < 0 || core->text == PyUnicode_Check(text) ? 0 : misfits(core, text, name);
+}
+
+static int is_bound(PyObject *it, const char *name) {
+    return it == NULL || it == Py_None || PyIndex_Check(it) ? 0 : wrong_type(name, it, "a number or None");
 }
 
 int bounds_of(size_t length, PyObject *start, PyObject *end, size_t *low, size_t *high) {
@@ -190,6 +197,7 @@ int bounds_of(size_t length, PyObject *start, PyObject *end, size_t *low, size_t
     PyObject *slice;
     *low = 0, *high = length;
     if ((start == NULL || start == Py_None) && (end == NULL || end == Py_None)) return 0;
+    if (is_bound(start, "start") < 0 || is_bound(end, "end") < 0) return -1;
     slice = PySlice_New(start, end, NULL);
     if (slice == NULL) return -1;
     if (PySlice_Unpack(slice, &from, &to, &step) < 0) {
@@ -251,6 +259,14 @@ static int of_str(Haystack *out, PyObject *text, PyObject *start, PyObject *end,
     return done;
 }
 
+/* Says that a text lends no bytes, where that is what was raised. */
+static int lends_none(Haystack *out, PyObject *text) {
+    out->lent.obj = NULL;
+    if (!PyErr_ExceptionMatches(PyExc_TypeError)) return -1;
+    PyErr_Clear();
+    return misfits(out->core, text, "text");
+}
+
 static int of_bytes(Haystack *out, PyObject *text, PyObject *start, PyObject *end) {
     if (PyBytes_Check(text)) {
         char *at;
@@ -258,10 +274,7 @@ static int of_bytes(Haystack *out, PyObject *text, PyObject *start, PyObject *en
         if (PyBytes_AsStringAndSize(text, &at, &length) < 0) return -1;
         out->at = (const uint8_t *)at, out->len = (size_t)length;
     } else {
-        if (PyObject_GetBuffer(text, &out->lent, PyBUF_SIMPLE) < 0) {
-            out->lent.obj = NULL;
-            return -1;
-        }
+        if (PyObject_GetBuffer(text, &out->lent, PyBUF_SIMPLE) < 0) return lends_none(out, text);
         out->at = out->lent.buf, out->len = (size_t)out->lent.len;
     }
     return bounds_of(out->len, start, end, &out->low, &out->high);
@@ -270,7 +283,7 @@ static int of_bytes(Haystack *out, PyObject *text, PyObject *start, PyObject *en
 int haystack_of(Haystack *out, Core *core, PyObject *text, PyObject *start, PyObject *end, int how, uint8_t *near) {
     static const dado_counted none = {0, 0};
     int done;
-    if (fits(core, text) < 0) return -1;
+    if (fits(core, text, "text") < 0) return -1;
     out->shift = 0, out->is_coded = out->is_counted = 0, out->counted = none;
     out->made = NULL, out->copy = NULL, out->lent.obj = NULL, out->text = NULL, out->core = core;
     done = PyUnicode_Check(text) ? of_str(out, text, start, end, how, near) : of_bytes(out, text, start, end);

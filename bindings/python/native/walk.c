@@ -34,6 +34,7 @@ dado_status some(const dado_automaton *ac, Going *it, const Haystack *text, dado
 
 typedef struct {
     PyObject_VAR_HEAD
+    PyObject *source;
     size_t next, count, shift;
     dado_match at[1];
 } Found;
@@ -42,7 +43,7 @@ static PyTypeObject *found_type;
 /* The iterator of no match, which all searches share that find none. */
 static PyObject *nothing;
 
-PyObject *found_new(const dado_match *found, size_t count, size_t shift) {
+PyObject *found_new(const dado_match *found, size_t count, size_t shift, PyObject *source) {
     Found *made;
     if (count == 0 && nothing != NULL) {
         Py_INCREF(nothing);
@@ -50,18 +51,20 @@ PyObject *found_new(const dado_match *found, size_t count, size_t shift) {
     }
     made = PyObject_NewVar(Found, found_type, (Py_ssize_t)count);
     if (made == NULL) return NULL;
-    made->next = 0, made->count = count, made->shift = shift;
+    Py_XINCREF(source);
+    made->source = source, made->next = 0, made->count = count, made->shift = shift;
     memcpy(made->at, found, count * sizeof *found);
     return (PyObject *)made;
 }
 
 static PyObject *found_next(PyObject *self) {
     Found *it = (Found *)self;
-    return it->next < it->count ? match_of(&it->at[it->next++], it->shift) : NULL;
+    return it->next < it->count ? match_of(&it->at[it->next++], it->shift, it->source) : NULL;
 }
 
 static void found_free(PyObject *self) {
     PyTypeObject *type = Py_TYPE(self);
+    Py_XDECREF(((Found *)self)->source);
     PyObject_Free(self);
     Py_DECREF(type);
 }
@@ -196,10 +199,14 @@ static int goes_on(Walk *it) {
 
 static PyObject *walk_next(PyObject *self) {
     Walk *it = (Walk *)self;
+    PyObject *source, *made;
     dado_match next;
     if (!goes_on(it)) return NULL;
-    next = it->room[it->next++];
-    return match_of(&next, it->shift);
+    next = it->room[it->next++], source = it->source;
+    Py_INCREF(source); /* another thread may let go of it while the match is made */
+    made = match_of(&next, it->shift, source);
+    Py_DECREF(source);
+    return made;
 }
 
 static PyObject *numbers(const dado_match *found, size_t count, size_t shift, int which) {
@@ -304,6 +311,6 @@ int walks_ready(PyObject *module) {
     walk_type = (PyTypeObject *)PyType_FromSpec(&walk_spec);
     batches_type = (PyTypeObject *)PyType_FromSpec(&batches_spec);
     if (found_type == NULL || walk_type == NULL || batches_type == NULL) return -1;
-    nothing = found_new(NULL, 0, 0);
+    nothing = found_new(NULL, 0, 0, NULL);
     return nothing == NULL ? -1 : 0;
 }

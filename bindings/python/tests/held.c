@@ -47,3 +47,10 @@ WRAPPED(dado_raw_about, dado_raw_tell, (const dado_automaton *at), at, (at))
 WRAPPED(dado_raw_count, dado_raw_stream_push, (dado_stream **stream, const uint8_t *piece, size_t len), *stream, (stream, piece, len))
 WRAPPED(dado_raw_count, dado_raw_stream_some, (dado_stream **stream, dado_match *out, size_t room), *stream, (stream, out, room))
 WRAPPED(dado_raw_view, dado_raw_stream_view, (dado_stream **stream, const uint8_t **at), *stream, (stream, at))
+WRAPPED(dado_status, dado_raw_replace_words,
+        (const dado_automaton *at, uint32_t kind, const uint8_t *haystack, size_t len, const dado_bytes *replacements, size_t count,
+         void **owner),
+        at, (at, kind, haystack, len, replacements, count, owner))
+WRAPPED(dado_status, dado_raw_masker_new, (const dado_automaton *at, uint8_t byte, dado_masker **masker), at, (at, byte, masker))
+WRAPPED(dado_raw_count, dado_raw_masker_push, (dado_masker **masker, const uint8_t *piece, size_t len), *masker, (masker, piece, len))
+WRAPPED(dado_raw_length, dado_raw_masker_ready, (dado_masker **masker, const uint8_t **at), *masker, (masker, at))

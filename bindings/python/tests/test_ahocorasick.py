@@ -3,9 +3,11 @@
 The real one is Debian's python3-ahocorasick, whose words are `str`. Words of `bytes` are compared with it by their Latin-1 text.
 """
 import os
+import pathlib
 import pickle
 import random
 import sys
+import tempfile
 import unittest
 
 import dadofennel.ahocorasick as ours
@@ -78,6 +80,18 @@ def plain(method):
         return getattr(automaton, method)(*arguments)
     call.__name__ = method
     return call
+
+
+def graph(dumped, of):
+    """What `dump` gives, without the numbers of nodes: each node by the characters that lead to it."""
+    if dumped is None:
+        return None
+    nodes, edges, links = dumped
+    ways = {nodes[0][0]: ""}
+    for one, letter, other in edges:
+        ways[other] = ways[one] + (of(letter) if isinstance(letter, str) or of(letter) != letter else letter.decode())
+    return ([(ways[it], ends) for it, ends in nodes], [(ways[one], ways[other]) for one, _, other in edges],
+            [(ways[one], ways[other]) for one, other in links])
 
 
 def contains(automaton, word):
@@ -198,6 +212,12 @@ class Random(unittest.TestCase):
             both.same(changed, text, word(1))
         elif call == 15:
             self.long(both, text, bounds(text))
+        elif call == 16 and all(ord(it) < 0x80 for it in both.of(alphabet)):  # the real one has the last byte of a character
+            mine, other = graph(both.ours.dump(), both.of), graph(both.theirs.dump(), both.of)
+            if mine and both.ours.kind == ours.TRIE:  # the real one keeps links that a search had before a word was added
+                self.assertEqual((mine[2], other[:2]), ([], mine[:2]), both.log)
+            else:
+                self.assertEqual(mine, other, both.log)
         both.same(length)
 
     def long(self, both, text, bounds):
@@ -262,15 +282,93 @@ class Alone(unittest.TestCase):
         search.set("c abc")
         self.assertEqual(list(search), [(3, 0), (7, 0)])
 
+    def saved(self, automaton, *words):
+        """An automaton that was saved and loaded."""
+        with tempfile.TemporaryDirectory() as folder:
+            self.assertIsNone(automaton.save(f"{folder}/it", *words))
+            return ours.load(f"{folder}/it", pickle.loads)
+
+    def test_saved(self):
+        for words in (["he", "she", "é\U0001F600\0", "\udc00"], [b"he", b"\xff\0"], []):
+            for made in (ours.Automaton(), ours.Automaton(ours.STORE_INTS), ours.Automaton(ours.STORE_LENGTH)):
+                for number, word in enumerate(words):
+                    made.add_word(word, {10: number * -(1 << 70), 20: 0, 30: (number, word)}[made.store])
+                for searched in (False, True):
+                    if searched:
+                        made.make_automaton()
+                    again = self.saved(made, *([pickle.dumps] if made.store == ours.STORE_ANY else []))
+                    self.assertEqual((list(again.items()), again.kind, again.store), (list(made.items()), made.kind, made.store))
+                    if searched and words:
+                        text = words[0][:0].join(words * 2)
+                        self.assertEqual(list(again.iter(text)), list(made.iter(text)))
+
+    def test_files_that_are_refused(self):
+        automaton = self.made(["he", "she"])
+        with tempfile.TemporaryDirectory() as folder:
+            path = f"{folder}/it"
+            automaton.save(path, pickle.dumps)
+            with open(path, "rb") as file:
+                good = file.read()
+            self.assertEqual(good[:16], b"dadofennel words")
+
+            def refused(data, said):
+                with open(path, "wb") as file:
+                    file.write(data)
+                self.assertRaisesRegex(ValueError, f"^{path} {said}", ours.load, path, pickle.loads)
+
+            for cut in range(16, len(good)):
+                refused(good[:cut], "was cut short or changed")
+            for at in range(20, len(good)):
+                refused(good[:at] + bytes([good[at] ^ 1]) + good[at + 1:], "was cut short or changed")
+            refused(good + b"x", "was cut short or changed")
+            refused(good[:16] + b"\x02" + good[17:], "is of format 2, and this version of dadofennel reads format 1")
+            refused(b"pyahocorasick002" + bytes(60), "is a file of pyahocorasick")
+            for data in (b"", good[:15], b"# words\n"):
+                refused(data, "is no file of dadofennel.ahocorasick")
+            if THEIRS:
+                theirs = THEIRS.Automaton()
+                theirs.add_word("he", 1)
+                theirs.save(path, pickle.dumps)
+                self.assertRaisesRegex(ValueError, "is a file of pyahocorasick", ours.load, path, pickle.loads)
+                automaton.save(path, pickle.dumps)
+                self.assertRaises(ValueError, THEIRS.load, path, pickle.loads)
+            self.assertRaises(TypeError, automaton.save, path, lambda value: "no bytes")
+            self.assertRaises(OSError, automaton.save, f"{folder}/none/it", pickle.dumps)
+            self.assertRaises(OSError, ours.load, f"{folder}/none", pickle.loads)
+            automaton.save(pathlib.Path(path), pickle.dumps)
+            self.assertEqual(len(ours.load(pathlib.Path(path), pickle.loads)), 2)
+
+    def test_dumped(self):
+        self.assertIsNone(ours.Automaton().dump())
+        automaton = ours.Automaton()
+        for word in ("he", "hé", "e"):
+            automaton.add_word(word, word)
+        nodes = [(0, 0), (1, 0), (2, 1), (3, 1), (4, 1)]
+        edges = [(0, "h", 1), (0, "e", 4), (1, "e", 2), (1, "é", 3)]
+        self.assertEqual(automaton.dump(), (nodes, edges, []))
+        automaton.make_automaton()
+        self.assertEqual(automaton.dump(), (nodes, edges, [(1, 0), (2, 4), (3, 0), (4, 0)]))
+        self.assertEqual(self.made([b"a"]).dump(), ([(0, 0), (1, 1)], [(0, b"a", 1)], [(1, 0)]))
+
+    def test_size(self):
+        automaton = ours.Automaton()
+        sizes = []
+        for word in ("tree", "kitten", "a" * 100):
+            automaton.add_word(word, word)
+            sizes.append(sys.getsizeof(automaton))
+        automaton.add_word("tree", "other")
+        self.assertTrue(sizes[0] < sizes[1] < sizes[2] - 50)
+        self.assertEqual(sys.getsizeof(automaton), sizes[2])
+
     def test_statistics(self):
         told = self.made(["he", "her"]).get_stats()
         self.assertEqual([told[it] for it in ("nodes_count", "words_count", "longest_word", "links_count")], [4, 2, 3, 3])
 
     @unittest.skipUnless(THEIRS, WHY_NOT)
     def test_names(self):
-        """Every name of the real module and its automaton is there, but for those that the module's page leaves out."""
-        self.assertEqual({it for it in dir(THEIRS) if it not in dir(ours)}, {"load"})
-        self.assertEqual({it for it in dir(THEIRS.Automaton) if it not in dir(ours.Automaton())}, {"dump", "save"})
+        """Every name of the real module and its automaton is there."""
+        self.assertEqual([it for it in dir(THEIRS) if it not in dir(ours)], [])
+        self.assertEqual([it for it in dir(THEIRS.Automaton) if it not in dir(ours.Automaton())], [])
         for name in dir(ours):
             if isinstance(getattr(ours, name), int):
                 self.assertEqual(getattr(ours, name), getattr(THEIRS, name))

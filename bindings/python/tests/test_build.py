@@ -234,15 +234,19 @@ def sha_of_b():
     return ran.stdout.decode().strip().rstrip("=").translate(str.maketrans("+/", "-_"))
 
 
+def release():
+    """The module that makes the files of a release."""
+    with unittest.mock.patch.object(sys, "path", [f"{ROOT}/tools", *sys.path]):
+        import release_wheel
+    return release_wheel
+
+
 @IN_A_CLONE
 class Released(unittest.TestCase):
     """The files of a release, and the systems that a module is for."""
 
     def setUp(self):
-        sys.path.insert(0, f"{ROOT}/tools")
-        self.addCleanup(sys.path.remove, f"{ROOT}/tools")
-        import release_wheel
-        self.release = release_wheel
+        self.release = release()
         self.room = tempfile.TemporaryDirectory()
         self.addCleanup(self.room.cleanup)
         self.folder = self.room.name
@@ -301,13 +305,14 @@ class Installed(unittest.TestCase):
         shutil.copytree(PYTHON, f"{self.folder}/bindings/python", ignore=ignored)
         shutil.copytree(f"{ROOT}/bindings/c", f"{self.folder}/bindings/c", ignore=ignored)
         shutil.copy(f"{ROOT}/LICENSE", self.folder)
-        subprocess.run([sys.executable, "-m", "venv", f"{self.folder}/venv"], check=True)
+        subprocess.run([sys.executable, "-m", "venv", "--without-pip", f"{self.folder}/venv"], check=True)
         kept = {name: it for name, it in os.environ.items() if not name.startswith(("DADOFENNEL", "PKG_CONFIG", "PYTHON", "PIP_"))}
         self.environment = dict(kept, PKG_CONFIG="/nowhere", PYTHONDONTWRITEBYTECODE="1")
+        self.with_pip = dict(self.environment, PYTHONPATH=release().bundled_pip(sys.executable))
 
     def pip(self, *words, **variables):
         command = [f"{self.folder}/venv/bin/python", "-m", "pip", "install", "-q", "--no-index", "--disable-pip-version-check", *words]
-        ran = subprocess.run(command, stdout=subprocess.PIPE, stderr=subprocess.STDOUT, env=dict(self.environment, **variables))
+        ran = subprocess.run(command, stdout=subprocess.PIPE, stderr=subprocess.STDOUT, env=dict(self.with_pip, **variables))
         self.assertEqual(ran.returncode, 0, ran.stdout.decode())
 
     def python(self, program):
@@ -334,7 +339,7 @@ class Installed(unittest.TestCase):
                    f"{self.folder}/bindings/python"]
         child, terminal = pty.fork()
         if child == 0:
-            os.execvpe(command[0], command, dict(self.environment, PATH=f"{self.folder}/bin:{os.environ['PATH']}"))
+            os.execvpe(command[0], command, dict(self.with_pip, PATH=f"{self.folder}/bin:{os.environ['PATH']}"))
         shown = b""
         with contextlib.suppress(OSError):
             while True:

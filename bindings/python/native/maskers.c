@@ -1,0 +1,106 @@
+/* A masker of the library: bytes are pushed to it, and it gives them masked. `dadofennel._masks` sees to it that one thread at a time is
+ * in it. */
+#include "native.h"
+
+#include <stddef.h>
+
+typedef struct {
+    PyObject_HEAD
+    dado_masker *handle;
+} Masker;
+
+static PyTypeObject *masker_type;
+
+static void masker_free(PyObject *self) {
+    PyTypeObject *type = Py_TYPE(self);
+    dado_masker_free(&((Masker *)self)->handle);
+    PyObject_Free(self);
+    Py_DECREF(type);
+}
+
+/* Begins a masker of a core, which masks with a byte. */
+static PyObject *masker(PyObject *module, PyObject *args) {
+    PyObject *core;
+    unsigned char byte;
+    Masker *made;
+    dado_status status;
+    (void)module;
+    if (!PyArg_ParseTuple(args, "O!b", core_type, &core, &byte)) return NULL;
+    made = PyObject_New(Masker, masker_type);
+    if (made == NULL) return NULL;
+    made->handle = NULL;
+    status = dado_masker_new(((Core *)core)->plain->handle, byte, &made->handle);
+    if (status == DADO_OK) return (PyObject *)made;
+    Py_DECREF(made);
+    refuse(status);
+    return NULL;
+}
+
+/* Adds the bytes that are ready to a list. */
+static int add_ready(Masker *it, PyObject *list) {
+    dado_bytes slice;
+    dado_status status = dado_masker_ready(&it->handle, &slice);
+    PyObject *bytes;
+    int done;
+    if (status != DADO_OK) return refuse(status);
+    bytes = PyBytes_FromStringAndSize((const char *)slice.at, (Py_ssize_t)slice.len);
+    done = bytes == NULL ? -1 : PyList_Append(list, bytes);
+    Py_XDECREF(bytes);
+    return done;
+}
+
+static int push_all(Masker *it, const uint8_t *at, size_t len, PyObject *list) {
+    size_t from = 0, taken;
+    do {
+        dado_status status;
+        UNLOCKED(len - from, status = dado_masker_push(&it->handle, len ? at + from : NULL, len - from, &taken));
+        if (status != DADO_OK) return refuse(status);
+        if (add_ready(it, list) < 0) return -1;
+        from += taken;
+    } while (from < len);
+    return 0;
+}
+
+/* The bytes that are ready after a piece was pushed, as a list. */
+static PyObject *masker_push(PyObject *self, PyObject *piece) {
+    Py_buffer lent;
+    PyObject *list;
+    if (PyObject_GetBuffer(piece, &lent, PyBUF_SIMPLE) < 0) return NULL;
+    list = PyList_New(0);
+    if (list != NULL && push_all((Masker *)self, lent.buf, (size_t)lent.len, list) < 0) Py_CLEAR(list);
+    PyBuffer_Release(&lent);
+    return list;
+}
+
+static PyObject *masker_finish(PyObject *self, PyObject *none) {
+    dado_status status = dado_masker_finish(&((Masker *)self)->handle);
+    PyObject *list = PyList_New(0);
+    (void)none;
+    if (status != DADO_OK) refuse(status);
+    if (list != NULL && (status != DADO_OK || add_ready((Masker *)self, list) < 0)) Py_CLEAR(list);
+    return list;
+}
+
+static PyMethodDef methods[] = {
+    {"push", masker_push, METH_O, "Takes a piece, and gives the bytes that are ready, as a list."},
+    {"finish", masker_finish, METH_NOARGS, "Ends the text, and gives the bytes that are left, as a list."},
+    {NULL, NULL, 0, NULL},
+};
+static PyType_Slot slots[] = {{Py_tp_dealloc, masker_free}, {Py_tp_methods, methods}, {0, NULL}};
+static PyType_Spec spec = {"dadofennel._native.Masker", sizeof(Masker), 0, Py_TPFLAGS_DEFAULT, slots};
+
+static PyMethodDef functions[] = {
+    {"masker", masker, METH_VARARGS, "Begins a masker of a core, which masks with a byte."},
+    {"starred", starred, METH_VARARGS, "A text with stars, of its UTF-8 and of that with COVERED where it is masked."},
+};
+
+int maskers_ready(PyObject *module) {
+    size_t i;
+    masker_type = (PyTypeObject *)PyType_FromSpec(&spec);
+    if (masker_type == NULL || PyModule_AddIntConstant(module, "COVERED", COVERED) < 0) return -1;
+    for (i = 0; i < sizeof functions / sizeof functions[0]; i++) {
+        PyObject *function = PyCFunction_NewEx(&functions[i], NULL, NULL);
+        if (function == NULL || PyModule_AddObject(module, functions[i].ml_name, function) < 0) return -1;
+    }
+    return 0;
+}

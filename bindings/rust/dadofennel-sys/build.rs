@@ -1,8 +1,11 @@
-//! Finds the library for C, and links it: the archive, or else the shared library.
+//! Finds the library for C, and links it: the archive, or else the shared library. It is looked for, in this order,
 //!
-//! It is taken from PREFIX/lib of DADOFENNEL_PREFIX, where `bindings/c/build PREFIX` has put it. Without that, in a clone of the
-//! repository, it is taken from bindings/c/out, and built there first if it is missing; `bindings/c/build` then proves the
-//! library. Elsewhere pkg-config is asked.
+//! 1. in PREFIX/lib of DADOFENNEL_PREFIX, where `bindings/c/build PREFIX` has put it
+//! 2. in lib/TARGET of this crate, as a released crate has it for each target that it was built for
+//! 3. in a clone of the repository, in bindings/c/out; it is built there first if it is missing, and `bindings/c/build` then proves it
+//! 4. where pkg-config says.
+//!
+//! The first two run no other program.
 
 use std::path::{Path, PathBuf};
 use std::process::Command;
@@ -26,6 +29,10 @@ fn library() -> PathBuf {
         return present(PathBuf::from(prefix).join("lib"));
     }
     let here = PathBuf::from(env::var_os("CARGO_MANIFEST_DIR").expect("cargo names the folder of the crate"));
+    let inside = here.join("lib").join(env::var_os("TARGET").expect("cargo names the target"));
+    if inside.exists() {
+        return present(inside);
+    }
     let c = here.join("../../c");
     if c.join("build").exists() {
         let out = c.join("out");

@@ -8,7 +8,7 @@ use dadofennel_sys as sys;
 use crate::automaton::OverlappingState;
 use crate::handle::{self, Handle};
 use crate::iter::{found, FindIter, FindOverlappingIter};
-use crate::{AhoCorasickBuilder, Anchored, BuildError, Input, Match, MatchError, MatchKind, StartKind};
+use crate::{AhoCorasickBuilder, Anchored, BuildError, Input, Match, MatchError, MatchKind, PatternID, StartKind};
 
 /// An automaton that searches for many patterns at once.
 ///
@@ -105,6 +105,18 @@ impl AhoCorasick {
         self.handle.pattern_count()
     }
 
+    /// How many bytes this pattern has.
+    ///
+    /// # Panics
+    ///
+    /// Where no pattern has that number.
+    pub fn pattern_len(&self, pattern: PatternID) -> usize {
+        match self.handle.pattern_len(pattern.as_u32()) {
+            Some(len) => len,
+            None => panic!("there is no pattern {} of {}", pattern.as_usize(), self.patterns_len()),
+        }
+    }
+
     /// About how many bytes of memory it takes.
     pub fn memory_usage(&self) -> usize {
         self.handle.memory()
@@ -183,13 +195,10 @@ impl AhoCorasick {
     ///
     /// A state begins as `OverlappingState::start()`, and then belongs to this automaton and this input. A call reads again at
     /// most as many bytes before the last occurrence's end as the longest pattern has, so `find_overlapping_iter` is faster. It
-    /// needs the standard kind. An anchored input needs an automaton of `StartKind::Both`.
+    /// needs the standard kind. Of an anchored input it lists the occurrences that start where the input does.
     pub fn try_find_overlapping<'h, I: Into<Input<'h>>>(&self, input: I, state: &mut OverlappingState) -> Result<(), MatchError> {
         let input = input.into();
         self.lists(input.get_anchored())?;
-        if self.start_kind == StartKind::Anchored {
-            return Err(MatchError::invalid_input_anchored());
-        }
         state.advance(self, &input);
         Ok(())
     }

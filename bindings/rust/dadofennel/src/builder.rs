@@ -5,6 +5,9 @@ use dadofennel_sys as sys;
 use crate::handle::{Handle, Settings};
 use crate::{AhoCorasick, AhoCorasickKind, BuildError, MatchKind, StartKind};
 
+/// For how many patterns and one kind of start the library chooses a DFA.
+const MOST_FOR_A_DFA: usize = 100;
+
 /// The settings that an automaton is built with.
 ///
 /// ```
@@ -53,8 +56,27 @@ impl AhoCorasickBuilder {
         P: AsRef<[u8]>,
     {
         let patterns: Vec<P> = patterns.into_iter().collect();
-        let handle = Handle::build(&patterns, &self.settings).map_err(|(status, fault)| BuildError::of(status, fault))?;
+        let handle = self.handle(&patterns).map_err(|(status, fault)| BuildError::of(status, fault))?;
         Ok(AhoCorasick::of(handle, self.match_kind, self.start_kind))
+    }
+
+    /// The automaton of the library.
+    ///
+    /// For anchored searches alone, of the standard kind, it is built for both starts there, since the library lists no occurrences
+    /// without the other one. Searches that aren't anchored are refused by `AhoCorasick`.
+    fn handle<P: AsRef<[u8]>>(&self, patterns: &[P]) -> Result<Handle, (sys::dado_status, sys::dado_fault)> {
+        if self.start_kind != StartKind::Anchored || self.match_kind != MatchKind::Standard {
+            return Handle::build(patterns, &self.settings);
+        }
+        let mut settings = Settings { start_kind: sys::DADO_BOTH, ..self.settings.clone() };
+        if settings.engine == sys::DADO_AUTO && patterns.len() <= MOST_FOR_A_DFA {
+            settings.engine = sys::DADO_DFA;
+            match Handle::build(patterns, &settings) {
+                Err((sys::DADO_TOO_MANY_STATES, _)) => settings.engine = sys::DADO_AUTO,
+                built => return built,
+            }
+        }
+        Handle::build(patterns, &settings)
     }
 
     /// Which of several overlapping occurrences is the match: the standard kind at first.

@@ -241,6 +241,14 @@ impl Handle {
         unsafe { sys::dado_pattern_count(self.0.as_ptr()) }
     }
 
+    /// The length of a pattern; `None` where there is none of that number.
+    pub(crate) fn pattern_len(&self, pattern: u32) -> Option<usize> {
+        let mut len = 0;
+        // SAFETY: the automaton is lent.
+        let status = unsafe { sys::dado_pattern_len(self.0.as_ptr(), pattern, &mut len) };
+        Some(len).filter(|_| status == sys::DADO_OK)
+    }
+
     /// The length of the shortest pattern; `usize::MAX` where there is none.
     pub(crate) fn shortest(&self) -> usize {
         // SAFETY: the automaton is lent.

@@ -83,6 +83,12 @@ impl PatternID {
         PatternID::try_from(u32::from_ne_bytes(bytes))
     }
 
+    /// The number of these bytes in the machine's order, unchecked: one past the greatest is kept, and no memory is read by it.
+    #[inline]
+    pub fn from_ne_bytes_unchecked(bytes: [u8; 4]) -> PatternID {
+        PatternID(u32::from_ne_bytes(bytes))
+    }
+
     /// The number's bytes in the machine's order.
     #[inline]
     pub fn to_ne_bytes(&self) -> [u8; 4] {

@@ -60,5 +60,5 @@ pub fn version() -> &'static str {
 
 /// The page of the crate, whose examples are tests.
 #[cfg(doctest)]
-#[doc = include_str!("../../README.md")]
+#[doc = include_str!("../README.md")]
 mod page {}

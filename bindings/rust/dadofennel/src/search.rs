@@ -437,6 +437,6 @@ pub enum StartKind {
     /// Searches that aren't anchored.
     #[default]
     Unanchored,
-    /// Anchored searches.
+    /// Anchored searches. Under the standard kind it takes the memory of `Both`.
     Anchored,
 }

@@ -151,17 +151,18 @@ fn finds_overlapping() {
         let end = rng.below(case.text.len() + 1);
         let start = rng.below(end + 1);
         let input = Input::new(&case.text).range(start..end);
-        if case.kind != MatchKind::Standard || case.start_kind == StartKind::Anchored {
+        let anchored = input.clone().anchored(Anchored::Yes);
+        assert!(case.ac.try_find_overlapping_iter(anchored.clone()).is_err());
+        let standard = case.kind == MatchKind::Standard;
+        if standard && case.start_kind != StartKind::Anchored {
+            let all = case.occurrences(start, end, false);
+            assert_eq!(all, case.ac.find_overlapping_iter(input.clone()).collect::<Vec<_>>(), "{}", case.shown());
+            assert_eq!(all, listed(&case.ac, input), "{}", case.shown());
+        } else {
             assert!(case.ac.try_find_overlapping_iter(input.clone()).is_err());
             assert!(case.ac.try_find_overlapping(input, &mut OverlappingState::start()).is_err());
-            return;
         }
-        let all = case.occurrences(start, end, false);
-        assert_eq!(all, case.ac.find_overlapping_iter(input.clone()).collect::<Vec<_>>(), "{}", case.shown());
-        assert_eq!(all, listed(&case.ac, input.clone()), "{}", case.shown());
-        let anchored = input.anchored(Anchored::Yes);
-        assert!(case.ac.try_find_overlapping_iter(anchored.clone()).is_err());
-        if case.start_kind == StartKind::Both {
+        if standard && case.start_kind != StartKind::Unanchored {
             assert_eq!(case.occurrences(start, end, true), listed(&case.ac, anchored), "{}", case.shown());
         } else {
             assert!(case.ac.try_find_overlapping(anchored, &mut OverlappingState::start()).is_err());

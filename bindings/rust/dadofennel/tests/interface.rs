@@ -49,6 +49,7 @@ fn panics() {
     let plain = AhoCorasick::new(["a", ""]).unwrap();
     let calls: Vec<Call<'_>> = vec![
         ("find", Box::new(|| anchored.find("a").is_some())),
+        ("pattern_len of none", Box::new(|| plain.pattern_len(PatternID::must(2)) > 0)),
         ("is_match", Box::new(|| anchored.is_match("a"))),
         ("find_iter", Box::new(|| plain.find_iter(Input::new("a").anchored(Anchored::Yes)).count() > 0)),
         ("find_overlapping_iter", Box::new(|| leftmost.find_overlapping_iter("a").count() > 0)),
@@ -118,10 +119,15 @@ fn settings() {
         let ac = builder.clone().kind(Some(kind)).build(vec![b"abc".to_vec(), b"b".to_vec()]).unwrap();
         assert_eq!((kind, MatchKind::LeftmostFirst, StartKind::Both), (ac.kind(), ac.match_kind(), ac.start_kind()));
         assert_eq!((2, 1, 3), (ac.patterns_len(), ac.min_pattern_len(), ac.max_pattern_len()));
+        assert_eq!((3, 1), (ac.pattern_len(PatternID::must(0)), ac.pattern_len(PatternID::must(1))));
         assert_eq!(Some(Match::must(0, 1..4)), ac.find("xabc"));
         assert!(ac.memory_usage() > 0);
         assert!(format!("{ac:?}").contains("patterns_len: 2"));
     }
+    let mut anchored = AhoCorasick::builder();
+    anchored.start_kind(StartKind::Anchored);
+    let kinds = [100, 101].map(|count| anchored.build(vec!["a"; count]).unwrap().kind());
+    assert_eq!([AhoCorasickKind::DFA, AhoCorasickKind::ContiguousNFA], kinds);
     let none = AhoCorasick::new(None::<&str>).unwrap();
     assert_eq!((0, usize::MAX, 0), (none.patterns_len(), none.min_pattern_len(), none.max_pattern_len()));
     assert_eq!((None, 0), (none.find("a"), none.stream_find_iter(&b"abc"[..]).count()));
@@ -152,6 +158,8 @@ fn values() {
     assert_eq!(PatternID::from(7u8), PatternID::try_from(7u64).unwrap());
     assert!(PatternID::try_from(u32::MAX).is_err() && PatternID::try_from(u64::MAX).is_err() && PatternID::try_from(9u16).is_ok());
     assert_eq!(PatternID::must(9), PatternID::from_ne_bytes(PatternID::must(9).to_ne_bytes()).unwrap());
+    assert_eq!(PatternID::must(258), PatternID::from_ne_bytes_unchecked(258u32.to_ne_bytes()));
+    assert_eq!(u32::MAX, PatternID::from_ne_bytes_unchecked([0xff; 4]).as_u32());
     assert_eq!((4, 2147483646), (PatternID::SIZE, PatternID::MAX.as_i32()));
     assert_eq!(env!("CARGO_PKG_VERSION"), dadofennel::version());
 }

@@ -1,0 +1,213 @@
+package dadofennel_test
+
+import (
+	"fmt"
+	"math"
+	"math/rand"
+	"regexp"
+	"sort"
+	"strings"
+	"sync"
+	"testing"
+
+	. "dadofennel"
+)
+
+// Texts of random words, of which a few are common, as in a language, and patterns of these words. Ours is of kind LeftmostFirst, which
+// finds what the two others do. Run it by bindings/go/bench, which makes the table of the page.
+
+const (
+	benchShort = 80
+	benchLong  = 1 << 20
+)
+
+type benchData struct {
+	words []string // from common to rare
+	text  string   // benchLong bytes and more
+}
+
+var benchOnce sync.Once
+var benchMade benchData
+
+// bench makes the data at the first call.
+func bench() *benchData {
+	benchOnce.Do(benchMade.make)
+	return &benchMade
+}
+
+func (data *benchData) make() {
+	rng := rand.New(rand.NewSource(7))
+	known := map[string]bool{}
+	for len(data.words) < 20000 {
+		letters := make([]byte, 3+rng.Intn(8))
+		for i := range letters {
+			letters[i] = "etaoinshrdlucmfwypvbgkjqxz"[int(26*rng.Float64()*rng.Float64())]
+		}
+		if w := string(letters); !known[w] {
+			known[w] = true
+			data.words = append(data.words, w)
+		}
+	}
+	rank := rand.NewZipf(rng, 1.1, 3, uint64(len(data.words)-1))
+	var text strings.Builder
+	for text.Len() < benchLong+benchShort {
+		text.WriteString(data.words[rank.Uint64()])
+		text.WriteByte(' ')
+	}
+	data.text = text.String()
+}
+
+// The sets of patterns: of common words, of rare ones, and of both.
+var benchSets = []struct {
+	name        string
+	from, count int
+}{{"5 common", 20, 5}, {"5 rare", 15000, 5}, {"100 rare", 15000, 100}, {"100 mixed", 200, 100}, {"5000", 100, 5000}}
+
+// slow is from how many patterns package regexp takes too long for a long text.
+const slow = 1000
+
+// each runs a benchmark for each set and length, and gives the texts one after another.
+func each(b *testing.B, most int, run func(b *testing.B, patterns []string, text func(i int) string)) {
+	data := bench()
+	for _, set := range benchSets {
+		patterns := append([]string(nil), data.words[set.from:set.from+set.count]...)
+		sort.Slice(patterns, func(i, j int) bool { return len(patterns[i]) > len(patterns[j]) })
+		for _, size := range []int{benchShort, benchLong} {
+			if size == benchLong && set.count > most {
+				continue
+			}
+			text := func(i int) string {
+				at := i * 7919 % (len(data.text) - size + 1)
+				return data.text[at : at+size]
+			}
+			b.Run(fmt.Sprintf("%s/%d", strings.ReplaceAll(set.name, " ", "_"), size), func(b *testing.B) {
+				b.SetBytes(int64(size))
+				b.ReportAllocs()
+				run(b, patterns, text)
+			})
+		}
+	}
+}
+
+func alternation(patterns []string) *regexp.Regexp {
+	quoted := make([]string, len(patterns))
+	for i, pattern := range patterns {
+		quoted[i] = regexp.QuoteMeta(pattern)
+	}
+	return regexp.MustCompile(strings.Join(quoted, "|"))
+}
+
+func starred(patterns []string) []string {
+	list := make([]string, len(patterns))
+	for i, pattern := range patterns {
+		list[i] = strings.Repeat("*", len(pattern))
+	}
+	return list
+}
+
+func BenchmarkFindAll(b *testing.B) {
+	each(b, math.MaxInt, func(b *testing.B, patterns []string, text func(int) string) {
+		ac := built(b, patterns, WithKind(LeftmostFirst))
+		b.ResetTimer()
+		for i := 0; i < b.N; i++ {
+			if _, err := ac.FindAllString(text(i)); err != nil {
+				b.Fatal(err)
+			}
+		}
+	})
+}
+
+func BenchmarkFindAllByRegexp(b *testing.B) {
+	each(b, slow, func(b *testing.B, patterns []string, text func(int) string) {
+		pattern := alternation(patterns)
+		b.ResetTimer()
+		for i := 0; i < b.N; i++ {
+			pattern.FindAllStringIndex(text(i), -1)
+		}
+	})
+}
+
+func BenchmarkIsMatch(b *testing.B) {
+	each(b, math.MaxInt, func(b *testing.B, patterns []string, text func(int) string) {
+		ac := built(b, patterns, WithKind(LeftmostFirst))
+		b.ResetTimer()
+		for i := 0; i < b.N; i++ {
+			ac.IsMatchString(text(i))
+		}
+	})
+}
+
+func BenchmarkIsMatchByRegexp(b *testing.B) {
+	each(b, slow, func(b *testing.B, patterns []string, text func(int) string) {
+		pattern := alternation(patterns)
+		b.ResetTimer()
+		for i := 0; i < b.N; i++ {
+			pattern.MatchString(text(i))
+		}
+	})
+}
+
+func BenchmarkReplace(b *testing.B) {
+	each(b, math.MaxInt, func(b *testing.B, patterns []string, text func(int) string) {
+		ac := built(b, patterns, WithKind(LeftmostFirst))
+		list := starred(patterns)
+		b.ResetTimer()
+		for i := 0; i < b.N; i++ {
+			if _, err := ac.ReplaceAllString(text(i), list); err != nil {
+				b.Fatal(err)
+			}
+		}
+	})
+}
+
+func BenchmarkReplaceByStrings(b *testing.B) {
+	each(b, math.MaxInt, func(b *testing.B, patterns []string, text func(int) string) {
+		replacer := stringsReplacer(patterns)
+		b.ResetTimer()
+		for i := 0; i < b.N; i++ {
+			replacer.Replace(text(i))
+		}
+	})
+}
+
+func stringsReplacer(patterns []string) *strings.Replacer {
+	var pairs []string
+	for i, instead := range starred(patterns) {
+		pairs = append(pairs, patterns[i], instead)
+	}
+	return strings.NewReplacer(pairs...)
+}
+
+// BenchmarkParallel has goroutines that search short texts with one automaton.
+func BenchmarkParallel(b *testing.B) {
+	ac := built(b, bench().words[15000:15005])
+	text := bench().text[:benchShort]
+	b.SetBytes(benchShort)
+	b.RunParallel(func(pb *testing.PB) {
+		for pb.Next() {
+			ac.FindString(text)
+		}
+	})
+}
+
+// What the benchmarks compare is the same.
+func TestBenchmarksAgree(t *testing.T) {
+	data := bench()
+	for _, set := range benchSets {
+		patterns := data.words[set.from : set.from+set.count]
+		ac := built(t, patterns, WithKind(LeftmostFirst))
+		text := data.text[:4000]
+		all, err := ac.FindAllString(text)
+		equal(t, set.name, nil, err)
+		var places [][]int
+		for _, m := range all {
+			places = append(places, []int{m.Start, m.End})
+		}
+		if set.count < slow {
+			equal(t, set.name, alternation(patterns).FindAllStringIndex(text, -1), places)
+		}
+		replaced, err := ac.ReplaceAllString(text, starred(patterns))
+		equal(t, set.name, nil, err)
+		equal(t, set.name, stringsReplacer(patterns).Replace(text), replaced)
+	}
+}

@@ -1,0 +1,3 @@
+module dadofennel
+
+go 1.19

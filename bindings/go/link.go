@@ -1,0 +1,6 @@
+//go:build !dadofennel_static
+
+package dadofennel
+
+// #cgo pkg-config: dadofennel
+import "C"

@@ -33,8 +33,9 @@ class Emulated(Here):
         self.system = os.path.dirname(os.path.dirname(os.path.realpath(loader.stdout.decode().strip())))
 
     def by(self, *more):
-        """The words that run a program."""
-        return [EMULATOR, "-L", self.system, *more]
+        """The words that run a program. It has 4 GiB of addresses: with more, the emulator takes memory for texts of 64 TiB, which a test
+        asks for to see that there are none."""
+        return [EMULATOR, "-R", "4G", "-L", self.system, *more]
 
     def compiled(self, name, *words):
         """Compiles a program, and returns its path."""

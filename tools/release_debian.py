@@ -8,6 +8,7 @@ import tempfile
 import time
 
 import release_files
+from release_files import write
 
 MAINTAINER = "Dadofennel maintainers <maintainers@users.noreply.dadofennel.example>"
 
@@ -86,12 +87,6 @@ dadofennel ({version}) unstable; urgency=medium
 
  -- {maintainer}  {date}
 """
-
-
-def write(path, data):
-    os.makedirs(os.path.dirname(path), exist_ok=True)
-    with open(path, "wb") as file:
-        file.write(data if isinstance(data, bytes) else data.encode())
 
 
 def put(source, to):

@@ -34,10 +34,10 @@ def digest(path):
         return hashlib.sha256(file.read()).hexdigest()
 
 
-def write(path, text):
+def write(path, data):
     os.makedirs(os.path.dirname(path), exist_ok=True)
-    with open(path, "w") as file:
-        file.write(text)
+    with open(path, "wb") as file:
+        file.write(data if isinstance(data, bytes) else data.encode())
 
 
 def only(pattern):

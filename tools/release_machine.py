@@ -1,4 +1,5 @@
 """The machines that a release is for: what each is called, what it needs, and what compiles for it."""
+import contextlib
 import os
 import shlex
 from typing import NamedTuple
@@ -13,7 +14,8 @@ class Machine(NamedTuple):
     name: str
     debian: str
     multiarch: str
-    target: str
+    target: str  # Rust's name
+    node: str
     processors: tuple  # for which the archives of ac_c are compiled; PROVED has a verdict of each
     needs: str  # beyond what every processor of this kind has
     variable: str  # the environment's name of the compiler, and which it is without that
@@ -37,14 +39,26 @@ class Machine(NamedTuple):
 
 
 X86_64 = Machine(
-    "x86_64", "amd64", "x86_64-linux-gnu", "x86_64-unknown-linux-gnu", ("x86-64-v2", "x86-64-v3"),
+    "x86_64", "amd64", "x86_64-linux-gnu", "x86_64-unknown-linux-gnu", "x64", ("x86-64-v2", "x86-64-v3"),
     "a processor of x86-64-v2, so with SSE4.2 and POPCNT", "CC", "cc",
 )
 AARCH64 = Machine(
-    "aarch64", "arm64", "aarch64-linux-gnu", "aarch64-unknown-linux-gnu", ("aarch64",),
+    "aarch64", "arm64", "aarch64-linux-gnu", "aarch64-unknown-linux-gnu", "arm64", ("aarch64",),
     "", "CC_AARCH64", "aarch64-linux-gnu-gcc",
 )
 ALL = {it.name: it for it in (X86_64, AARCH64)}
+
+
+@contextlib.contextmanager
+def compiling_for(machine):
+    """An environment in which CC is a machine's compiler. What is changed besides is as before at the end, too."""
+    before = dict(os.environ)
+    os.environ["CC"] = shlex.join(machine.compiler())
+    try:
+        yield
+    finally:
+        os.environ.clear()
+        os.environ.update(before)
 
 
 class Built(NamedTuple):

@@ -30,6 +30,23 @@ class Rows:
             print(f"FAILED  {name}\n{error}", flush=True)
             return False
 
+    def group(self, name, call, *words):
+        """Tries what another module tries: it prints a row for each thing, and returns how many passed and how many failed; or it returns
+        a line for each thing that passed, or nothing where that was one thing, and fails as a row does."""
+        try:
+            told = call(*words)
+        except (AssertionError, OSError, ValueError, subprocess.SubprocessError) as error:
+            self.failed += 1
+            print(f"FAILED  {name}\n{error}", flush=True)
+            return
+        if isinstance(told, tuple):
+            self.passed, self.failed = self.passed + told[0], self.failed + told[1]
+            return
+        lines = [name] if told is None else told
+        self.passed += len(lines)
+        for line in lines:
+            print(f"ok      {line}", flush=True)
+
     def leave_out(self, what):
         self.absent += 1
         print(f"left out: {what}", flush=True)

@@ -20,11 +20,16 @@ GIVEN = "The quick fox in the foxglove.\n" * 3000
 PIECES = GIVEN.replace("quick", "slow").replace("foxglove", "rose").replace("fox", "sloth")
 
 
+def number_of(version):
+    """The version that programs say: 1.0.0 of 1.0.0~rc1."""
+    return re.match(r"[0-9.]+", version)[0]
+
+
 def program_works(room, program, version):
     """The stored run of the program, a row of each mode, a long run, and a fault."""
     with open(f"{CRATE}/stdin") as given, open(f"{CRATE}/stdout") as expected, open(f"{CRATE}/args") as words:
         equal(room.must(program, *words.read().split(), given=given.read(), folder=room.rows), expected.read())
-    equal(room.must(program, "--version").strip(), f"acsub {version}")
+    equal(room.must(program, "--version").strip(), f"acsub {number_of(version)}")
     text = "The quick brown fox.\n"
     for mode, shown in (("replace", "The slow grey sloth.\n"), ("list", "2 4 9\n1 10 15\n0 16 19\n"), ("mask", "The ***** ***** ***.\n")):
         equal(room.must(program, mode, "words.tsv", "--text", given=text, folder=room.rows), shown)
@@ -64,7 +69,7 @@ def by_pkg_config(room, prefix, lib, examples, out, **variables):
 
 def by_cmake(room, prefix, examples, version, out):
     room.must("mkdir", "-p", out)
-    room.write(f"{out}/CMakeLists.txt", CMAKE.format(version=re.match(r"[0-9.]+", version)[0], examples=examples))
+    room.write(f"{out}/CMakeLists.txt", CMAKE.format(version=number_of(version), examples=examples))
     room.must("cmake", "-S", out, "-B", f"{out}/made", *([f"-DCMAKE_PREFIX_PATH={prefix}"] if prefix else []))
     room.must("cmake", "--build", f"{out}/made")
     for form in ("dadofennel", "static"):

@@ -11,7 +11,11 @@ import tempfile
 
 import launch
 import release_aarch64
+import release_arm64
+import release_crates
 import release_files
+import release_node
+import release_wheel
 from release_room import COMPILERS, TOOLCHAIN, Here, Room, Rows, equal, without_toolchain
 from release_rows import by_cmake, by_pkg_config, examples_work, program_works
 
@@ -93,44 +97,52 @@ def lintian_is_clean(packages):
 
 def in_debian(rows, room, dist, version):
     """All of it, in a Debian of its own."""
-    packages = {it: f"{it}_{version}_amd64.deb" for it in PACKAGES}
     name = f"dadofennel-{version}-linux-{MACHINE}"
-    for it in [*packages.values(), f"{name}.tar.gz"]:
-        room.bring(f"{dist}/{it}", f"/dist/{it}")
+    packages = {it: f"/dist/{it}_{version}_amd64.deb" for it in PACKAGES if os.path.exists(f"{dist}/{it}_{version}_amd64.deb")}
+    for it in [*packages.values(), f"/dist/{name}.tar.gz"]:
+        room.bring(f"{dist}/{os.path.basename(it)}", it)
     room.bring_rows()
     rows.row("a bare Debian has no toolchain and no compiler", is_bare, room)
-    both = [f"/dist/{packages[it]}" for it in ("acsub", "libdadofennel1")]
-    rows.row("acsub and libdadofennel1 are installed", room.must, "dpkg", "-i", *both)
-    rows.row("the program of the package", program_works, room, "acsub", version)
+    if packages:
+        rows.row("acsub and libdadofennel1 are installed", room.must, "dpkg", "-i", packages["acsub"], packages["libdadofennel1"])
+        rows.row("the program of the package", program_works, room, "acsub", version)
+    else:
+        rows.leave_out("Debian's packages: the release has none")
     rows.row("the tarball is unpacked", room.must, "tar", "-xzf", f"/dist/{name}.tar.gz", "-C", "/opt")
     rows.row("the program of the tarball", program_works, room, f"/opt/{name}/bin/acsub", version)
     rows.row("a compiler is installed", has, room, *NEEDED)
-    rows.row("libdadofennel-dev is installed", room.must, "dpkg", "-i", f"/dist/{packages['libdadofennel-dev']}")
-    rows.row("the package's examples, by pkg-config", by_pkg_config, room, "", "/usr/lib/x86_64-linux-gnu", EXAMPLES, "/built/package")
-    rows.row("the package's examples, by CMake", by_cmake, room, "", EXAMPLES, version, "/built/package-cmake")
-    rows.row("what the packages bring goes with them", packages_leave_nothing, room, *PACKAGES)
+    if packages:
+        rows.row("libdadofennel-dev is installed", room.must, "dpkg", "-i", packages["libdadofennel-dev"])
+        rows.row("the package's examples, by pkg-config", by_pkg_config, room, "", "/usr/lib/x86_64-linux-gnu", EXAMPLES, "/built/package")
+        rows.row("the package's examples, by CMake", by_cmake, room, "", EXAMPLES, version, "/built/package-cmake")
+        rows.row("what the packages bring goes with them", packages_leave_nothing, room, *PACKAGES)
     for prefix in (f"/opt/{name}", "/srv/moved"):
         if prefix == "/srv/moved":
             room.must("mv", f"/opt/{name}", prefix)
         examples = f"{prefix}/share/doc/dadofennel/examples"
         rows.row(f"the examples in {prefix}, by pkg-config", by_pkg_config, room, prefix, f"{prefix}/lib", examples, f"/built{prefix}")
         rows.row(f"the examples in {prefix}, by CMake", by_cmake, room, prefix, examples, version, f"/built{prefix}-cmake")
-    for wheel in glob.glob(f"{dist}/*_{MACHINE}.whl"):
-        python_in_debian(rows, room, wheel, f"{dist}/{PACKAGE}_{version}_amd64.deb")
+    python_in_debian(rows, room, dist, version)
 
 
-def python_in_debian(rows, room, wheel, package):
+def python_in_debian(rows, room, dist, version):
     """The wheel, and the package of Debian that was made of it, by Debian's Python."""
-    for it in (wheel, package):
+    wheels = glob.glob(f"{dist}/*_{MACHINE}.whl")
+    packages = glob.glob(f"{dist}/{PACKAGE}_{version}_amd64.deb")
+    if not wheels:
+        return rows.leave_out("the wheel in Debian: the release has none")
+    for it in wheels + packages:
         room.bring(it, f"/dist/{os.path.basename(it)}")
     room.bring(f"{launch.REPOSITORY}/bindings/python/tests", "/tests")
     rows.row("Python is installed", has, room, *PYTHON)
-    rows.row("pip installs the wheel", is_installed_by_pip, room, f"/dist/{os.path.basename(wheel)}")
+    rows.row("pip installs the wheel", is_installed_by_pip, room, f"/dist/{os.path.basename(wheels[0])}")
     rows.row("the tests of Python's package, by the wheel", module_works, room, "/venv/bin/python")
-    rows.row(f"{PACKAGE} is installed", room.must, "dpkg", "-i", f"/dist/{os.path.basename(package)}")
-    rows.row(f"the tests of Python's package, by {PACKAGE}", module_works, room, "/usr/bin/python3")
     room.must("rm", "-r", "/venv")
-    rows.row(f"what {PACKAGE} brings goes with it", packages_leave_nothing, room, PACKAGE)
+    for it in packages:
+        rows.row(f"{PACKAGE} is installed", room.must, "dpkg", "-i", f"/dist/{os.path.basename(it)}")
+        rows.row(f"the tests of Python's package, by {PACKAGE}", module_works, room, "/usr/bin/python3")
+        rows.row(f"what {PACKAGE} brings goes with it", packages_leave_nothing, room, PACKAGE)
+    return None
 
 
 def with_libc_alone(rows, room, dist, version):
@@ -174,20 +186,6 @@ def debian(rows, folder, made_before):
 # ---- On what this machine has ----
 
 
-def pythons():
-    """The CPythons of this machine from 3.8 on: those on the PATH, and pyenv's."""
-    places = os.environ["PATH"].split(os.pathsep) + sorted(glob.glob(os.path.expanduser("~/.pyenv/versions/*/bin")))
-    names = [it for at in places for it in sorted(glob.glob(f"{at}/python3*")) if re.fullmatch(r"python3(\.[0-9]+)?", os.path.basename(it))]
-    asks = "import os, sys; print(sys.implementation.name, sys.version_info >= (3, 8), os.path.realpath(sys.executable))"
-    found = []
-    for name in names:
-        ran = subprocess.run([name, "-c", asks], stdout=subprocess.PIPE, stderr=subprocess.DEVNULL)
-        said = ran.stdout.decode().split()
-        if ran.returncode == 0 and said[:2] == ["cpython", "True"] and said[2] not in found:
-            found.append(said[2])
-    return found
-
-
 def version_of(dist):
     """The version of the release in a folder."""
     found = glob.glob(f"{dist}/dadofennel-*-linux-{MACHINE}.tar.gz")
@@ -196,27 +194,45 @@ def version_of(dist):
     return re.search(r"dadofennel-(.*)-linux", os.path.basename(found[0]))[1]
 
 
+def here(rows, dist, pythons):
+    """The wheel by these Pythons, or all that are here; the crates and the package for Node."""
+    if glob.glob(f"{dist}/*_{MACHINE}.whl"):
+        rows.group("the wheel", release_wheel.tried, dist, pythons)
+    if glob.glob(f"{dist}/*.crate") and (shutil.which("cargo") or rows.leave_out("the crates (cargo)")):
+        rows.group("the crates", release_crates.tried, dist)
+    for package in glob.glob(f"{dist}/*.tgz"):
+        if shutil.which("node") and shutil.which("npm") or rows.leave_out("the package for Node (node, npm)"):
+            rows.group("the package for Node", release_node.tried, package)
+
+
+def on_aarch64(rows, dist, version, outer):
+    """What is for aarch64, under an emulator, beside the program of this machine."""
+    name = f"dadofennel-{version}-linux-{MACHINE}"
+    subprocess.run(["tar", "-xzf", f"{dist}/{name}.tar.gz", "-C", outer], check=True)
+    release_aarch64.tried(rows, dist, version, outer, f"{outer}/{name}/bin/acsub")
+    release_arm64.tried(rows, dist, version, outer)
+
+
 def tried(dist, made_before):
     """Tries the files of a folder, and returns 1 where something failed."""
     version, rows = version_of(dist), Rows()
     with tempfile.TemporaryDirectory(prefix="release-try-") as outer:
         os.chmod(outer, 0o755)
-        folder, arm = f"{outer}/root", f"{outer}/aarch64"
+        folder = f"{outer}/root"
         os.mkdir(folder)
-        os.mkdir(arm)
         rows.row("SHA256SUMS", sums_hold, dist)
         rows.row("PROVED", proved_names_all, dist)
-        if shutil.which("lintian"):
-            rows.row("lintian", lintian_is_clean, sorted(glob.glob(f"{dist}/*.deb")))
-        else:
-            rows.leave_out("lintian")
+        packages = sorted(glob.glob(f"{dist}/*.deb"))
+        if packages and (shutil.which("lintian") or rows.leave_out("lintian")):
+            rows.row("lintian", lintian_is_clean, packages)
         (in_debian if debian(rows, folder, made_before) else with_libc_alone)(rows, Room(folder), dist, version)
-        release_aarch64.tried(rows, dist, version, arm, None)
+        here(rows, dist, None)
+        on_aarch64(rows, dist, version, outer)
     return rows.ended()
 
 
 def tried_here(dist):
-    """Tries the tar on this machine, with a PATH that lacks the toolchain."""
+    """Tries the tar and the wheel on this machine, with a PATH that lacks the toolchain."""
     version, rows = version_of(dist), Rows()
     os.environ["PATH"] = without_toolchain(os.environ["PATH"])
     with tempfile.TemporaryDirectory(prefix="release-try-") as folder:
@@ -235,4 +251,5 @@ def tried_here(dist):
             rows.row("the examples, by CMake", by_cmake, room, prefix, examples, version, f"{folder}/cmake")
         else:
             rows.leave_out("the examples, by CMake (cmake)")
+        here(rows, dist, [sys.executable])
     return rows.ended()

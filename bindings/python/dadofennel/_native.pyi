@@ -10,6 +10,7 @@ NO_MEMORY: int
 PATTERN_TOO_LONG: int
 SHORT: int
 ROOM: int
+ALL_WORDS: int
 KINDS: Tuple[str, ...]
 START_KINDS: Tuple[str, ...]
 ENGINES: Tuple[str, ...]

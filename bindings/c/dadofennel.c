@@ -187,18 +187,24 @@ dado_place dado_place_over(size_t start, size_t end) {
     return place;
 }
 
-dado_status dado_overlapping_some(const dado_automaton *ac, const void *haystack, size_t len, dado_place *place, dado_match *out,
-                                  size_t room, size_t *count) {
+/* The next occurrences of a listing; or its next whole words, if `words` isn't 0. */
+static dado_status list_some(const dado_automaton *ac, const void *haystack, size_t len, uint32_t words, dado_place *place,
+                             dado_match *out, size_t room, size_t *count) {
     dado_raw_listed listed;
     if (count == NULL) return DADO_BAD_ARGUMENT;
     *count = 0;
     if (ac == NULL) return DADO_NO_AUTOMATON;
     if (place == NULL || (out == NULL && room != 0) || (haystack == NULL && len != 0)) return DADO_BAD_ARGUMENT;
     listed = proved()->list(ac, haystack, len, place->start, place->end, place->last.start, place->last.end, place->last.pattern,
-                           place->begun, out, room);
+                            place->begun, words, out, room);
     if (listed.status == DADO_OK || listed.status == DADO_NONE) *place = listed.place;
     *count = listed.count;
     return listed.status;
+}
+
+dado_status dado_overlapping_some(const dado_automaton *ac, const void *haystack, size_t len, dado_place *place, dado_match *out,
+                                  size_t room, size_t *count) {
+    return list_some(ac, haystack, len, 0, place, out, room, count);
 }
 
 /* ---- Whole words ---- */
@@ -218,16 +224,7 @@ dado_status dado_words_some(const dado_automaton *ac, uint32_t kind, const void 
 
 dado_status dado_overlapping_words_some(const dado_automaton *ac, const void *haystack, size_t len, dado_place *place, dado_match *out,
                                         size_t room, size_t *count) {
-    dado_raw_listed listed;
-    if (count == NULL) return DADO_BAD_ARGUMENT;
-    *count = 0;
-    if (ac == NULL) return DADO_NO_AUTOMATON;
-    if (place == NULL || (out == NULL && room != 0) || (haystack == NULL && len != 0)) return DADO_BAD_ARGUMENT;
-    listed = proved()->list_words(ac, haystack, len, place->start, place->end, place->last.start, place->last.end, place->last.pattern,
-                                 place->begun, out, room);
-    if (listed.status == DADO_OK || listed.status == DADO_NONE) *place = listed.place;
-    *count = listed.count;
-    return listed.status;
+    return list_some(ac, haystack, len, 1, place, out, room, count);
 }
 
 /* ---- Replacement ---- */
@@ -294,6 +291,12 @@ dado_status dado_word_stream_new(const dado_automaton *ac, uint32_t kind, dado_s
     if (stream == NULL) return DADO_BAD_ARGUMENT;
     if (ac == NULL) return DADO_NO_AUTOMATON;
     return proved()->word_stream_new(ac, kind, stream);
+}
+
+dado_status dado_all_words_stream_new(const dado_automaton *ac, dado_stream **stream) {
+    if (stream == NULL) return DADO_BAD_ARGUMENT;
+    if (ac == NULL) return DADO_NO_AUTOMATON;
+    return proved()->all_words_stream_new(ac, stream);
 }
 
 dado_status dado_stream_push(dado_stream **stream, const void *piece, size_t len, size_t *taken) {

@@ -231,7 +231,7 @@ typedef struct dado_text {
 typedef struct dado_stream dado_stream;
 
 /* What a stream holds of the bytes that were pushed: `len` bytes at `at`, the last ones. The first of them has the place `from`. All
- * bytes before the place `cut` are decided: no match that is still to come begins before it. */
+ * bytes before the place `cut` are decided: no match that is still to come begins before it; of all whole words, none ends before it. */
 typedef struct dado_held {
     const uint8_t *at;
     size_t len, from, cut;
@@ -498,8 +498,8 @@ dado_status dado_replace_words(const dado_automaton *ac, uint32_t kind, const vo
  *         use(many, count);
  *     dado_stream_free(&stream);
  *
- * To replace the matches, make a replacer of the automaton, below. A stream of whole words is made by dado_word_stream_new, and serves in
- * the same calls: what these say of a match, they do of a word.
+ * To replace the matches, make a replacer of the automaton, below. A stream of whole words is made by dado_word_stream_new, or by
+ * dado_all_words_stream_new, and serves in the same calls: what these say of a match, they do of a word.
  */
 
 /*
@@ -516,8 +516,7 @@ dado_status dado_stream_new(const dado_automaton *ac, dado_stream **stream);
 /*
  * Makes a stream of the whole words of a text under `kind`: they are those of the whole text by dado_words_some, wherever one piece ends
  * and the next begins. A word is decided once the byte after it was pushed, or the stream is finished; under a leftmost kind, once no byte
- * that may follow can change it either. The stream is put at `*stream`. A stream that was there is freed, once the new one is made. It owns
- * the automaton too, which may be freed before it.
+ * that may follow can change it either. The stream is put at `*stream`, as by dado_stream_new.
  *
  * DADO_NO_AUTOMATON; DADO_BAD_ARGUMENT: `stream` is NULL; DADO_BAD_KIND: `kind` is none of the three; DADO_NOT_UNANCHORED: the automaton
  * was built for anchored searches alone; DADO_NOT_STANDARD: it is of a leftmost kind itself; DADO_EMPTY_PATTERN: one of its patterns is
@@ -526,6 +525,13 @@ dado_status dado_stream_new(const dado_automaton *ac, dado_stream **stream);
  * Takes 64 KiB of memory, or 8 times one byte more than the longest pattern has, and no more in the calls after that.
  */
 dado_status dado_word_stream_new(const dado_automaton *ac, uint32_t kind, dado_stream **stream);
+
+/*
+ * The same of all whole words, overlapping ones too: they are those of the whole text by dado_overlapping_words_some, in its order. A word
+ * is decided once the byte after it was pushed, or the stream is finished. One that is still to come may begin before the cut of
+ * dado_stream_view, so what lies before the cut can't be passed on. There is no DADO_BAD_KIND; the other statuses are tested as above.
+ */
+dado_status dado_all_words_stream_new(const dado_automaton *ac, dado_stream **stream);
 
 /*
  * Takes the first bytes of a piece, after all that was pushed before; how many, to `*taken`. The piece isn't needed after the call.
@@ -622,8 +628,7 @@ dado_status dado_replacer_new(const dado_automaton *ac, dado_replacer **replacer
  * `*replacer` is NULL; DADO_FINISHED: the replacer was finished; DADO_TOO_MANY_BYTES: there are more bytes than places now, and no call
  * gives text after that. At all but the first `*taken` is 0. At all but the first and the last the replacer is unchanged.
  *
- * It copies each byte once, and moves a seventh of all bytes at most. It takes no memory. A slice of the text that was given before
- * isn't there any more.
+ * It copies each byte once, and moves a seventh of all bytes at most. It takes no memory. The slices that were given before are gone.
  */
 dado_status dado_replacer_push(dado_replacer **replacer, const void *piece, size_t len, size_t *taken);
 
@@ -637,11 +642,7 @@ dado_status dado_replacer_push(dado_replacer **replacer, const void *piece, size
  * isn't empty, is NULL; DADO_NO_REPLACER: `*replacer` is NULL; DADO_WRONG_COUNT: `count` isn't the number of patterns, and the replacer is
  * unchanged. `*slice` is written at DADO_OK alone.
  *
- * All calls together look at no more than two states for each byte that was pushed, or at one with a DFA. A call may read ahead: under
- * the standard kind it looks at one state for each of at most 8192 bytes past those that it searches, and none of these is looked at
- * again. Under a leftmost kind, what was read ahead may be lost where the search begins again after a match, so each byte may be read
- * once more than it would be without reading ahead; and after each match at most as many bytes as the longest pattern has, and one, are
- * read again. It takes no memory.
+ * All calls together look at states as often as those of dado_stream_some do. It takes no memory.
  */
 dado_status dado_replacer_next(dado_replacer **replacer, const dado_bytes *replacements, size_t count, dado_bytes *slice);
 
@@ -709,8 +710,7 @@ dado_status dado_mask_words(const dado_automaton *ac, void *text, size_t len, ui
  * is made. It owns the automaton too, which may be freed before it.
  *
  * DADO_NO_AUTOMATON; DADO_BAD_ARGUMENT: `masker` is NULL; DADO_NOT_UNANCHORED: the automaton was built for anchored searches alone;
- * DADO_NOT_STANDARD: it is of a leftmost kind; DADO_EMPTY_PATTERN: one of its patterns is empty; DADO_NO_MEMORY. `*masker` is unchanged
- * at these.
+ * DADO_NOT_STANDARD: it is of a leftmost kind; DADO_EMPTY_PATTERN: one of its patterns is empty; DADO_NO_MEMORY. It is unchanged at these.
  *
  * Takes memory: one buffer of 64 KiB, or of eight of the longest pattern if that is more.
  */

@@ -84,10 +84,7 @@ typedef struct dado_raw_view {
           uint32_t earliest, dado_match *out, size_t room))                                                                                \
     CALL(dado_raw_listed, list,                                                                                                            \
          (const dado_automaton *at, const uint8_t *haystack, size_t len, size_t start, size_t end, size_t last_start, size_t last_end,     \
-          uint32_t last_pattern, uint32_t begun, dado_match *out, size_t room))                                                            \
-    CALL(dado_raw_listed, list_words,                                                                                                      \
-         (const dado_automaton *at, const uint8_t *haystack, size_t len, size_t start, size_t end, size_t last_start, size_t last_end,     \
-          uint32_t last_pattern, uint32_t begun, dado_match *out, size_t room))                                                            \
+          uint32_t last_pattern, uint32_t begun, uint32_t words, dado_match *out, size_t room))                                            \
     CALL(dado_raw_given, words,                                                                                                            \
          (const dado_automaton *at, uint32_t kind, const uint8_t *haystack, size_t len, size_t from, dado_match *out, size_t room))        \
     CALL(dado_raw_length, replace_into,                                                                                                    \
@@ -102,6 +99,7 @@ typedef struct dado_raw_view {
     CALL(void, text_free, (void **owner))                                                                                                  \
     CALL(dado_status, stream_new, (const dado_automaton *at, dado_stream **stream))                                                        \
     CALL(dado_status, word_stream_new, (const dado_automaton *at, uint32_t kind, dado_stream **stream))                                    \
+    CALL(dado_status, all_words_stream_new, (const dado_automaton *at, dado_stream **stream))                                              \
     CALL(dado_raw_count, stream_push, (dado_stream **stream, const uint8_t *piece, size_t len))                                            \
     CALL(dado_raw_count, stream_some, (dado_stream **stream, dado_match *out, size_t room))                                                \
     CALL(dado_raw_view, stream_view, (dado_stream **stream, const uint8_t **at))                                                           \

@@ -71,7 +71,7 @@ int main(void) {
     long begun = held, failed = 0, n, before;
     uint32_t engine;
     dado_automaton *ac = NULL, *two = NULL;
-    dado_stream *stream = NULL, *words = NULL, *kept;
+    dado_stream *stream = NULL, *words = NULL, *all = NULL, *kept;
     dado_replacer *replacer = NULL, *begun_one;
     dado_masker *masker = NULL, *made_one;
     dado_held there;
@@ -146,6 +146,17 @@ int main(void) {
     for (n = 0;; n++, failed++) {
         dado_status status;
         before = held, left = n;
+        status = dado_all_words_stream_new(ac, &all);
+        left = -1;
+        if (status == DADO_OK || n > 1000) break;
+        CHECK(status == DADO_NO_MEMORY && all == NULL && held == before);
+    }
+    CHECK(n >= 2);
+    kept = all, before = held, left = 0;
+    CHECK(dado_all_words_stream_new(ac, &all) == DADO_NO_MEMORY && all == kept && held == before);
+    for (n = 0;; n++, failed++) {
+        dado_status status;
+        before = held, left = n;
         status = dado_replacer_new(ac, &replacer);
         left = -1;
         if (status == DADO_OK || n > 1000) break;
@@ -199,6 +210,9 @@ int main(void) {
         CHECK(dado_stream_push(&words, BYTES(TEXT), &count) == DADO_OK && count == 20);
         CHECK(dado_stream_some(&words, many, 4, &count) == DADO_OK && count == 3);
         CHECK(dado_stream_finish(&words) == DADO_OK);
+        CHECK(dado_stream_push(&all, BYTES(TEXT), &count) == DADO_OK && count == 20);
+        CHECK(dado_stream_some(&all, many, 4, &count) == DADO_OK && count == 3);
+        CHECK(dado_stream_finish(&all) == DADO_OK);
         CHECK(dado_replacer_push(&replacer, BYTES(TEXT), &count) == DADO_OK && count == 20);
         CHECK(dado_replacer_finish(&replacer) == DADO_OK);
         for (n = 0; dado_replacer_next(&replacer, SLOTH, 3, &slice) == DADO_OK;) n++;
@@ -214,6 +228,7 @@ int main(void) {
     CHECK(held == before);
     dado_stream_free(&stream);
     dado_stream_free(&words);
+    dado_stream_free(&all);
     dado_replacer_free(&replacer);
     dado_masker_free(&masker);
     dado_free(&ac);

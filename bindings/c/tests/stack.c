@@ -42,20 +42,22 @@ static void *searches(void *nothing) {
 static void *pieces(void *nothing) {
     static dado_match out[64];
     static dado_bytes instead[COUNT];
-    dado_stream *stream = NULL, *words = NULL;
+    dado_stream *stream = NULL, *words = NULL, *all = NULL;
     dado_replacer *replacer = NULL;
     dado_masker *masker = NULL;
     dado_bytes slice;
     size_t taken, written;
-    dado_stream_new(ac, &stream), dado_word_stream_new(ac, DADO_LEFTMOST_FIRST, &words);
+    dado_stream_new(ac, &stream), dado_word_stream_new(ac, DADO_LEFTMOST_FIRST, &words), dado_all_words_stream_new(ac, &all);
     dado_replacer_new(ac, &replacer), dado_masker_new(ac, '*', &masker);
     dado_stream_push(&stream, text, LEN, &taken), dado_stream_push(&words, text, LEN, &taken);
+    dado_stream_push(&all, text, LEN, &taken);
     dado_replacer_push(&replacer, text, LEN, &taken), dado_masker_push(&masker, text, LEN, &taken);
     while (dado_stream_some(&stream, out, 64, &written) == DADO_OK) {}
     while (dado_stream_some(&words, out, 64, &written) == DADO_OK) {}
+    while (dado_stream_some(&all, out, 64, &written) == DADO_OK) {}
     while (dado_replacer_next(&replacer, instead, count, &slice) == DADO_OK) {}
     dado_masker_ready(&masker, &slice);
-    dado_stream_free(&stream), dado_stream_free(&words), dado_replacer_free(&replacer), dado_masker_free(&masker);
+    dado_stream_free(&stream), dado_stream_free(&words), dado_stream_free(&all), dado_replacer_free(&replacer), dado_masker_free(&masker);
     return nothing;
 }
 

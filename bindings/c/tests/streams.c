@@ -1,4 +1,5 @@
-/* Text in pieces: the matches, and the text that a caller writes by them, are those of the whole text; and each status of each call. */
+/* Text in pieces: the matches, and the text that a caller writes by them, are those of the whole text, and so are all its whole words; and
+ * each status of each call. */
 #include "text.h"
 
 enum { MOST = 100000 };
@@ -86,6 +87,49 @@ static void pieces(void) {
             CHECK(whole_count > 5000);
             dado_free(&ac);
         }
+}
+
+/* All whole words of the first `len` bytes in pieces of a size, beside those of the whole. */
+static void all_words_of(const dado_automaton *ac, size_t len, size_t size, size_t room) {
+    static dado_match many[64];
+    dado_stream *stream = NULL;
+    dado_place place = dado_place_over(0, len);
+    size_t at = 0, taken, count, i, wrong = 0;
+    int over = 0;
+    whole_count = told_count = 0;
+    CHECK(dado_overlapping_words_some(ac, text, len, &place, whole, MOST, &whole_count) <= DADO_NONE && whole_count < MOST);
+    CHECK(dado_all_words_stream_new(ac, &stream) == DADO_OK);
+    while (!over) {
+        over = at == len;
+        if (over) CHECK(dado_stream_finish(&stream) == DADO_OK);
+        else CHECK(dado_stream_push(&stream, text + at, len - at < size ? len - at : size, &taken) == DADO_OK && taken >= 1);
+        if (!over) at += taken;
+        while (dado_stream_some(&stream, many, room, &count) == DADO_OK)
+            for (i = 0; i < count; i++, told_count++)
+                wrong += told_count >= whole_count ||
+                         !is(&many[i], whole[told_count].pattern, whole[told_count].start, whole[told_count].end);
+    }
+    CHECK(told_count == whole_count && wrong == 0);
+    dado_stream_free(&stream);
+}
+
+/* By each engine, in pieces that are shorter and longer than the stream's memory. */
+static void all_words(void) {
+    static const dado_bytes words[] = {WORD("append"), WORD("the app"), WORD("append the"), WORD("app"), WORD("bca")};
+    uint32_t engine;
+    for (engine = DADO_AUTO; engine <= DADO_DFA; engine++) {
+        dado_automaton *ac = NULL;
+        dado_settings s = dado_settings_default();
+        s.engine = engine;
+        CHECK(dado_build(words, 5, &s, &ac, NULL) == DADO_OK);
+        all_words_of(ac, 0, 1, 1);
+        all_words_of(ac, 3000, 1, 1);
+        all_words_of(ac, 70000, 65536, 64);
+        all_words_of(ac, LEN, 4096, 7);
+        all_words_of(ac, LEN, LEN, 64);
+        CHECK(whole_count > 100);
+        dado_free(&ac);
+    }
 }
 
 /* When a match is given, what is held, and what a push takes. */
@@ -189,5 +233,6 @@ int main(void) {
     statuses();
     turns();
     pieces();
+    all_words();
     return done("streams");
 }

@@ -1,8 +1,9 @@
-/* Whole words, one after another, in pieces, all of them, replaced and masked: rows, batches of each size, texts beside a loop that compares each
+/* Whole words, one after another, all of them, both in pieces, replaced and masked: rows, batches of each size, texts beside a loop that compares each
  * pattern at each place, and each status. */
 #include "check.h"
 
-static const uint32_t KINDS[] = {DADO_STANDARD, DADO_LEFTMOST_FIRST, DADO_LEFTMOST_LONGEST};
+/* The kinds, and what asks for all words. */
+static const uint32_t KINDS[] = {DADO_STANDARD, DADO_LEFTMOST_FIRST, DADO_LEFTMOST_LONGEST}, ALL = 3;
 static const dado_bytes CAT[] = {WORD("cat")}, NEW[] = {WORD("new"), WORD("new york")};
 
 static int is_word_byte(uint8_t byte) {
@@ -44,10 +45,14 @@ static void in_pieces(const dado_automaton *ac, uint32_t kind, const uint8_t *at
     static dado_match whole[300], many[3];
     dado_stream *stream = NULL;
     dado_held held = {NULL, 0, 0, 0};
+    dado_place place = dado_place_over(0, len);
     size_t from = 0, count = 0, told = 0, pushed = 0, given, taken, i;
     dado_status status;
-    CHECK(dado_words_some(ac, kind, at, len, &from, whole, 300, &count) <= DADO_NONE && count < 300);
-    CHECK(dado_word_stream_new(ac, kind, &stream) == DADO_OK && stream != NULL);
+    status = kind == ALL ? dado_overlapping_words_some(ac, at, len, &place, whole, 300, &count)
+                         : dado_words_some(ac, kind, at, len, &from, whole, 300, &count);
+    CHECK(status <= DADO_NONE && count < 300);
+    status = kind == ALL ? dado_all_words_stream_new(ac, &stream) : dado_word_stream_new(ac, kind, &stream);
+    CHECK(status == DADO_OK && stream != NULL);
     for (;;) {
         while ((status = dado_stream_some(&stream, many, 3, &given)) == DADO_OK) {
             CHECK(given >= 1 && given <= 3 && told + given <= count);
@@ -60,9 +65,9 @@ static void in_pieces(const dado_automaton *ac, uint32_t kind, const uint8_t *at
         }
         CHECK(status == DADO_NONE && given == 0);
         CHECK(dado_stream_view(&stream, &held) == DADO_OK && held.from + held.len == pushed && held.cut <= pushed);
-        CHECK(told == count || held.cut <= whole[told].start);
-        /* under standard a word comes with the byte after it */
-        CHECK(kind != DADO_STANDARD || told == count || whole[told].end >= pushed);
+        CHECK(told == count || held.cut <= (kind == ALL ? whole[told].end : whole[told].start));
+        /* under standard a word comes with the byte after it, and so do all words */
+        CHECK((kind != DADO_STANDARD && kind != ALL) || told == count || whole[told].end >= pushed);
         if (pushed == len) break;
         CHECK(dado_stream_push(&stream, at + pushed, len - pushed < size ? len - pushed : size, &taken) == DADO_OK && taken >= 1);
         pushed += taken;
@@ -236,6 +241,7 @@ static void rows(void) {
             }
         }
         for (room = 1; room <= 3; room++) {
+            in_pieces(ac, ALL, at, len, room);
             all_alike(ac, rows[i].patterns, rows[i].count, at, len, dado_place_over(0, len), room);
             all_alike(ac, rows[i].patterns, rows[i].count, at, len, dado_place_over(len / 4, len - len / 4), room);
         }
@@ -272,11 +278,45 @@ static void texts(void) {
             in_pieces(ac, KINDS[k], at, len, 10);
             in_pieces(ac, KINDS[k], at, len, 600);
         }
+        for (k = 1; k <= 600; k = k * 7 / 2) in_pieces(ac, ALL, at, len, k);
         all_alike(ac, words, 6, at, len, dado_place_over(0, len), 1);
         all_alike(ac, words, 6, at, len, dado_place_over(0, len), 64);
         all_alike(ac, words, 6, at, len, dado_place_over(3, len - 5), 7);
         masked_alike(ac, words, 6, at, len, '#');
         dado_free(&ac);
+    }
+}
+
+/* A text with three words that overlap, cut at each place: when each is given, which the byte after it decides. */
+static void all_words_cut(const dado_automaton *ac) {
+    static const uint8_t at[] = "a new york times, yo";
+    size_t cut, count, taken, before;
+    for (cut = 0; cut <= 20; cut++) {
+        dado_stream *stream = NULL;
+        dado_match many[4];
+        CHECK(dado_all_words_stream_new(ac, &stream) == DADO_OK);
+        CHECK(dado_stream_push(&stream, at, cut, &taken) == DADO_OK && taken == cut);
+        CHECK(dado_stream_some(&stream, many, 4, &count) <= DADO_NONE);
+        before = cut < 11 ? 0 : cut < 17 ? 2 : 3;
+        CHECK(count == before);
+        CHECK(dado_stream_push(&stream, at + cut, 20 - cut, &taken) == DADO_OK && taken == 20 - cut);
+        CHECK(dado_stream_some(&stream, many + before, 4 - before, &count) <= DADO_NONE && before + count == 3);
+        CHECK(is(&many[0], 0, 2, 10) && is(&many[1], 2, 6, 10) && is(&many[2], 1, 6, 16));
+        CHECK(dado_stream_finish(&stream) == DADO_OK && dado_stream_some(&stream, many, 4, &count) == DADO_NONE && count == 0);
+        dado_stream_free(&stream);
+    }
+    /* `york` at the end of `new york` waits, and a word byte that follows takes both away */
+    for (cut = 0; cut < 2; cut++) {
+        dado_stream *stream = NULL;
+        dado_match many[4];
+        CHECK(dado_all_words_stream_new(ac, &stream) == DADO_OK);
+        CHECK(dado_stream_push(&stream, BYTES("new york"), &taken) == DADO_OK && taken == 8);
+        CHECK(dado_stream_some(&stream, many, 4, &count) == DADO_NONE && count == 0);
+        CHECK(cut == 0 || dado_stream_push(&stream, BYTES("s"), &taken) == DADO_OK);
+        CHECK(dado_stream_finish(&stream) == DADO_OK);
+        CHECK(dado_stream_some(&stream, many, 4, &count) == (cut == 0 ? DADO_OK : DADO_NONE) && count == (cut == 0 ? 2 : 0));
+        CHECK(cut == 1 || (is(&many[0], 0, 0, 8) && is(&many[1], 2, 4, 8)));
+        dado_stream_free(&stream);
     }
 }
 
@@ -296,6 +336,7 @@ static void overlapping(void) {
     CHECK(dado_overlapping_words_some(ac, BYTES("a new york times, yo"), &place, many, 4, &count) == DADO_NONE && count == 0);
     CHECK(dado_mask_words(ac, text, 20, '*') == DADO_OK && memcmp(text, "a **************, yo", 20) == 0);
     CHECK(dado_mask_words(ac, beside, 14, 'y') == DADO_OK && memcmp(beside, "york_york yyyy", 14) == 0);
+    all_words_cut(ac);
     dado_free(&ac);
 }
 
@@ -330,6 +371,14 @@ static void other_statuses(const dado_automaton *ac, const dado_automaton *leftm
         CHECK(dado_word_stream_new(anchored, 2, &stream) == DADO_NOT_UNANCHORED && stream == kept);
         CHECK(dado_word_stream_new(leftmost, 2, &stream) == DADO_NOT_STANDARD && stream == kept);
         CHECK(dado_word_stream_new(with_empty, 2, &stream) == DADO_EMPTY_PATTERN && stream == kept);
+        CHECK(dado_stream_finish(&stream) == DADO_OK && dado_stream_some(&stream, many, 2, &count) == DADO_OK && is(&many[0], 0, 0, 3));
+        CHECK(dado_all_words_stream_new(NULL, &stream) == DADO_NO_AUTOMATON && dado_all_words_stream_new(ac, NULL) == DADO_BAD_ARGUMENT);
+        CHECK(dado_all_words_stream_new(anchored, &stream) == DADO_NOT_UNANCHORED && stream == kept);
+        CHECK(dado_all_words_stream_new(leftmost, &stream) == DADO_NOT_STANDARD && stream == kept);
+        CHECK(dado_all_words_stream_new(with_empty, &stream) == DADO_EMPTY_PATTERN && stream == kept);
+        /* one of all words in the place of the one that was finished */
+        CHECK(dado_stream_push(&stream, BYTES("cat"), &count) == DADO_FINISHED);
+        CHECK(dado_all_words_stream_new(ac, &stream) == DADO_OK && dado_stream_push(&stream, BYTES("cat"), &count) == DADO_OK && count == 3);
         CHECK(dado_stream_finish(&stream) == DADO_OK && dado_stream_some(&stream, many, 2, &count) == DADO_OK && is(&many[0], 0, 0, 3));
         dado_stream_free(&stream);
     }

@@ -208,6 +208,13 @@ class Automaton(native.Searches[AnyStr], Generic[AnyStr]):
         """
         return _stream.begun(self._built, number_of("kind", kind, native.KINDS))
 
+    def overlapping_word_stream(self) -> "_stream.Stream[AnyStr]":
+        """Begins a text that comes in pieces, as `stream` does, and gives all its whole words: those of `overlapping_words`, in its order.
+
+        A word is decided once the character after it was pushed. Raises `Error` where `overlapping_words` does.
+        """
+        return _stream.begun(self._built, native.ALL_WORDS)
+
     def finditer_stream(self, reader: Any) -> Iterator[Match]:
         """The matches of what `reader` has, one after another, each as soon as it is decided: as `stream` gives them."""
         built = self._built
@@ -220,6 +227,10 @@ class Automaton(native.Searches[AnyStr], Generic[AnyStr]):
 
 
 _text_of = attrgetter("text")
+
+    def overlapping_words_stream(self, reader: Any) -> Iterator[Match]:
+        """All whole words of what `reader` has, each as soon as it is decided: as `overlapping_word_stream` gives them."""
+        return _stream.found(self.overlapping_word_stream(), self._built.longest, reader)
 
 
 def _again(patterns: Tuple[Any, ...], settings: Dict[str, Any]) -> Automaton[Any]:

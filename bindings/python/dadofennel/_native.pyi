@@ -12,6 +12,7 @@ SHORT: int
 ROOM: int
 FINISHED: int
 COVERED: int
+ALL_WORDS: int
 KINDS: Tuple[str, ...]
 START_KINDS: Tuple[str, ...]
 ENGINES: Tuple[str, ...]

@@ -22,12 +22,13 @@ LEAST_READ = 1 << 18
 
 
 class Stream(Generic[AnyStr]):
-    """A text that is searched piece by piece. `Automaton.stream` begins one, and `Automaton.word_stream` one for whole words.
+    """A text that is searched piece by piece. `Automaton.stream` begins one, `Automaton.word_stream` one for whole words, and
+    `Automaton.overlapping_word_stream` one for all of these.
 
-    `push` returns the matches that are decided by then, and `finish` those that are left. Together they are those of `finditer`, or of
-    `find_words`, in the whole text, wherever it was cut; places are counted from its beginning. Under the standard kind a match is
-    decided once its last character was pushed, and a word once the character after it was; under a leftmost kind once nothing that may
-    follow can change it.
+    `push` returns the matches that are decided by then, and `finish` those that are left. Together they are those of `finditer`, of
+    `find_words` or of `overlapping_words` in the whole text, wherever it was cut; places are counted from its beginning. Under the
+    standard kind a match is decided once its last character was pushed, and a word once the character after it was; under a leftmost
+    kind once nothing that may follow can change it.
 
     A stream takes 64 KiB, or 8 times the length of the longest pattern, and owns the automaton too. Threads may pass it on, and one
     waits for the other. It can't be copied or pickled. In a forked process it serves, unless another thread was pushing to it.
@@ -36,7 +37,7 @@ class Stream(Generic[AnyStr]):
     __slots__ = ("_pieces", "_lock", "_text", "_built", "_widths", "_held", "_byte", "_char", "_cut")
 
     def __init__(self) -> None:
-        raise TypeError("a stream is begun by Automaton.stream or Automaton.word_stream")
+        raise TypeError("a stream is begun by Automaton.stream, Automaton.word_stream or Automaton.overlapping_word_stream")
 
     def _begin(self, built: Built, words: Optional[int]) -> None:
         self._pieces, self._lock = native.stream(built.by_codes(), words), Lock()
@@ -48,7 +49,7 @@ class Stream(Generic[AnyStr]):
 
     @property
     def cut(self) -> int:
-        """The place up to which everything is decided: no match that is still to come begins before it."""
+        """The place up to which everything is decided: no match that is still to come begins before it; of all words, none ends before it."""
         return self._cut
 
     def push(self, piece: Any) -> List[Match]:
@@ -129,7 +130,7 @@ class Stream(Generic[AnyStr]):
 
 
 def begun(built: Built, words: Optional[int] = None) -> Stream[Any]:
-    """A stream, at its beginning: of matches, or of whole words under the kind of a number."""
+    """A stream, at its beginning: of matches; or of whole words under the kind of a number, or of all words by `ALL_WORDS`."""
     stream: Stream[Any] = Stream.__new__(Stream)
     stream._begin(built, words)
     return stream

@@ -20,10 +20,14 @@ static void pieces_free(PyObject *self) {
     Py_DECREF(type);
 }
 
-/* Begins a stream of matches, or of whole words under the kind of a number. */
+static dado_status make(const dado_automaton *ac, int words, unsigned long number, dado_stream **made) {
+    if (!words) return dado_stream_new(ac, made);
+    return number == ALL_WORDS ? dado_all_words_stream_new(ac, made) : dado_word_stream_new(ac, (uint32_t)number, made);
+}
+
+/* Begins a stream of matches, or of whole words: under the kind of a number, or all of them for ALL_WORDS, which is the number of none. */
 static PyObject *stream(PyObject *module, PyObject *args) {
     PyObject *owner, *kind;
-    const dado_automaton *ac;
     Pieces *made;
     dado_status status;
     unsigned long number = 0;
@@ -32,8 +36,8 @@ static PyObject *stream(PyObject *module, PyObject *args) {
     if (kind != Py_None && (number = PyLong_AsUnsignedLong(kind)) == (unsigned long)-1 && PyErr_Occurred()) return NULL;
     made = PyObject_New(Pieces, pieces_type);
     if (made == NULL) return NULL;
-    made->handle = NULL, ac = ((Owner *)owner)->handle;
-    status = kind == Py_None ? dado_stream_new(ac, &made->handle) : dado_word_stream_new(ac, (uint32_t)number, &made->handle);
+    made->handle = NULL;
+    status = make(((Owner *)owner)->handle, kind != Py_None, number, &made->handle);
     if (status == DADO_OK) return (PyObject *)made;
     Py_DECREF(made);
     refuse(status);
@@ -126,11 +130,11 @@ static PyMethodDef methods[] = {
 static PyType_Slot slots[] = {{Py_tp_dealloc, pieces_free}, {Py_tp_methods, methods}, {0, NULL}};
 static PyType_Spec spec = {"dadofennel._native.Pieces", sizeof(Pieces), 0, Py_TPFLAGS_DEFAULT, slots};
 
-static PyMethodDef stream_function = {"stream", stream, METH_VARARGS, "Begins a stream of an owner: of matches, or of words of a kind."};
+static PyMethodDef stream_function = {"stream", stream, METH_VARARGS, "Begins a stream of an owner: of matches, or of words."};
 
 int pieces_ready(PyObject *module) {
     PyObject *function = PyCFunction_NewEx(&stream_function, NULL, NULL);
     pieces_type = (PyTypeObject *)PyType_FromSpec(&spec);
     if (function == NULL || pieces_type == NULL || PyModule_AddObject(module, "stream", function) < 0) return -1;
-    return PyModule_AddIntConstant(module, "ROOM", ROOM);
+    return PyModule_AddIntConstant(module, "ROOM", ROOM) < 0 ? -1 : PyModule_AddIntConstant(module, "ALL_WORDS", ALL_WORDS);
 }

@@ -27,12 +27,8 @@ WRAPPED(dado_raw_some, dado_raw_walk,
         at, (at, haystack, len, start, end, last, anchored, earliest, out, room))
 WRAPPED(dado_raw_listed, dado_raw_list,
         (const dado_automaton *at, const uint8_t *haystack, size_t len, size_t start, size_t end, size_t last_start, size_t last_end,
-         uint32_t last_pattern, uint32_t begun, dado_match *out, size_t room),
-        at, (at, haystack, len, start, end, last_start, last_end, last_pattern, begun, out, room))
-WRAPPED(dado_raw_listed, dado_raw_list_words,
-        (const dado_automaton *at, const uint8_t *haystack, size_t len, size_t start, size_t end, size_t last_start, size_t last_end,
-         uint32_t last_pattern, uint32_t begun, dado_match *out, size_t room),
-        at, (at, haystack, len, start, end, last_start, last_end, last_pattern, begun, out, room))
+         uint32_t last_pattern, uint32_t begun, uint32_t words, dado_match *out, size_t room),
+        at, (at, haystack, len, start, end, last_start, last_end, last_pattern, begun, words, out, room))
 WRAPPED(dado_raw_given, dado_raw_words,
         (const dado_automaton *at, uint32_t kind, const uint8_t *haystack, size_t len, size_t from, dado_match *out, size_t room),
         at, (at, kind, haystack, len, from, out, room))
@@ -42,6 +38,7 @@ WRAPPED(dado_status, dado_raw_replace,
 WRAPPED(dado_status, dado_raw_mask, (const dado_automaton *at, uint8_t *text, size_t len, uint8_t byte), at, (at, text, len, byte))
 WRAPPED(dado_status, dado_raw_mask_words, (const dado_automaton *at, uint8_t *text, size_t len, uint8_t byte), at, (at, text, len, byte))
 WRAPPED(dado_status, dado_raw_word_stream_new, (const dado_automaton *at, uint32_t kind, dado_stream **stream), at, (at, kind, stream))
+WRAPPED(dado_status, dado_raw_all_words_stream_new, (const dado_automaton *at, dado_stream **stream), at, (at, stream))
 WRAPPED(dado_status, dado_raw_stream_new, (const dado_automaton *at, dado_stream **stream), at, (at, stream))
 WRAPPED(dado_raw_about, dado_raw_tell, (const dado_automaton *at), at, (at))
 WRAPPED(dado_raw_count, dado_raw_stream_push, (dado_stream **stream, const uint8_t *piece, size_t len), *stream, (stream, piece, len))

@@ -154,6 +154,7 @@ LIMITED = [
     ("it, text = Automaton(['a']), 'x' * 30000000", "it.mask(text)"),
     ("it = Automaton([b'a' * 2000000], engine='noncontiguous')", "it.stream()"),
     ("it = Automaton([b'a' * 2000000], engine='noncontiguous')", "it.word_stream()"),
+    ("it = Automaton([b'a' * 2000000], engine='noncontiguous')", "it.overlapping_word_stream()"),
 ]
 
 
@@ -203,7 +204,11 @@ class Random(unittest.TestCase):
                     reader = Pieces(text, rng.choice([[1], [3], [100]]))
                     self.assertEqual(list(automaton.find_words_stream(reader, asked)), wanted, (asked, what))
                     self.replaced_words(rng, automaton, patterns, asked, lent, text, wanted, what)
-                self.assertEqual(list(automaton.overlapping_words(lent)), all_words(patterns, text, fold), what)
+                wanted = all_words(patterns, text, fold)
+                self.assertEqual(list(automaton.overlapping_words(lent)), wanted, what)
+                self.in_pieces(rng, automaton.overlapping_word_stream(), lent, wanted, what, place="end")
+                reader = Pieces(text, rng.choice([[1], [3], [100]]))
+                self.assertEqual(list(automaton.overlapping_words_stream(reader)), wanted, what)
         replacements = [f"<{number}é>" for number in range(len(patterns))]
         if isinstance(text, bytes):
             replacements = [it.encode() for it in replacements]
@@ -255,13 +260,15 @@ class Random(unittest.TestCase):
         if star in ("*", b"*") and all(patterns):
             self.assertFalse(automaton.is_match(made), what)
 
-    def in_pieces(self, rng, stream, text, matches, what):
+    def in_pieces(self, rng, stream, text, matches, what, place="start"):
+        """The matches of a text that is pushed in pieces. Each that is given has its `place` at the cut before the push or later."""
         at, given = 0, []
         while at < len(text):
             low, cut = at, stream.cut
             at = min(len(text), at + rng.choice([0, 1, 2, 7]))
             found = stream.push(text[low:at])
-            self.assertTrue(cut <= stream.cut <= at and all(cut <= it.start < it.end <= stream.cut for it in found), what)
+            self.assertTrue(cut <= stream.cut <= at, what)
+            self.assertTrue(all(cut <= getattr(it, place) and it.start < it.end <= stream.cut for it in found), what)
             given += found
         self.assertEqual(given, matches[:len(given)], what)
         self.assertEqual((given + stream.finish(), stream.cut), (matches, len(text)), what)
@@ -527,7 +534,8 @@ class Callers(unittest.TestCase):
             lambda: leftmost.find_words("a"), lambda: anchored.find_words("a"), lambda: Automaton(["a", ""]).find_words("a"),
             lambda: leftmost.overlapping_words("a"), lambda: anchored.overlapping_words("a"),
             lambda: Automaton(["a", ""]).overlapping_words("a"), lambda: leftmost.mask_words("a"), lambda: anchored.mask_words("a"),
-            leftmost.word_stream, anchored.word_stream, Automaton(["a", ""]).word_stream,
+            leftmost.word_stream, anchored.word_stream, Automaton(["a", ""]).word_stream, leftmost.overlapping_word_stream,
+            anchored.overlapping_word_stream, Automaton(["a", ""]).overlapping_word_stream,
             lambda: anchored.replace("a", ["b"]), lambda: anchored.replace_stream(io.StringIO("a"), io.StringIO(), "b"),
         ):
             self.assertRaises(Error, call)
@@ -560,6 +568,23 @@ class Callers(unittest.TestCase):
         self.assertEqual((plain.push(b"new"), plain.push(b"."), plain.finish()), ([], [Match(0, 0, 3)], []))
         self.assertRaises(TypeError, plain.push, "a")
         self.assertRaises(ValueError, Automaton([b"a"]).word_stream, "longest")
+
+    def test_streams_of_all_words(self):
+        text, words = "ä new york times", [Match(0, 2, 10), Match(2, 6, 10), Match(1, 6, 16)]
+        for cut in range(len(text) + 1):
+            stream = Automaton(["new york", "york times", "york"]).overlapping_word_stream()
+            first = stream.push(text[:cut])
+            self.assertEqual((first, stream.cut), (words[:2] if cut > 10 else [], cut))
+            self.assertEqual(first + stream.push(text[cut:]), words[:2])
+            self.assertEqual((stream.finish(), stream.cut, stream.finish()), (words[2:], len(text), []))
+            self.assertRaises(Error, stream.push, "e")
+        plain = Automaton([b"new", b"new york"]).overlapping_word_stream()
+        self.assertEqual((plain.push(b"new york"), plain.push(b"er"), plain.finish()), ([Match(0, 0, 3)], [], []))
+        self.assertRaises(TypeError, plain.push, "a")
+        reader = io.BytesIO(b"new york")
+        self.assertEqual(
+            list(Automaton([b"new", b"new york"]).overlapping_words_stream(reader)), [Match(0, 0, 3), Match(1, 0, 8)],
+        )
 
     def test_words(self):
         cat = Automaton(["cat"])

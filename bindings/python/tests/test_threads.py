@@ -252,6 +252,7 @@ class EveryMethod(unittest.TestCase):
             None if leftmost else automaton.mask(text), None if leftmost else list(automaton.find_words(text, "leftmost-first")),
             None if leftmost else automaton.mask_words(text), None if leftmost else list(automaton.overlapping_words(text)),
             None if leftmost else list(automaton.find_words_stream(io.StringIO(text), "leftmost-longest")),
+            None if leftmost else list(automaton.overlapping_words_stream(io.StringIO(text))),
             None if leftmost else automaton.replace_words(text, "-", "leftmost-first"), automaton.find_each([text, "", text]),
             automaton.is_match_each([text, "", "x€"]),
             automaton.replace(text, "-"), automaton.replace(text, ["1", "2", "3"]), automaton.replace(text, {

@@ -1,3 +1,4 @@
+pub mod Begun
 pub mod Build
 pub mod Find
 pub mod Found

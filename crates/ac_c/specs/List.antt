@@ -143,14 +143,7 @@ listed_of p new (Ok count) =
     record { place = place_after p new count; count = count; status = given_status (length new) count }
 listed_of p new (Err status) = record { place = p; count = 0; status = status }
 
-abbrev pub AnswersListed : AhoCorasick → List ℕ → Place → List Found → List Found → Listed → Type 0
-AnswersListed ac haystack p old new listed =
-    (r : Result ℕ ℕ) × IsListedBy ac haystack p old new r × (listed ≡ listed_of p new r)
-
-abbrev pub AnswersListedWords : AhoCorasick → List ℕ → Place → List Found → List Found → Listed → Type 0
-AnswersListedWords ac haystack p old new listed =
-    (r : Result ℕ ℕ) × AreWordsListedBy ac haystack p old new r × (listed ≡ listed_of p new r)
-
-abbrev pub AnswersWanted : Bool → AhoCorasick → List ℕ → Place → List Found → List Found → Listed → Type 0
-AnswersWanted false = AnswersListed
-AnswersWanted true = AnswersListedWords
+-- what the next call of a listing returns, or of one of words
+abbrev pub AnswersListed : Bool → AhoCorasick → List ℕ → Place → List Found → List Found → Listed → Type 0
+AnswersListed words ac haystack p old new listed =
+    (r : Result ℕ ℕ) × AreWantedBy words ac haystack p old new r × (listed ≡ listed_of p new r)

@@ -1,19 +1,17 @@
 -- What a handle of a masking of pieces holds, and what its calls return.
 use base.Stored.{Coded}
-use Rattle.std.specs.Prelude.{◌≡◌, ◌⊎◌, ℕ, List}
+use Rattle.std.specs.Prelude.{◌≡◌, ℕ, List}
 use Rattle.std.specs.declared.option.Option.{Option}
 use Rattle.std.specs.declared.option.Option.TheVariants.{None, Some}
 use Rattle.std.specs.Coded.{coded_option}
-use Rattle.ac_automaton.specs.Stream.{CanStream}
 use Rattle.ac_automaton.specs.declared.stream.StreamKinds.TheVariants.{OnlyStandard}
-use Rattle.aho_corasick.specs.AhoCorasick.{as_built, supported_by}
 use Rattle.aho_corasick.specs.declared.ahocorasick.AhoCorasick.{AhoCorasick}
 use Rattle.ac_c.specs.contracts.masking.Masking.{the_row}
 use Rattle.ac_c.specs.declared.masking.Masking.{Masking}
 use Rattle.ac_c.specs.declared.replace.Length.{Length}
 use Rattle.ac_c.specs.declared.searching.Count.{Count}
+use Rattle.ac_c.specs.Begun.{HoldsBegun}
 use Rattle.ac_c.specs.Masking.{IsClosedMask, IsPushedTo, masking_by, ready_len}
-use Rattle.ac_c.specs.Searching.{IsRefusedStandard}
 use Rattle.ac_c.specs.Status.{ok, no_masker}
 
 -- a masking of pieces, or none
@@ -25,9 +23,7 @@ masker_coded = coded_option the_row.coded
 
 -- the handle holds a masking that was passed nothing yet; or why there is none, and the handle is unchanged
 abbrev pub AnswersMasking : AhoCorasick → ℕ → HeldMasker → HeldMasker → ℕ → Type 0
-AnswersMasking ac byte old new status =
-    (CanStream OnlyStandard (as_built ac) (supported_by ac) × (new ≡ Some (masking_by ac byte)) × (status ≡ ok))
-    ⊎ (IsRefusedStandard ac status × (new ≡ old))
+AnswersMasking ac byte old new status = HoldsBegun OnlyStandard ac (masking_by ac byte) old new status
 
 -- the first bytes of a piece were taken, or why none were; or the handle holds no masking
 abbrev pub AnswersMaskPush : List ℕ → HeldMasker → HeldMasker → Count → Type 0

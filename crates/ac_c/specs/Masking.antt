@@ -1,13 +1,12 @@
 -- Masking: what a call on a text returns, what a masking of pieces begins as, and what each call does.
-use Rattle.std.specs.Prelude.{◌≡◌, ◌⊎◌, ℕ, true, false, List, [], length, Result, Ok, Err}
+use Rattle.std.specs.Prelude.{◌≡◌, ◌⊎◌, ℕ, true, false, List, [], length, Result}
 use Rattle.ac_automaton.specs.InMemory.Overlapping.{IsOverlappingRefusal}
 use Rattle.ac_automaton.specs.Masking.{masked_in}
 use Rattle.ac_automaton.specs.Masking.Words.{masked_words_in}
-use Rattle.ac_automaton.specs.Stream.{CanBeCounted, CanStream}
-use Rattle.ac_automaton.specs.Stream.Mask.{MaskProgress, MasksPushed, finished_mask, fresh_mask, passed_to, ready_of}
+use Rattle.ac_automaton.specs.Stream.{CanBeCounted}
+use Rattle.ac_automaton.specs.Stream.Mask.{MasksPushed, finished_mask, fresh_mask, passed_to, ready_of}
 use Rattle.ac_automaton.specs.declared.error.MatchErrorKind.{MatchErrorKind}
 use Rattle.ac_automaton.specs.declared.error.StreamError.{StreamError}
-use Rattle.ac_automaton.specs.declared.stream.StreamKinds.TheVariants.{OnlyStandard}
 use Rattle.ac_input.specs.Input.{whole_of}
 use Rattle.ac_input.specs.declared.search.Anchored.TheVariants.{No}
 use Rattle.ac_input.specs.declared.search.MatchKind.TheVariants.{Standard}
@@ -16,7 +15,7 @@ use Rattle.aho_corasick.specs.declared.ahocorasick.AhoCorasick.{AhoCorasick}
 use Rattle.ac_c.specs.declared.masking.Masking.{Masking}
 use Rattle.ac_c.specs.declared.replace.Length.{Length}
 use Rattle.ac_c.specs.declared.searching.Count.{Count}
-use Rattle.ac_c.specs.Searching.{IsRefusedStandard, push_of}
+use Rattle.ac_c.specs.Searching.{push_of}
 use Rattle.ac_c.specs.Status.{ok, no_memory, finished, refusal_status}
 
 -- ---- a text where it lies
@@ -43,12 +42,6 @@ AnswersMaskedWords ac byte before after status =
 -- a masking by this automaton and with this byte that was passed nothing yet
 abbrev pub masking_by : AhoCorasick → ℕ → Masking
 masking_by ac byte = record { stream = fresh_mask (as_built ac) byte }
-
--- the library's masking, or why there is none
-abbrev pub IsMaskingOfPieces : AhoCorasick → ℕ → Result MaskProgress ℕ → Type 0
-IsMaskingOfPieces ac byte (Ok s) =
-    CanStream OnlyStandard (as_built ac) (supported_by ac) × (s ≡ fresh_mask (as_built ac) byte)
-IsMaskingOfPieces ac byte (Err status) = IsRefusedStandard ac status
 
 -- A finished masking takes nothing, and is unchanged. Any other takes what the library's masking takes.
 abbrev pub IsPushedTo : Masking → List ℕ → Masking → Count → Type 0

@@ -1,20 +1,18 @@
 -- What a handle of a replacement of pieces holds, and what its calls return.
 use base.Stored.{Coded}
 use denote.Ref.{Bor}
-use Rattle.std.specs.Prelude.{◌≡◌, ◌⊎◌, ℕ, List}
+use Rattle.std.specs.Prelude.{◌≡◌, ℕ, List}
 use Rattle.std.specs.declared.option.Option.{Option}
 use Rattle.std.specs.declared.option.Option.TheVariants.{None, Some}
 use Rattle.std.specs.Coded.{coded_option}
-use Rattle.ac_automaton.specs.Stream.{CanStream}
 use Rattle.ac_automaton.specs.declared.stream.StreamKinds.TheVariants.{AnyKind}
-use Rattle.aho_corasick.specs.AhoCorasick.{as_built, supported_by}
 use Rattle.aho_corasick.specs.declared.ahocorasick.AhoCorasick.{AhoCorasick}
 use Rattle.ac_c.specs.contracts.replacing.Replacing.{the_row}
 use Rattle.ac_c.specs.declared.replace.Length.{Length}
 use Rattle.ac_c.specs.declared.replacing.Replacing.{Replacing}
 use Rattle.ac_c.specs.declared.searching.Count.{Count}
+use Rattle.ac_c.specs.Begun.{HoldsBegun}
 use Rattle.ac_c.specs.Replacing.{IsGivenText, IsPushedOn, ended_by, replacing_by}
-use Rattle.ac_c.specs.Searching.{IsRefusedSearch}
 use Rattle.ac_c.specs.Status.{ok, no_replacer}
 
 -- a replacement of pieces, or none
@@ -26,9 +24,7 @@ replacer_coded = coded_option the_row.coded
 
 -- the handle holds a replacement that was passed nothing yet; or why there is none, and the handle is unchanged
 abbrev pub AnswersReplacing : AhoCorasick → HeldReplacer → HeldReplacer → ℕ → Type 0
-AnswersReplacing ac old new status =
-    (CanStream AnyKind (as_built ac) (supported_by ac) × (new ≡ Some (replacing_by ac)) × (status ≡ ok))
-    ⊎ (IsRefusedSearch ac status × (new ≡ old))
+AnswersReplacing ac old new status = HoldsBegun AnyKind ac (replacing_by ac) old new status
 
 -- the first bytes of a piece were taken, or why none were; or the handle holds no replacement
 abbrev pub AnswersPushOn : List ℕ → HeldReplacer → HeldReplacer → Count → Type 0

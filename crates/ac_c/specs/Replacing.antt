@@ -1,16 +1,15 @@
 -- A replacement of a text that is passed piece by piece: what it begins as, and what each call does.
-use Rattle.std.specs.Prelude.{◌≡◌, ◌≢◌, ◌⊎◌, ℕ, true, false, List, length, map, Option, None, Some, Result, Ok, Err}
+use Rattle.std.specs.Prelude.{◌≡◌, ◌≢◌, ◌⊎◌, ℕ, true, false, List, length, map, Option, None, Some, Result}
 use denote.Ref.{Bor}
-use Rattle.ac_automaton.specs.Stream.{CanStream, closed_by}
-use Rattle.ac_automaton.specs.Stream.Replacer.{GivesText, PushesText, ReplacerProgress, fresh_replacer}
+use Rattle.ac_automaton.specs.Stream.{closed_by}
+use Rattle.ac_automaton.specs.Stream.Replacer.{GivesText, PushesText, fresh_replacer}
 use Rattle.ac_automaton.specs.declared.error.StreamError.{StreamError}
-use Rattle.ac_automaton.specs.declared.stream.StreamKinds.TheVariants.{AnyKind}
-use Rattle.aho_corasick.specs.AhoCorasick.{as_built, supported_by}
+use Rattle.aho_corasick.specs.AhoCorasick.{as_built}
 use Rattle.aho_corasick.specs.declared.ahocorasick.AhoCorasick.{AhoCorasick}
 use Rattle.ac_c.specs.declared.replace.Length.{Length}
 use Rattle.ac_c.specs.declared.replacing.Replacing.{Replacing}
 use Rattle.ac_c.specs.declared.searching.Count.{Count}
-use Rattle.ac_c.specs.Searching.{IsRefusedSearch, push_of}
+use Rattle.ac_c.specs.Searching.{push_of}
 use Rattle.ac_c.specs.Status.{ok, none, finished, wrong_count}
 
 -- ---- how it begins
@@ -18,11 +17,6 @@ use Rattle.ac_c.specs.Status.{ok, none, finished, wrong_count}
 -- a replacement by this automaton that was passed nothing yet
 abbrev pub replacing_by : AhoCorasick → Replacing
 replacing_by ac = record { replacer = fresh_replacer (as_built ac) }
-
--- the library's replacement, or why there is none
-abbrev pub IsReplacementOfPieces : AhoCorasick → Result ReplacerProgress ℕ → Type 0
-IsReplacementOfPieces ac (Ok r) = CanStream AnyKind (as_built ac) (supported_by ac) × (r ≡ fresh_replacer (as_built ac))
-IsReplacementOfPieces ac (Err status) = IsRefusedSearch ac status
 
 -- ---- what a push takes
 

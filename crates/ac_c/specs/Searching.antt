@@ -4,23 +4,20 @@ use Rattle.std.specs.List.{All}
 use Rattle.ac_input.specs.Occurrence.{Occurrence}
 use Rattle.ac_input.specs.declared.search.MatchKind.{MatchKind}
 use Rattle.ac_automaton.specs.Automaton.{Built}
-use Rattle.ac_automaton.specs.Stream.{AreAllGiven, CanBeCounted, CanStream, IsConfigRefusal, IsHeldItem, IsOnCourse, IsSearched, ReadsNothing, Sequence, StreamProgress, closed_by, cut_of, fresh_progress, read_by, Picks, Words}
-use Rattle.ac_automaton.specs.Stream.Overlapping.{IsListingConfigRefusal}
+use Rattle.ac_automaton.specs.Stream.{AllWords, AreAllGiven, CanBeCounted, IsHeldItem, IsOnCourse, IsSearched, Picks, ReadsNothing, Sequence, StreamProgress, Words, closed_by, cut_of, fresh_progress, read_by}
 use Rattle.ac_automaton.specs.Stream.Push.{Pushes}
 use Rattle.ac_automaton.specs.Stream.WholeWords.{asked_for}
-use Rattle.ac_automaton.specs.declared.error.MatchErrorKind.{MatchErrorKind}
 use Rattle.ac_automaton.specs.declared.error.StreamError.{StreamError}
-use Rattle.ac_automaton.specs.declared.stream.StreamKinds.TheVariants.{AnyKind, OnlyStandard}
-use Rattle.aho_corasick.specs.AhoCorasick.{as_built, supported_by}
+use Rattle.aho_corasick.specs.AhoCorasick.{as_built}
 use Rattle.aho_corasick.specs.declared.ahocorasick.AhoCorasick.{AhoCorasick}
 use Rattle.ac_c.specs.declared.found.Found.{Found}
 use Rattle.ac_c.specs.declared.searching.Count.{Count}
 use Rattle.ac_c.specs.declared.searching.Pushed.{Pushed}
 use Rattle.ac_c.specs.declared.searching.Searching.{Searching}
-use Rattle.ac_c.specs.declared.searching.Searching.TheVariants.{ForMatches, ForWords}
+use Rattle.ac_c.specs.declared.searching.Searching.TheVariants.{ForAllWords, ForMatches, ForWords}
 use Rattle.ac_c.specs.declared.searching.View.{View}
 use Rattle.ac_c.specs.Found.{shown}
-use Rattle.ac_c.specs.Status.{ok, no_memory, finished, too_many_bytes, refusal_status}
+use Rattle.ac_c.specs.Status.{ok, finished, too_many_bytes}
 use Rattle.ac_c.specs.Walk.{given_status}
 
 -- ---- how it begins
@@ -33,34 +30,13 @@ begun b = record { search = fresh_progress b; finished = false }
 abbrev pub begun_by : AhoCorasick → Searching
 begun_by ac = ForMatches (begun (as_built ac))
 
--- one for whole words under a kind
+-- one for whole words under a kind, one after another
 abbrev pub words_begun_by : AhoCorasick → MatchKind → Searching
 words_begun_by ac kind = ForWords (begun (asked_for kind (as_built ac)))
 
--- Why there is no search: the automaton has no start for it, or else a pattern is empty; or memory ran out.
-abbrev pub IsRefusedSearch : AhoCorasick → ℕ → Type 0
-IsRefusedSearch ac status =
-    ((error : MatchErrorKind) × IsConfigRefusal AnyKind (as_built ac) (supported_by ac) error
-    × (status ≡ refusal_status error))
-    ⊎ (CanStream AnyKind (as_built ac) (supported_by ac) × (status ≡ no_memory))
-
--- The same where the standard kind is asked for, after the start: why there is no search for words, and no masking.
-abbrev pub IsRefusedStandard : AhoCorasick → ℕ → Type 0
-IsRefusedStandard ac status =
-    ((error : MatchErrorKind) × IsListingConfigRefusal (as_built ac) (supported_by ac) error
-    × (status ≡ refusal_status error))
-    ⊎ (CanStream OnlyStandard (as_built ac) (supported_by ac) × (status ≡ no_memory))
-
--- the library's search, or why there is none
-abbrev pub IsSearchOfPieces : AhoCorasick → Result (StreamProgress Picks) ℕ → Type 0
-IsSearchOfPieces ac (Ok s) = CanStream AnyKind (as_built ac) (supported_by ac) × (s ≡ fresh_progress (as_built ac))
-IsSearchOfPieces ac (Err status) = IsRefusedSearch ac status
-
--- the library's search for words, or why there is none
-abbrev pub IsSearchOfWords : AhoCorasick → MatchKind → Result (StreamProgress Words) ℕ → Type 0
-IsSearchOfWords ac kind (Ok s) =
-    CanStream OnlyStandard (as_built ac) (supported_by ac) × (s ≡ fresh_progress (asked_for kind (as_built ac)))
-IsSearchOfWords ac kind (Err status) = IsRefusedStandard ac status
+-- one for all whole words
+abbrev pub all_words_begun_by : AhoCorasick → Searching
+all_words_begun_by ac = ForAllWords (begun (as_built ac))
 
 -- ---- what a push takes
 
@@ -126,35 +102,40 @@ view_of s =
 abbrev pub finished_by : {q : Sequence} → Pushed (StreamProgress q) → Pushed (StreamProgress q)
 finished_by s = record { search = closed_by s.search; finished = true }
 
--- ---- for matches, or for words
+-- ---- whichever a handle holds
+
+-- the search that a handle holds, whichever its sequence is
+abbrev pub search_in : Searching → (q : Sequence) × Pushed (StreamProgress q)
+search_in (ForMatches s) = (Picks, s)
+search_in (ForWords s) = (Words, s)
+search_in (ForAllWords s) = (AllWords, s)
+
+-- a call turns it into another one of the same sequence; `Turn` says what the call does
+abbrev pub Turns : ((q : Sequence) → Pushed (StreamProgress q) → Pushed (StreamProgress q) → Type 0) → Searching → Searching → Type 0
+Turns Turn (ForMatches s) new = (t : Pushed (StreamProgress Picks)) × (new ≡ ForMatches t) × Turn Picks s t
+Turns Turn (ForWords s) new = (t : Pushed (StreamProgress Words)) × (new ≡ ForWords t) × Turn Words s t
+Turns Turn (ForAllWords s) new = (t : Pushed (StreamProgress AllWords)) × (new ≡ ForAllWords t) × Turn AllWords s t
 
 -- the first bytes of a piece were taken, or why none were
 abbrev pub TakesPushed : Searching → List ℕ → Searching → Count → Type 0
-TakesPushed (ForMatches s) piece new taken =
-    (t : Pushed (StreamProgress Picks)) × (new ≡ ForMatches t) × IsPushed s piece t taken
-TakesPushed (ForWords s) piece new taken =
-    (t : Pushed (StreamProgress Words)) × (new ≡ ForWords t) × IsPushed s piece t taken
+TakesPushed s piece t taken = Turns (λ q a b. IsPushed a piece b taken) s t
 
--- the next matches, or words, are in the buffer
+-- the next items are in the buffer
 abbrev pub GivesNext : Searching → Searching → List Found → List Found → Count → Type 0
-GivesNext (ForMatches s) new before after given =
-    (t : Pushed (StreamProgress Picks)) × (new ≡ ForMatches t) × IsGiven s t before after given
-GivesNext (ForWords s) new before after given =
-    (t : Pushed (StreamProgress Words)) × (new ≡ ForWords t) × IsGiven s t before after given
+GivesNext s t before after given = Turns (λ q a b. IsGiven a b before after given) s t
 
 -- the held bytes
 abbrev pub held_by : Searching → List ℕ
-held_by (ForMatches s) = drop s.search.from (read_by s.search)
-held_by (ForWords s) = drop s.search.from (read_by s.search)
+held_by s = let p = (search_in s).1.search in drop p.from (read_by p)
 
 abbrev pub view_in : Searching → View
-view_in (ForMatches s) = view_of s
-view_in (ForWords s) = view_of s
+view_in s = view_of (search_in s).1
 
 abbrev pub IsOnItsCourse : Searching → Type 0
-IsOnItsCourse (ForMatches s) = IsOnCourse s.search
-IsOnItsCourse (ForWords s) = IsOnCourse s.search
+IsOnItsCourse s = IsOnCourse (search_in s).1.search
 
+-- it was told that no more pieces come
 abbrev pub finished_with : Searching → Searching
 finished_with (ForMatches s) = ForMatches (finished_by s)
 finished_with (ForWords s) = ForWords (finished_by s)
+finished_with (ForAllWords s) = ForAllWords (finished_by s)

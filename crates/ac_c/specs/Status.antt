@@ -2,6 +2,8 @@
 use Rattle.std.specs.Prelude.{ℕ}
 use Rattle.ac_automaton.specs.declared.error.MatchErrorKind.{MatchErrorKind}
 use Rattle.ac_automaton.specs.declared.error.MatchErrorKind.TheVariants.{InvalidInputAnchored, InvalidInputUnanchored, UnsupportedStream, UnsupportedOverlapping, UnsupportedEmpty}
+use Rattle.ac_automaton.specs.declared.error.StreamError.{StreamError}
+use Rattle.ac_automaton.specs.declared.error.StreamError.TheVariants.{Config}
 use Rattle.ac_noncontiguous.specs.declared.error.BuildErrorKind.{BuildErrorKind}
 use Rattle.ac_noncontiguous.specs.declared.error.BuildErrorKind.TheVariants.{StateIDOverflow, PatternIDOverflow, PatternTooLong, Memory}
 
@@ -63,6 +65,11 @@ refusal_status InvalidInputUnanchored = 13
 refusal_status (UnsupportedStream got) = 14
 refusal_status (UnsupportedOverlapping got) = 14
 refusal_status UnsupportedEmpty = 20
+
+-- the status of a stream that couldn't be made: the automaton doesn't support it, or memory ran out
+abbrev pub stream_status : StreamError → ℕ
+stream_status (Config error) = refusal_status error
+stream_status other = no_memory
 
 -- the status of a failed build
 abbrev pub build_status : BuildErrorKind → ℕ

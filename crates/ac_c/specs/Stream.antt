@@ -1,21 +1,20 @@
 -- What a handle of a search of pieces holds, and what its calls return.
 use base.Stored.{Coded}
-use Rattle.std.specs.Prelude.{◌≡◌, ◌⊎◌, ℕ, List}
+use Rattle.std.specs.Prelude.{◌≡◌, ℕ, List}
 use Rattle.std.specs.declared.option.Option.{Option}
 use Rattle.std.specs.declared.option.Option.TheVariants.{None, Some}
 use Rattle.std.specs.Coded.{coded_option}
 use Rattle.ac_input.specs.declared.search.MatchKind.{MatchKind}
-use Rattle.ac_automaton.specs.Stream.{CanStream}
 use Rattle.ac_automaton.specs.declared.stream.StreamKinds.TheVariants.{AnyKind, OnlyStandard}
-use Rattle.aho_corasick.specs.AhoCorasick.{as_built, supported_by}
 use Rattle.aho_corasick.specs.declared.ahocorasick.AhoCorasick.{AhoCorasick}
 use Rattle.ac_c.specs.contracts.searching.Searching.{the_row}
 use Rattle.ac_c.specs.declared.found.Found.{Found}
 use Rattle.ac_c.specs.declared.searching.Count.{Count}
 use Rattle.ac_c.specs.declared.searching.Searching.{Searching}
 use Rattle.ac_c.specs.declared.searching.View.{View}
+use Rattle.ac_c.specs.Begun.{HoldsBegun}
 use Rattle.ac_c.specs.Build.{kind_by}
-use Rattle.ac_c.specs.Searching.{GivesNext, IsRefusedSearch, IsRefusedStandard, TakesPushed, begun_by, finished_with, view_in, words_begun_by}
+use Rattle.ac_c.specs.Searching.{GivesNext, TakesPushed, all_words_begun_by, begun_by, finished_with, view_in, words_begun_by}
 use Rattle.ac_c.specs.Status.{ok, bad_kind, no_stream}
 
 -- a search of pieces, or none
@@ -27,20 +26,20 @@ stream_coded = coded_option the_row.coded
 
 -- the handle holds a search that was passed nothing yet; or why there is none, and the handle is unchanged
 abbrev pub AnswersStream : AhoCorasick → HeldStream → HeldStream → ℕ → Type 0
-AnswersStream ac old new status =
-    (CanStream AnyKind (as_built ac) (supported_by ac) × (new ≡ Some (begun_by ac)) × (status ≡ ok))
-    ⊎ (IsRefusedSearch ac status × (new ≡ old))
+AnswersStream ac old new status = HoldsBegun AnyKind ac (begun_by ac) old new status
 
 -- the same of a search for whole words under a kind
 abbrev pub AnswersWordsUnder : AhoCorasick → Option MatchKind → HeldStream → HeldStream → ℕ → Type 0
 AnswersWordsUnder ac None old new status = (status ≡ bad_kind) × (new ≡ old)
-AnswersWordsUnder ac (Some kind) old new status =
-    (CanStream OnlyStandard (as_built ac) (supported_by ac) × (new ≡ Some (words_begun_by ac kind)) × (status ≡ ok))
-    ⊎ (IsRefusedStandard ac status × (new ≡ old))
+AnswersWordsUnder ac (Some kind) old new status = HoldsBegun OnlyStandard ac (words_begun_by ac kind) old new status
 
 -- under the kind of a number; or the number names no kind, which is tested first
 abbrev pub AnswersWordStream : AhoCorasick → ℕ → HeldStream → HeldStream → ℕ → Type 0
 AnswersWordStream ac kind old new status = AnswersWordsUnder ac (kind_by kind) old new status
+
+-- the same of a search for all whole words
+abbrev pub AnswersAllWordStream : AhoCorasick → HeldStream → HeldStream → ℕ → Type 0
+AnswersAllWordStream ac old new status = HoldsBegun OnlyStandard ac (all_words_begun_by ac) old new status
 
 -- what a call returns where the handle holds no search
 abbrev pub counts_none : Count

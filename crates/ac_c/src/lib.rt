@@ -12,20 +12,33 @@ ghost use types.Logic.{sem};
 ghost use Rattle.std.specs.Prelude.{◌≡◌, IfSome, None};
 ghost use Rattle.ac_literal.specs.Packed.{bytes_of};
 ghost use Rattle.ac_c.specs.Build.{AnswersBuild, AreDefaults, IsShared};
-ghost use Rattle.ac_c.specs.Find.{AnswersFindIn, bounds};
+ghost use Rattle.ac_c.specs.Find.{AnswersFindIn, bounds, is_set};
 ghost use Rattle.ac_c.specs.Lent.{Lent, is_lent, lasting};
-ghost use Rattle.ac_c.specs.List.{AnswersListed, AnswersListedWords, place};
+ghost use Rattle.ac_c.specs.List.{AnswersListed, place};
 ghost use Rattle.ac_c.specs.Found.{found};
 ghost use Rattle.ac_c.specs.Masker.{AnswersMaskEnd, AnswersMaskPush, AnswersMasking, ready_by};
 ghost use Rattle.ac_c.specs.Masking.{AnswersMasked, AnswersMaskedWords};
 ghost use Rattle.ac_c.specs.Replace.{AnswersInto, AnswersText};
 ghost use Rattle.ac_c.specs.Replacer.{AnswersPushOn, AnswersReplacing, AnswersSlice, end_by, end_status};
 ghost use Rattle.ac_c.specs.Searching.{IsOnItsCourse};
-ghost use Rattle.ac_c.specs.Stream.{AnswersStream, AnswersNext, AnswersPush, AnswersWordStream, finish_by, finish_status, view_by};
+ghost use Rattle.ac_c.specs.Stream.{AnswersAllWordStream, AnswersNext, AnswersPush, AnswersStream, AnswersWordStream, finish_by, finish_status, view_by};
 ghost use Rattle.ac_c.specs.Text.{held_len};
 ghost use Rattle.ac_c.specs.Tell.{AnswersLength, TellsAbout};
 ghost use Rattle.ac_c.specs.Walk.{AnswersSome, AnswersStep, cursor};
 ghost use Rattle.ac_c.specs.Words.{AnswersSomeWords, AnswersWordText};
+
+/// Puts what is begun into a handle, and gives the status. The handle is unchanged if nothing is.
+macro_rules! hold {
+    ($begun:expr, $handle:ident: $kind:ident) => {
+        match $begun {
+            Ok(begun) => {
+                *$handle = $kind::from_box(begun);
+                OK
+            }
+            Err(status) => status,
+        }
+    };
+}
 
 pub mod build;
 pub mod find;
@@ -160,7 +173,7 @@ pub extern "C" fn dado_raw_stream_push(alloc: Global, stream: &mut Stream, piece
     with!(stream: Stream in alloc, Count::none(NO_STREAM), |search| search.push(piece))
 }
 
-/// The next matches, or words, that are decided, as many as the buffer has room for.
+/// The next items that are decided, matches or words, as many as the buffer has room for.
 #[unsafe(no_mangle)]
 pub extern "C" fn dado_raw_stream_some(
     alloc: Global,
@@ -326,7 +339,7 @@ pub unsafe extern "C" fn dado_raw_stream_new(
     stream::begin(&*ac, alloc, stream)
 }
 
-/// A search of pieces for whole words under a kind, which owns the automaton too.
+/// A search of pieces for whole words under a kind, one after another, which owns the automaton too.
 #[unsafe(no_mangle)]
 pub unsafe extern "C" fn dado_raw_word_stream_new(
     at: *const Opaque,
@@ -341,6 +354,22 @@ pub unsafe extern "C" fn dado_raw_word_stream_new(
 {
     let ac = at as *const AhoCorasick;
     stream::begin_words(&*ac, kind, alloc, stream)
+}
+
+/// A search of pieces for all whole words, which owns the automaton too.
+#[unsafe(no_mangle)]
+pub unsafe extern "C" fn dado_raw_all_words_stream_new(
+    at: *const Opaque,
+    alloc: Global,
+    stream: &mut Stream,
+) -> u32
+    ghost g: { Lent }
+    requires* lent { sem 𝓛 (is_lent at g) }
+    ensures* lasts { sem 𝓛 (lasting g) }
+    ensures answer { AnswersAllWordStream g.automaton stream.old.value stream.new.value result }
+{
+    let ac = at as *const AhoCorasick;
+    stream::begin_all_words(&*ac, alloc, stream)
 }
 
 /// A replacement of pieces by an automaton that is lent, which it owns too. What the handle held before is freed once it is made.
@@ -485,7 +514,7 @@ pub unsafe extern "C" fn dado_raw_words(
     words::next_words(&*ac, kind, haystack, from, out)
 }
 
-/// The next occurrences of a listing.
+/// The next occurrences of a listing, or its next whole words if `words` isn't 0.
 #[unsafe(no_mangle)]
 pub unsafe extern "C" fn dado_raw_list(
     at: *const Opaque,
@@ -496,12 +525,13 @@ pub unsafe extern "C" fn dado_raw_list(
     last_end: usize,
     last_pattern: u32,
     begun: u32,
+    words: u32,
     out: &mut [Found],
 ) -> Listed
     ghost g: { Lent }
     requires* lent { sem 𝓛 (is_lent at g) }
     ensures* lasts { sem 𝓛 (lasting g) }
-    ensures answer { AnswersListed g.automaton haystack.now
+    ensures answer { AnswersListed (is_set words) g.automaton haystack.now
         (place start end (found last_start last_end last_pattern) begun) out.old out.new result }
 {
     let ac = at as *const AhoCorasick;
@@ -514,39 +544,7 @@ pub unsafe extern "C" fn dado_raw_list(
         last_end,
         last_pattern,
         begun,
-        out,
-    )
-}
-
-/// The next whole words of a listing, overlapping ones too.
-#[unsafe(no_mangle)]
-pub unsafe extern "C" fn dado_raw_list_words(
-    at: *const Opaque,
-    haystack: &[u8],
-    start: usize,
-    end: usize,
-    last_start: usize,
-    last_end: usize,
-    last_pattern: u32,
-    begun: u32,
-    out: &mut [Found],
-) -> Listed
-    ghost g: { Lent }
-    requires* lent { sem 𝓛 (is_lent at g) }
-    ensures* lasts { sem 𝓛 (lasting g) }
-    ensures answer { AnswersListedWords g.automaton haystack.now
-        (place start end (found last_start last_end last_pattern) begun) out.old out.new result }
-{
-    let ac = at as *const AhoCorasick;
-    list::list_words(
-        &*ac,
-        haystack,
-        start,
-        end,
-        last_start,
-        last_end,
-        last_pattern,
-        begun,
+        words,
         out,
     )
 }

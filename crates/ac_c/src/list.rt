@@ -7,9 +7,10 @@ ghost use Rattle.std.specs.Prelude.{◌≡◌, ◌<◌, ◌≤◌, ◌^◌, IfOk
 ghost use Rattle.std.specs.Iterator.{YieldsFirst};
 ghost use Rattle.ac_input.specs.Computed.{is_after};
 ghost use Rattle.ac_automaton.specs.InMemory.Overlapping.OverlappingIter.{CountsRun, IsWithinOneWalk, LooksNear};
+ghost use Rattle.ac_c.specs.Find.{is_set};
 ghost use Rattle.ac_c.specs.Found.{found};
 ghost use Rattle.ac_c.specs.Walk.{AreGiven};
-ghost use Rattle.ac_c.specs.List.{AnswersListed, AnswersListedWords, AnswersWanted, AreWantedBy, CostsListing, CountsFilled, IsPlaceOver, RunsTo, asked_from, before_of, begins_at, is_wanted, listed_of, place, place_after, wanted_of};
+ghost use Rattle.ac_c.specs.List.{AnswersListed, AreWantedBy, CostsListing, CountsFilled, IsPlaceOver, RunsTo, asked_from, before_of, begins_at, is_wanted, listed_of, place, place_after, wanted_of};
 
 use crate::find::{Bounds, input_of};
 use crate::found::Found;
@@ -196,13 +197,13 @@ fn as_listed(place: Place, out: &[Found], listed: Result<usize, u32>) -> Listed
 
 /// What comes next, as C sees it.
 fn list_by(ac: &AhoCorasick, haystack: &[u8], wanted: Wanted, out: &mut [Found]) -> Listed
-    ensures { AnswersWanted wanted.words ac.now haystack.now wanted.place out.old out.new result }
+    ensures { AnswersListed wanted.words ac.now haystack.now wanted.place out.old out.new result }
 {
     let given = listed_counted(ac, haystack, wanted, out, &mut Steps::new());
     as_listed(wanted.place, out, given)
 }
 
-/// The next occurrences of a listing, as many as the buffer has room for, as C sees it.
+/// The next occurrences of a listing, as many as the buffer has room for, as C sees it; if `words` isn't 0, its next whole words.
 pub fn list(
     ac: &AhoCorasick,
     haystack: &[u8],
@@ -212,9 +213,10 @@ pub fn list(
     last_end: usize,
     last_pattern: u32,
     begun: u32,
+    words: u32,
     out: &mut [Found],
 ) -> Listed
-    ensures { AnswersListed ac.now haystack.now
+    ensures { AnswersListed (is_set words) ac.now haystack.now
         (place start end (found last_start last_end last_pattern) begun) out.old out.new result }
 {
     let last = Found {
@@ -230,36 +232,7 @@ pub fn list(
     };
     let wanted = Wanted {
         place,
-        words: false,
+        words: words != 0,
     };
     list_by(ac, haystack, wanted, out)
-}
-
-/// The next whole words of a listing, overlapping ones too, as many as the buffer has room for, as C sees it.
-pub fn list_words(
-    ac: &AhoCorasick,
-    haystack: &[u8],
-    start: usize,
-    end: usize,
-    last_start: usize,
-    last_end: usize,
-    last_pattern: u32,
-    begun: u32,
-    out: &mut [Found],
-) -> Listed
-    ensures { AnswersListedWords ac.now haystack.now
-        (place start end (found last_start last_end last_pattern) begun) out.old out.new result }
-{
-    let last = Found {
-        start: last_start,
-        end: last_end,
-        pattern: last_pattern,
-    };
-    let place = Place {
-        start,
-        end,
-        last,
-        begun,
-    };
-    list_by(ac, haystack, Wanted { place, words: true }, out)
 }

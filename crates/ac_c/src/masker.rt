@@ -88,11 +88,5 @@ impl Drop for Masker {
 pub fn begin(ac: &AhoCorasick, byte: u8, alloc: Global, masker: &mut Masker) -> u32
     ensures { AnswersMasking ac.now byte masker.old.value masker.new.value result }
 {
-    match Masking::begin(ac, byte, alloc) {
-        Ok(begun) => {
-            *masker = Masker::from_box(begun);
-            OK
-        }
-        Err(status) => status,
-    }
+    hold!(Masking::begin(ac, byte, alloc), masker: Masker)
 }

@@ -3,18 +3,18 @@
 //! The library's masking hands out what is masked of the pieces, as far as no later byte changes it, as one slice of the bytes that it
 //! holds. A call gives C its place and its length, so no byte is copied again.
 ghost use Rattle.std.specs.Prelude.{◌≡◌, IfErr, IfOk, OnOk};
-ghost use Rattle.ac_automaton.specs.Stream.{CanStream};
-ghost use Rattle.ac_automaton.specs.Stream.Mask.{MaskCounts};
+ghost use Rattle.ac_automaton.specs.Stream.Mask.{MaskCounts, fresh_mask};
 ghost use Rattle.ac_automaton.specs.declared.stream.StreamKinds.TheVariants.{OnlyStandard};
-ghost use Rattle.aho_corasick.specs.AhoCorasick.{as_built, supported_by};
-ghost use Rattle.ac_c.specs.Masking.{AnswersMasked, AnswersMaskedWords, IsClosedMask, IsMaskingOfPieces, IsPushedTo, masking_by, ready_len};
-ghost use Rattle.ac_c.specs.Searching.{IsRefusedStandard};
+ghost use Rattle.aho_corasick.specs.AhoCorasick.{as_built};
+ghost use Rattle.ac_c.specs.Begun.{CanBegin, IsBeginRefused, IsBegun};
+ghost use Rattle.ac_c.specs.Masking.{AnswersMasked, AnswersMaskedWords, IsClosedMask, IsPushedTo, masking_by, ready_len};
 
 use crate::replace::Length;
-use crate::searching::{Count, shared_standard};
-use crate::status::{FINISHED, NO_MEMORY, OK, TOO_MANY_BYTES, refused};
+use crate::searching::{Count, shared};
+use crate::status::{FINISHED, NO_MEMORY, OK, TOO_MANY_BYTES, refused, refused_stream};
+use ac_automaton::stream::StreamKinds;
 use ac_automaton::stream::mask::StreamMask;
-use aho_corasick::{AhoCorasick, ReplaceError, Steps, StreamError};
+use aho_corasick::{AhoCorasick, ReplaceError, Steps};
 use std::alloc::Global;
 use std::ptr::NonNull;
 
@@ -47,13 +47,12 @@ pub struct Masking {
 
 /// A masking of pieces by an automaton, which it shares.
 fn masking_of(ac: &AhoCorasick, byte: u8, alloc: Global) -> Result<StreamMask<AhoCorasick>, u32>
-    ensures { IsMaskingOfPieces ac.now byte result }
+    ensures { IsBegun OnlyStandard ac.now (fresh_mask (as_built ac.now) byte) result }
 {
-    let shared = shared_standard(ac, alloc)?;
+    let shared = shared(ac, StreamKinds::OnlyStandard, alloc)?;
     match StreamMask::new(shared, byte, alloc) {
         Ok(stream) => Ok(stream),
-        Err(StreamError::Config(error)) => Err(refused(&error)),
-        Err(_) => Err(NO_MEMORY),
+        Err(error) => Err(refused_stream(&error)),
     }
 }
 
@@ -61,8 +60,8 @@ impl Masking {
     /// A masking that was passed nothing yet, in a box.
     pub fn begin(ac: &AhoCorasick, byte: u8, alloc: Global) -> Result<Box<Masking, Global>, u32>
         ensures begun { IfOk result (λ m. masking_by ac.now byte ≡ m.value) }
-        ensures can { OnOk result (CanStream OnlyStandard (as_built ac.now) (supported_by ac.now)) }
-        ensures refused { IfErr result (IsRefusedStandard ac.now) }
+        ensures can { OnOk result (CanBegin OnlyStandard ac.now) }
+        ensures refused { IfErr result (IsBeginRefused OnlyStandard ac.now) }
     {
         let stream = masking_of(ac, byte, alloc)?;
         match Box::new(alloc, Masking { stream }) {

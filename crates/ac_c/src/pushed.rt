@@ -1,11 +1,11 @@
-//! What pieces are pushed to: a search for matches, or one for whole words.
-use ac_automaton::stream::{StreamSearch, WordSearch};
+//! What pieces are pushed to: a search for matches, or one for whole words, one after another or all of them.
+use ac_automaton::stream::{OverlappingWordSearch, StreamSearch, WordSearch};
 use aho_corasick::{AhoCorasick, Match, Steps, StreamError};
 
 /// A search of pieces for the items of one sequence.
 pub trait PieceSearch {
     ghost use Rattle.std.specs.Prelude.{◌≡◌, false, drop};
-    ghost use Rattle.ac_automaton.specs.Stream.{FindsHeld, GoesOn, IsOnCourse, IsSearched, LieApart, Sequence, StreamProgress, closed_by, cut_of, read_by};
+    ghost use Rattle.ac_automaton.specs.Stream.{FindsHeld, GoesOn, IsOnCourse, IsSearched, Sequence, StreamProgress, closed_by, cut_of, read_by};
     ghost use Rattle.ac_automaton.specs.Stream.Push.{Pushes};
 
     /// What it returns.
@@ -45,9 +45,6 @@ pub trait PieceSearch {
     /// Tells it that no more pieces come.
     fn close(&mut self)
         ensures { progress self.new ≡ closed_by (progress self.old) };
-
-    /// Its items lie one after another.
-    ghost apart: { LieApart sequence };
 }
 
 impl PieceSearch for StreamSearch<AhoCorasick> {
@@ -84,8 +81,6 @@ impl PieceSearch for StreamSearch<AhoCorasick> {
     fn close(&mut self) {
         self.finish();
     }
-
-    ghost apart = { tt };
 }
 
 impl PieceSearch for WordSearch<AhoCorasick> {
@@ -122,6 +117,40 @@ impl PieceSearch for WordSearch<AhoCorasick> {
     fn close(&mut self) {
         self.finish();
     }
+}
 
-    ghost apart = { tt };
+impl PieceSearch for OverlappingWordSearch<AhoCorasick> {
+    ghost use Rattle.ac_automaton.specs.Stream.{AllWords};
+
+    ghost sequence = { AllWords };
+
+    ghost progress = { λ s. s };
+
+    fn take(&mut self, piece: &[u8], steps: &mut Steps) -> Result<usize, StreamError> {
+        self.push_counted(piece, steps)
+    }
+
+    fn next_item(&mut self, steps: &mut Steps) -> Option<Match> {
+        self.next_counted(steps)
+    }
+
+    fn held_bytes(&self) -> &[u8] {
+        self.held()
+    }
+
+    fn first_held(&self) -> usize {
+        self.from()
+    }
+
+    fn decided(&self) -> usize {
+        self.cut()
+    }
+
+    fn has_closed(&self) -> bool {
+        self.is_closed()
+    }
+
+    fn close(&mut self) {
+        self.finish();
+    }
 }

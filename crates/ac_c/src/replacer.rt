@@ -88,11 +88,5 @@ impl Drop for Replacer {
 pub fn begin(ac: &AhoCorasick, alloc: Global, replacer: &mut Replacer) -> u32
     ensures { AnswersReplacing ac.now replacer.old.value replacer.new.value result }
 {
-    match Replacing::begin(ac, alloc) {
-        Ok(begun) => {
-            *replacer = Replacer::from_box(begun);
-            OK
-        }
-        Err(status) => status,
-    }
+    hold!(Replacing::begin(ac, alloc), replacer: Replacer)
 }

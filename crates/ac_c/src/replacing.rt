@@ -3,17 +3,18 @@
 //! The library's replacement hands out the replaced text, as far as it is decided, in slices: of the bytes that it holds, and of the
 //! replacements. A call gives C the place and the length of one slice, so no byte is copied again.
 ghost use Rattle.std.specs.Prelude.{◌≡◌, IfErr, IfOk, OnOk};
-ghost use Rattle.ac_automaton.specs.Stream.{CanStream, StreamCounts};
+ghost use Rattle.ac_automaton.specs.Stream.{StreamCounts};
+ghost use Rattle.ac_automaton.specs.Stream.Replacer.{fresh_replacer};
 ghost use Rattle.ac_automaton.specs.declared.stream.StreamKinds.TheVariants.{AnyKind};
-ghost use Rattle.aho_corasick.specs.AhoCorasick.{as_built, supported_by};
-ghost use Rattle.ac_c.specs.Replacing.{IsGivenText, IsPushedOn, IsReplacementOfPieces, ended_by, replacing_by};
-ghost use Rattle.ac_c.specs.Searching.{IsRefusedSearch};
+ghost use Rattle.aho_corasick.specs.AhoCorasick.{as_built};
+ghost use Rattle.ac_c.specs.Begun.{CanBegin, IsBeginRefused, IsBegun};
+ghost use Rattle.ac_c.specs.Replacing.{IsGivenText, IsPushedOn, ended_by, replacing_by};
 
 use crate::replace::Length;
 use crate::searching::{Count, shared};
-use crate::status::{FINISHED, NO_MEMORY, NONE, OK, TOO_MANY_BYTES, WRONG_COUNT, refused};
-use ac_automaton::stream::StreamReplacer;
-use aho_corasick::{AhoCorasick, Steps, StreamError};
+use crate::status::{FINISHED, NO_MEMORY, NONE, OK, TOO_MANY_BYTES, WRONG_COUNT, refused_stream};
+use ac_automaton::stream::{StreamKinds, StreamReplacer};
+use aho_corasick::{AhoCorasick, Steps};
 use std::alloc::Global;
 use std::ptr::NonNull;
 
@@ -25,13 +26,12 @@ pub struct Replacing {
 
 /// A replacement of pieces by an automaton, which it shares.
 fn replacer_by(ac: &AhoCorasick, alloc: Global) -> Result<StreamReplacer<AhoCorasick>, u32>
-    ensures { IsReplacementOfPieces ac.now result }
+    ensures { IsBegun AnyKind ac.now (fresh_replacer (as_built ac.now)) result }
 {
-    let shared = shared(ac, alloc)?;
+    let shared = shared(ac, StreamKinds::AnyKind, alloc)?;
     match StreamReplacer::any_kind(shared, alloc) {
         Ok(replacer) => Ok(replacer),
-        Err(StreamError::Config(error)) => Err(refused(&error)),
-        Err(_) => Err(NO_MEMORY),
+        Err(error) => Err(refused_stream(&error)),
     }
 }
 
@@ -39,8 +39,8 @@ impl Replacing {
     /// A replacement that was passed nothing yet, in a box.
     pub fn begin(ac: &AhoCorasick, alloc: Global) -> Result<Box<Replacing, Global>, u32>
         ensures begun { IfOk result (λ r. replacing_by ac.now ≡ r.value) }
-        ensures can { OnOk result (CanStream AnyKind (as_built ac.now) (supported_by ac.now)) }
-        ensures refused { IfErr result (IsRefusedSearch ac.now) }
+        ensures can { OnOk result (CanBegin AnyKind ac.now) }
+        ensures refused { IfErr result (IsBeginRefused AnyKind ac.now) }
     {
         let replacer = replacer_by(ac, alloc)?;
         match Box::new(alloc, Replacing { replacer }) {

@@ -2,21 +2,23 @@
 //!
 //! The library's search takes a piece only once all matches of what came before were returned. It holds a match back until no byte
 //! that follows can change it, and the bytes that are still undecided. A caller passes on what lies before the cut. A search for whole
-//! words is one like it, so [`Pushed`] has what both do, and the handle holds one or the other.
-ghost use Rattle.std.specs.Prelude.{◌≡◌, IfErr, IfOk, OnOk, drop};
-ghost use Rattle.ac_automaton.specs.Stream.{CanStream, IsConfigRefusal, IsOnCourse, StreamCounts, read_by};
-ghost use Rattle.ac_automaton.specs.Stream.Overlapping.{IsListingConfigRefusal};
+//! words is one like it, for those that a kind takes or for all of them. So [`Pushed`] has what each does, and the handle holds one of
+//! the three.
+ghost use Rattle.std.specs.Prelude.{◌≡◌, IfErr, IfOk, OnOk, drop, false};
+ghost use Rattle.ac_automaton.specs.Stream.{IsOnCourse, StreamCounts, fresh_progress, read_by};
+ghost use Rattle.ac_automaton.specs.Stream.WholeWords.{asked_for};
 ghost use Rattle.ac_automaton.specs.declared.stream.StreamKinds.TheVariants.{AnyKind, OnlyStandard};
-ghost use Rattle.aho_corasick.specs.AhoCorasick.{MeansSame, as_built, supported_by};
-ghost use Rattle.ac_c.specs.Searching.{AreNext, GivesNext, IsGiven, IsOnItsCourse, IsPushed, IsRefusedSearch, IsRefusedStandard, IsSearchOfPieces, IsSearchOfWords, TakesPushed, begun_by, seen_by, finished_by, finished_with, held_by, is_finished, view_in, view_of, words_begun_by};
+ghost use Rattle.aho_corasick.specs.AhoCorasick.{MeansSame, as_built};
+ghost use Rattle.ac_c.specs.Begun.{CanBegin, IsBeginError, IsBeginRefused, IsBegun};
+ghost use Rattle.ac_c.specs.Searching.{AreNext, GivesNext, IsGiven, IsOnItsCourse, IsPushed, TakesPushed, all_words_begun_by, begun_by, seen_by, finished_by, finished_with, held_by, is_finished, view_in, view_of, words_begun_by};
 ghost use Rattle.ac_c.specs.Status.{no_memory};
 
 use crate::found::Found;
 use crate::pushed::PieceSearch;
-use crate::status::{FINISHED, NO_MEMORY, NONE, OK, TOO_MANY_BYTES, refused};
-use ac_automaton::stream::{StreamSearch, WordSearch};
+use crate::status::{FINISHED, NO_MEMORY, NONE, OK, TOO_MANY_BYTES, refused, refused_stream};
+use ac_automaton::stream::{OverlappingWordSearch, StreamKinds, StreamSearch, WordSearch};
 use aho_corasick::automaton::Automaton;
-use aho_corasick::{AhoCorasick, Anchored, MatchError, MatchKind, Steps, StreamError};
+use aho_corasick::{AhoCorasick, Anchored, MatchError, MatchKind, Steps};
 use std::alloc::Global;
 
 /// A search to which pieces are pushed, and whether it was told that no more come.
@@ -31,8 +33,21 @@ pub struct Pushed<S> {
 pub enum Searching {
     /// For matches, under any kind.
     ForMatches(Pushed<StreamSearch<AhoCorasick>>),
-    /// For whole words, under any kind.
+    /// For whole words, under any kind, one after another.
     ForWords(Pushed<WordSearch<AhoCorasick>>),
+    /// For all whole words.
+    ForAllWords(Pushed<OverlappingWordSearch<AhoCorasick>>),
+}
+
+/// Calls a function of the search that a handle holds.
+macro_rules! each {
+    ($searching:ident, |$search:ident| $call:expr) => {
+        match $searching {
+            Searching::ForMatches($search) => $call,
+            Searching::ForWords($search) => $call,
+            Searching::ForAllWords($search) => $call,
+        }
+    };
 }
 
 /// How many bytes of a piece were taken, or how many matches were given, and the status.
@@ -77,10 +92,10 @@ impl View {
     }
 }
 
-/// Returns an error if the automaton can't search pieces.
+/// Returns an error if the automaton has no search of pieces for matches: there is no start, or else a pattern is empty.
 fn configured(ac: &AhoCorasick) -> Result<(), MatchError>
-    ensures can { OnOk result (CanStream AnyKind (as_built ac.now) (supported_by ac.now)) }
-    ensures error { IfErr result (IsConfigRefusal AnyKind (as_built ac.now) (supported_by ac.now)) }
+    ensures can { OnOk result (CanBegin AnyKind ac.now) }
+    ensures error { IfErr result (IsBeginError AnyKind ac.now) }
 {
     Automaton::start_state(ac, Anchored::No)?;
     if ac.min_pattern_len() == 0 {
@@ -89,26 +104,11 @@ fn configured(ac: &AhoCorasick) -> Result<(), MatchError>
     Ok(())
 }
 
-/// Another owner of an automaton that can search pieces.
-pub(crate) fn shared(ac: &AhoCorasick, alloc: Global) -> Result<AhoCorasick, u32>
-    ensures same { IfOk result (MeansSame ac.now) }
-    ensures can { OnOk result (CanStream AnyKind (as_built ac.now) (supported_by ac.now)) }
-    ensures refused { IfErr result (IsRefusedSearch ac.now) }
-{
-    if let Err(error) = configured(ac) {
-        return Err(refused(&error));
-    }
-    match ac.clone(alloc) {
-        Ok(shared) => Ok(shared),
-        Err(_) => Err(NO_MEMORY),
-    }
-}
-
 /// Returns an error if the automaton has no search of pieces for all that overlaps: as it can't mask a text, or else since a pattern is
 /// empty.
 fn configured_standard(ac: &AhoCorasick) -> Result<(), MatchError>
-    ensures can { OnOk result (CanStream OnlyStandard (as_built ac.now) (supported_by ac.now)) }
-    ensures error { IfErr result (IsListingConfigRefusal (as_built ac.now) (supported_by ac.now)) }
+    ensures can { OnOk result (CanBegin OnlyStandard ac.now) }
+    ensures error { IfErr result (IsBeginError OnlyStandard ac.now) }
 {
     ac.try_mask(&mut [], 0)?;
     if ac.min_pattern_len() == 0 {
@@ -117,13 +117,21 @@ fn configured_standard(ac: &AhoCorasick) -> Result<(), MatchError>
     Ok(())
 }
 
-/// Another owner of an automaton that can search pieces for all that overlaps.
-pub(crate) fn shared_standard(ac: &AhoCorasick, alloc: Global) -> Result<AhoCorasick, u32>
+/// Another owner of an automaton that can search pieces, where these kinds are accepted.
+pub(crate) fn shared(
+    ac: &AhoCorasick,
+    kinds: StreamKinds,
+    alloc: Global,
+) -> Result<AhoCorasick, u32>
     ensures same { IfOk result (MeansSame ac.now) }
-    ensures can { OnOk result (CanStream OnlyStandard (as_built ac.now) (supported_by ac.now)) }
-    ensures refused { IfErr result (IsRefusedStandard ac.now) }
+    ensures can { OnOk result (CanBegin kinds ac.now) }
+    ensures refused { IfErr result (IsBeginRefused kinds ac.now) }
 {
-    if let Err(error) = configured_standard(ac) {
+    let can = match kinds {
+        StreamKinds::AnyKind => configured(ac),
+        StreamKinds::OnlyStandard => configured_standard(ac),
+    };
+    if let Err(error) = can {
         return Err(refused(&error));
     }
     match ac.clone(alloc) {
@@ -134,13 +142,12 @@ pub(crate) fn shared_standard(ac: &AhoCorasick, alloc: Global) -> Result<AhoCora
 
 /// A search of pieces by an automaton, which it shares.
 fn search_by(ac: &AhoCorasick, alloc: Global) -> Result<StreamSearch<AhoCorasick>, u32>
-    ensures { IsSearchOfPieces ac.now result }
+    ensures { IsBegun AnyKind ac.now (fresh_progress (as_built ac.now)) result }
 {
-    let shared = shared(ac, alloc)?;
+    let shared = shared(ac, StreamKinds::AnyKind, alloc)?;
     match StreamSearch::any_kind(shared, alloc) {
         Ok(search) => Ok(search),
-        Err(StreamError::Config(error)) => Err(refused(&error)),
-        Err(_) => Err(NO_MEMORY),
+        Err(error) => Err(refused_stream(&error)),
     }
 }
 
@@ -150,13 +157,23 @@ fn words_by(
     kind: MatchKind,
     alloc: Global,
 ) -> Result<WordSearch<AhoCorasick>, u32>
-    ensures { IsSearchOfWords ac.now kind result }
+    ensures { IsBegun OnlyStandard ac.now (fresh_progress (asked_for kind (as_built ac.now))) result }
 {
-    let shared = shared_standard(ac, alloc)?;
+    let shared = shared(ac, StreamKinds::OnlyStandard, alloc)?;
     match WordSearch::new(shared, kind, alloc) {
         Ok(search) => Ok(search),
-        Err(StreamError::Config(error)) => Err(refused(&error)),
-        Err(_) => Err(NO_MEMORY),
+        Err(error) => Err(refused_stream(&error)),
+    }
+}
+
+/// A search of pieces for all whole words.
+fn all_words_by(ac: &AhoCorasick, alloc: Global) -> Result<OverlappingWordSearch<AhoCorasick>, u32>
+    ensures { IsBegun OnlyStandard ac.now (fresh_progress (as_built ac.now)) result }
+{
+    let shared = shared(ac, StreamKinds::OnlyStandard, alloc)?;
+    match OverlappingWordSearch::new(shared, alloc) {
+        Ok(search) => Ok(search),
+        Err(error) => Err(refused_stream(&error)),
     }
 }
 
@@ -175,6 +192,16 @@ fn fill<S: PieceSearch>(search: &mut S, out: &mut [Found], steps: &mut Steps) ->
 }
 
 impl<S: PieceSearch> Pushed<S> {
+    /// A search that was passed nothing yet.
+    fn new(search: S) -> Pushed<S>
+        ensures { result ≡ record { search = search; finished = false } }
+    {
+        Pushed {
+            search,
+            finished: false,
+        }
+    }
+
     /// Whether it was told that no more pieces come.
     fn is_finished(&self) -> bool
         ensures { result ≡ is_finished (seen_by S.progress self.now) }
@@ -260,63 +287,56 @@ impl Searching {
     /// A search for matches that was passed nothing yet, in a box.
     pub fn begin(ac: &AhoCorasick, alloc: Global) -> Result<Box<Searching, Global>, u32>
         ensures begun { IfOk result (λ s. begun_by ac.now ≡ s.value) }
-        ensures can { OnOk result (CanStream AnyKind (as_built ac.now) (supported_by ac.now)) }
-        ensures refused { IfErr result (IsRefusedSearch ac.now) }
+        ensures can { OnOk result (CanBegin AnyKind ac.now) }
+        ensures refused { IfErr result (IsBeginRefused AnyKind ac.now) }
     {
         let search = search_by(ac, alloc)?;
-        let begun = Pushed {
-            search,
-            finished: false,
-        };
-        Searching::ForMatches(begun).boxed(alloc)
+        Searching::ForMatches(Pushed::new(search)).boxed(alloc)
     }
 
-    /// A search for whole words that was passed nothing yet, in a box.
+    /// A search for whole words, one after another, that was passed nothing yet, in a box.
     pub fn begin_words(
         ac: &AhoCorasick,
         kind: MatchKind,
         alloc: Global,
     ) -> Result<Box<Searching, Global>, u32>
         ensures begun { IfOk result (λ s. words_begun_by ac.now kind ≡ s.value) }
-        ensures can { OnOk result (CanStream OnlyStandard (as_built ac.now) (supported_by ac.now)) }
-        ensures refused { IfErr result (IsRefusedStandard ac.now) }
+        ensures can { OnOk result (CanBegin OnlyStandard ac.now) }
+        ensures refused { IfErr result (IsBeginRefused OnlyStandard ac.now) }
     {
         let search = words_by(ac, kind, alloc)?;
-        let begun = Pushed {
-            search,
-            finished: false,
-        };
-        Searching::ForWords(begun).boxed(alloc)
+        Searching::ForWords(Pushed::new(search)).boxed(alloc)
+    }
+
+    /// A search for all whole words that was passed nothing yet, in a box.
+    pub fn begin_all_words(ac: &AhoCorasick, alloc: Global) -> Result<Box<Searching, Global>, u32>
+        ensures begun { IfOk result (λ s. all_words_begun_by ac.now ≡ s.value) }
+        ensures can { OnOk result (CanBegin OnlyStandard ac.now) }
+        ensures refused { IfErr result (IsBeginRefused OnlyStandard ac.now) }
+    {
+        let search = all_words_by(ac, alloc)?;
+        Searching::ForAllWords(Pushed::new(search)).boxed(alloc)
     }
 
     /// Takes the first bytes of a piece.
     pub fn push(&mut self, piece: &[u8]) -> Count
         ensures { TakesPushed self.old piece.now self.new result }
     {
-        match self {
-            Searching::ForMatches(search) => search.push(piece),
-            Searching::ForWords(search) => search.push(piece),
-        }
+        each!(self, |search| search.push(piece))
     }
 
-    /// The next matches, or words, that are decided, as many as the buffer has room for.
+    /// The next items that are decided, as many as the buffer has room for.
     pub fn next_items(&mut self, out: &mut [Found]) -> Count
         ensures { GivesNext self.old self.new out.old out.new result }
     {
-        match self {
-            Searching::ForMatches(search) => search.next_items(out),
-            Searching::ForWords(search) => search.next_items(out),
-        }
+        each!(self, |search| search.next_items(out))
     }
 
     /// The bytes that are held.
     pub fn held(&self) -> &[u8]
         ensures { result.now ≡ held_by self.now }
     {
-        match self {
-            Searching::ForMatches(search) => search.search.held(),
-            Searching::ForWords(search) => search.search.held(),
-        }
+        each!(self, |search| search.search.held())
     }
 
     /// Where the held bytes stand.
@@ -324,19 +344,13 @@ impl Searching {
         ensures view { result ≡ view_in self.now }
         ensures course { IsOnItsCourse self.now }
     {
-        match self {
-            Searching::ForMatches(search) => search.view(),
-            Searching::ForWords(search) => search.view(),
-        }
+        each!(self, |search| search.view())
     }
 
     /// Tells it that no more pieces come, so that everything is decided.
     pub fn finish(&mut self)
         ensures { self.new ≡ finished_with self.old }
     {
-        match self {
-            Searching::ForMatches(search) => search.finish(),
-            Searching::ForWords(search) => search.finish(),
-        }
+        each!(self, |search| search.finish())
     }
 }

@@ -1,8 +1,8 @@
 //! What a call returns: the numbers that the header names.
 ghost use Rattle.std.specs.Prelude.{◌≡◌};
-ghost use Rattle.ac_c.specs.Status.{refusal_status};
+ghost use Rattle.ac_c.specs.Status.{refusal_status, stream_status};
 
-use aho_corasick::{MatchError, MatchErrorKind};
+use aho_corasick::{MatchError, MatchErrorKind, StreamError};
 
 pub const OK: u32 = 0;
 
@@ -62,5 +62,15 @@ pub fn refused(error: &MatchError) -> u32
         MatchErrorKind::UnsupportedStream { .. } => NOT_STANDARD,
         MatchErrorKind::UnsupportedOverlapping { .. } => NOT_STANDARD,
         MatchErrorKind::UnsupportedEmpty => EMPTY_PATTERN,
+    }
+}
+
+/// The status of a stream that couldn't be made.
+pub fn refused_stream(error: &StreamError) -> u32
+    ensures { result ≡ stream_status error.now }
+{
+    match error {
+        StreamError::Config(error) => refused(error),
+        _ => NO_MEMORY,
     }
 }

@@ -1,6 +1,6 @@
 //! What C holds of a search of pieces: a pointer to it, or null.
 ghost use Rattle.std.specs.Prelude.{◌≡◌, Some, None, option_map};
-ghost use Rattle.ac_c.specs.Stream.{AnswersStream, AnswersWordStream, HeldStream, stream_coded};
+ghost use Rattle.ac_c.specs.Stream.{AnswersAllWordStream, AnswersStream, AnswersWordStream, HeldStream, stream_coded};
 
 use crate::build::kind_by;
 use crate::searching::Searching;
@@ -89,13 +89,7 @@ impl Drop for Stream {
 pub fn begin(ac: &AhoCorasick, alloc: Global, stream: &mut Stream) -> u32
     ensures { AnswersStream ac.now stream.old.value stream.new.value result }
 {
-    match Searching::begin(ac, alloc) {
-        Ok(search) => {
-            *stream = Stream::from_box(search);
-            OK
-        }
-        Err(status) => status,
-    }
+    hold!(Searching::begin(ac, alloc), stream: Stream)
 }
 
 /// A search of pieces for whole words under the kind of this number into a handle, as C sees it. It is another owner of the automaton.
@@ -105,11 +99,12 @@ pub fn begin_words(ac: &AhoCorasick, kind: u32, alloc: Global, stream: &mut Stre
     let Some(kind) = kind_by(kind) else {
         return BAD_KIND;
     };
-    match Searching::begin_words(ac, kind, alloc) {
-        Ok(search) => {
-            *stream = Stream::from_box(search);
-            OK
-        }
-        Err(status) => status,
-    }
+    hold!(Searching::begin_words(ac, kind, alloc), stream: Stream)
+}
+
+/// A search of pieces for all whole words into a handle, as C sees it. It is another owner of the automaton.
+pub fn begin_all_words(ac: &AhoCorasick, alloc: Global, stream: &mut Stream) -> u32
+    ensures { AnswersAllWordStream ac.now stream.old.value stream.new.value result }
+{
+    hold!(Searching::begin_all_words(ac, alloc), stream: Stream)
 }

@@ -274,6 +274,7 @@ extern "C" {
     ) -> dado_status;
     pub fn dado_stream_new(ac: *const dado_automaton, stream: *mut *mut dado_stream) -> dado_status;
     pub fn dado_word_stream_new(ac: *const dado_automaton, kind: u32, stream: *mut *mut dado_stream) -> dado_status;
+    pub fn dado_all_words_stream_new(ac: *const dado_automaton, stream: *mut *mut dado_stream) -> dado_status;
     pub fn dado_stream_push(stream: *mut *mut dado_stream, piece: *const u8, len: usize, taken: *mut usize) -> dado_status;
     pub fn dado_stream_some(stream: *mut *mut dado_stream, out: *mut dado_match, room: usize, count: *mut usize) -> dado_status;
     pub fn dado_stream_view(stream: *mut *mut dado_stream, held: *mut dado_held) -> dado_status;

@@ -198,6 +198,16 @@ impl Handle {
         }
     }
 
+    /// A stream of all whole words, which owns the automaton too.
+    pub(crate) fn all_words_stream(&self) -> Result<Pieces, sys::dado_status> {
+        let mut stream = Pieces(ptr::null_mut());
+        // SAFETY: the automaton is lent; the stream is null.
+        match unsafe { sys::dado_all_words_stream_new(self.0.as_ptr(), &mut stream.0) } {
+            sys::DADO_OK => Ok(stream),
+            other => Err(other),
+        }
+    }
+
     /// Masks bytes where they lie.
     pub(crate) fn mask(&self, bytes: &mut [u8], mask: u8) -> Result<(), sys::dado_status> {
         // SAFETY: the automaton and the bytes are lent.
@@ -273,7 +283,7 @@ unsafe impl Sync for Pieces {}
 
 impl Drop for Pieces {
     fn drop(&mut self) {
-        // SAFETY: it is null or was made by `dado_stream_new` or `dado_word_stream_new`, and nothing else frees it.
+        // SAFETY: it is null or was made by one of the three calls that make a stream, and nothing else frees it.
         unsafe { sys::dado_stream_free(&mut self.0) }
     }
 }

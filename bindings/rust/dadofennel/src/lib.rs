@@ -50,7 +50,7 @@ pub use crate::error::{BuildError, BuildErrorKind, MatchError, MatchErrorKind};
 pub use crate::id::{PatternID, PatternIDError};
 pub use crate::iter::{FindIter, FindOverlappingIter};
 pub use crate::search::{Anchored, Input, Match, MatchKind, Span, StartKind};
-pub use crate::stream::{StreamFindIter, StreamFindWordIter};
+pub use crate::stream::{StreamFindIter, StreamFindOverlappingWordIter, StreamFindWordIter};
 pub use crate::words::{FindOverlappingWordIter, FindWordIter};
 
 /// The version of the library that searches, such as `1.0.0`.

@@ -86,6 +86,34 @@ impl AhoCorasick {
         Ok(StreamFindIter(Stream::new(self.handle().word_stream(kind.number()), rdr)))
     }
 
+    /// All whole words of what a reader has, overlapping ones too, with places counted from its first byte: those of
+    /// `find_overlapping_word_iter` in all that it has, in the order of end, start and number. A word is found once the byte after it was
+    /// read.
+    ///
+    /// It takes the memory that `stream_find_iter` takes. An item is an error where the reader returns one.
+    ///
+    /// ```
+    /// use dadofennel::AhoCorasick;
+    ///
+    /// let ac = AhoCorasick::new(["new", "new york"])?;
+    /// let text = "new yorker, new york".as_bytes();
+    /// let words: Result<Vec<_>, _> = ac.stream_find_overlapping_word_iter(text).collect();
+    /// assert_eq!(vec![0..3, 12..15, 12..20], words?.iter().map(|word| word.range()).collect::<Vec<_>>());
+    /// # Ok::<(), Box<dyn std::error::Error>>(())
+    /// ```
+    pub fn stream_find_overlapping_word_iter<R: Read>(&self, rdr: R) -> StreamFindOverlappingWordIter<'_, R> {
+        supported(self.try_stream_find_overlapping_word_iter(rdr))
+    }
+
+    /// All whole words of what a reader has. See `stream_find_overlapping_word_iter`.
+    pub fn try_stream_find_overlapping_word_iter<R: Read>(
+        &self,
+        rdr: R,
+    ) -> Result<StreamFindOverlappingWordIter<'_, R>, MatchError> {
+        self.words()?;
+        Ok(StreamFindIter(Stream::new(self.handle().all_words_stream(), rdr)))
+    }
+
     /// Writes what a reader has, with each match replaced. See `stream_replace_all`. A `MatchError` is an error of the kind
     /// `Other`.
     pub fn try_stream_replace_all<R, W, B>(&self, rdr: R, wtr: W, replace_with: &[B]) -> io::Result<()>
@@ -135,6 +163,9 @@ pub struct StreamFindIter<'a, R>(Stream<'a, R>);
 /// The whole words of what a reader has. See `AhoCorasick::stream_find_word_iter`.
 pub type StreamFindWordIter<'a, R> = StreamFindIter<'a, R>;
 
+/// All whole words of what a reader has. See `AhoCorasick::stream_find_overlapping_word_iter`.
+pub type StreamFindOverlappingWordIter<'a, R> = StreamFindIter<'a, R>;
+
 impl<R: Read> Iterator for StreamFindIter<'_, R> {
     type Item = io::Result<Match>;
 
@@ -183,7 +214,7 @@ impl<'a, R: Read> Stream<'a, R> {
         Stream { ac: PhantomData, reader, pieces, buffer, len: 0, pushed: 0, given: 0, batch, found, ended: false }
     }
 
-    /// The next part, or nothing at the stream's end.
+    /// The next part, or nothing at the stream's end. Where words overlap, one may begin before what was given.
     fn next(&mut self) -> io::Result<Option<Piece>> {
         loop {
             if let Some(found) = self.found.take().or_else(|| self.next_match()) {

@@ -304,7 +304,7 @@ fn words() {
     });
 }
 
-/// All of them, and masked, beside the same occurrences.
+/// All of them, in a text and read in pieces, and masked, beside the same occurrences.
 #[test]
 fn all_words() {
     cases(|rng, case| {
@@ -322,7 +322,10 @@ fn all_words() {
         assert_eq!(if masks { &wanted } else { text }, &bytes[..], "{}", case.shown());
         let can = masks && !case.patterns.contains(&String::new());
         let words = case.ac.try_find_overlapping_word_iter(text).map(Iterator::collect::<Vec<_>>);
-        assert_eq!(if can { Some(all) } else { None }, words.ok(), "{}", case.shown());
+        assert_eq!(if can { Some(all) } else { None }, words.as_ref().ok().cloned(), "{}", case.shown());
+        let reader = Pieces { text, size: rng.one(&[1, 2, 7, 100]), fails_after: 0 };
+        let read = case.ac.try_stream_find_overlapping_word_iter(reader).map(|it| it.collect::<Result<Vec<_>, _>>().unwrap());
+        assert_eq!(words.ok(), read.ok(), "{}", case.shown());
     });
 }
 
@@ -355,7 +358,12 @@ fn rows_of_words() {
     assert_eq!((0, 12..15), last(MatchKind::Standard));
     assert_eq!((0, 12..15), last(MatchKind::LeftmostFirst));
     assert_eq!((1, 12..20), last(MatchKind::LeftmostLongest));
+    let all = AhoCorasick::new(["new york", "york times", "york"]).unwrap();
+    let read = all.stream_find_overlapping_word_iter(&b"a new york times"[..]).map(|it| it.unwrap());
+    let read: Vec<_> = read.map(|it| (it.pattern().as_usize(), it.range())).collect();
+    assert_eq!(vec![(0, 2..10), (2, 6..10), (1, 6..16)], read);
     let leftmost = AhoCorasick::builder().match_kind(MatchKind::LeftmostFirst).build(["cat"]).unwrap();
+    assert!(leftmost.try_stream_find_overlapping_word_iter(&b"cat"[..]).is_err());
     assert!(leftmost.try_find_word_iter(MatchKind::LeftmostFirst, "cat").is_err());
     assert!(AhoCorasick::new(["cat", ""]).unwrap().try_find_word_iter(MatchKind::Standard, "cat").is_err());
 }

@@ -7,7 +7,7 @@ use Rattle.std.proofs.lemmas.List.Elements.{All-nil, All-push}
 use Rattle.ac_input.specs.declared.search.MatchKind.{MatchKind}
 use Rattle.ac_input.specs.declared.search.MatchKind.TheVariants.{Standard}
 use Rattle.ac_input.specs.Occurrence.{Occurrence}
-use Rattle.ac_automaton.specs.Stream.{AreAllGiven, CanBeCounted, IsHeldItem, LieApart, ReadsNothing, Sequence, StreamProgress, place_of, read_by}
+use Rattle.ac_automaton.specs.Stream.{AreAllGiven, CanBeCounted, IsHeldItem, Occurrences, ReadsNothing, Sequence, StreamProgress, items_of, place_of, read_by}
 use Rattle.ac_c.specs.declared.found.Found.{Found}
 use Rattle.ac_c.specs.Found.{shown}
 use Rattle.ac_c.specs.Searching.{AreShown, Returns}
@@ -38,20 +38,36 @@ same-read : {q : Sequence} (s t : StreamProgress q) → ReadsNothing s t → rea
 same-read s t a = ap concat a.pieces
 
 -- if nothing is read in between, bytes that could be counted before can be counted after
-pub same-counted : {q : Sequence} (s t : StreamProgress q) → ReadsNothing s t → CanBeCounted (read_by s) → CanBeCounted (read_by t)
+pub same-counted : {q : Sequence} (s t : StreamProgress q) → ReadsNothing s t → CanBeCounted (read_by s)
+    → CanBeCounted (read_by t)
 same-counted s t a counted = subst CanBeCounted (sym (same-read s t a)) counted
 
+-- a listing that had returned all occurrences up to where it stood has begun anew since, past that place
+abbrev pub HasPassed : {q : Sequence} → StreamProgress q → StreamProgress q → Type 0
+HasPassed {q} s t =
+    q ≡ Occurrences → s.given ≡ items_of q s.built.dictionary (take s.at (read_by s)) → s.at < t.last
+
+-- so the next occurrence ends past it, if items were returned since; and if none were, as the search is unchanged
+held-past : {q : Sequence} (s t : StreamProgress q) (os : List Occurrence) (o : Occurrence) → (os ≡ [] → t ≡ s)
+    → (os ≢ [] → HasPassed s t) → IsHeldItem t o → q ≡ Occurrences
+    → s.given ≡ items_of q s.built.dictionary (take s.at (read_by s)) → s.at < o.end
+held-past {q} s t [] o same passed h e given = (subst (λ z. IsHeldItem z o) (same refl) h).past e given
+held-past {q} s t (x ∷ os) o same passed h e given =
+    let further : s.at < t.last = passed (λ z. cc) e given in let behind : t.last ≤ place_of q o = h.behind in
+    let place : place_of q o ≡ o.end = ap (λ p. place_of p o) e in
+    omega (arith, place)
+
 -- if nothing is read in between, an item among the held bytes was among them before
-held-before : {q : Sequence} (s t : StreamProgress q) (o : Occurrence) → LieApart q → ReadsNothing s t
-    → IsHeldItem t o → IsHeldItem s o
-held-before {q} s t o apart a h = record {
+held-before : {q : Sequence} (s t : StreamProgress q) (os : List Occurrence) (o : Occurrence) → (os ≡ [] → t ≡ s)
+    → (os ≢ [] → HasPassed s t) → ReadsNothing s t → IsHeldItem t o → IsHeldItem s o
+held-before {q} s t os o same passed a h = record {
   pattern = subst (λ b. o.pattern < length b.dictionary.patterns) a.built h.pattern;
   held = λ e. subst (λ n. n ≤ o.start) a.from (h.held e);
   behind = let x : s.last ≤ t.last = a.last in let y : t.last ≤ place_of q o = h.behind in omega arith;
   some = h.some;
   new = λ picks e. let x : s.at ≤ t.at = a.on e in let y : t.at < o.end = h.new picks (same-kind s t a e) in
       omega arith;
-  past = λ e. absurd (subst LieApart e apart);
+  past = held-past s t os o same passed h;
   within = subst (λ xs. o.end ≤ length xs) (same-read s t a) h.within;
 }
 
@@ -83,16 +99,22 @@ more-than-none [] o e = cc
 more-than-none (x ∷ os) o e = cc
 
 -- one more item was returned
-pub returns-more : {q : Sequence} (s t u : StreamProgress q) (os : List Occurrence) (o : Occurrence) → LieApart q
-    → Returns s t os → (os ≡ [] → t ≡ s) → ReadsNothing t u → u.given ≡ t.given ++ o ∷ []
+pub returns-more : {q : Sequence} (s t u : StreamProgress q) (os : List Occurrence) (o : Occurrence) → Returns s t os
+    → (os ≡ [] → t ≡ s) → (os ≢ [] → HasPassed s t) → ReadsNothing t u → u.given ≡ t.given ++ o ∷ []
     → IsHeldItem t o → CanBeCounted (read_by t) → ¬ AreAllGiven t → Returns s u (os ++ o ∷ [])
-returns-more s t u os o apart h same b given held counted left = record {
+returns-more s t u os o h same passed b given held counted left = record {
   nothing = reads-on s t u h.nothing b;
   given = given ∙ (ap (λ xs. xs ++ o ∷ []) h.given ∙ append_assoc s.given os (o ∷ []));
-  held = All-push (IsHeldItem s) os o h.held (held-before s t o apart h.nothing held);
+  held = All-push (IsHeldItem s) os o h.held (held-before s t os o same passed h.nothing held);
   some = λ some.
       (subst CanBeCounted (same-read s t h.nothing) counted, left-before s t os same (λ e. (h.some e).1) left);
 }
+
+-- the search has begun anew at the end of that item
+pub passed-more : {q : Sequence} (s t u : StreamProgress q) (os : List Occurrence) (o : Occurrence) → (os ≡ [] → t ≡ s)
+    → (os ≢ [] → HasPassed s t) → IsHeldItem t o → u.last ≡ o.end → HasPassed s u
+passed-more s t u os o same passed h last e given =
+    subst (λ n. s.at < n) (sym last) (held-past s t os o same passed h e given)
 
 -- the buffer shows one more item
 pub shown-more : (os : List Occurrence) (o : Occurrence) (old out : List Found) (at : ℕ) → at < length out

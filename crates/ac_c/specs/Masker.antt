@@ -12,7 +12,7 @@ use Rattle.ac_c.specs.contracts.masking.Masking.{the_row}
 use Rattle.ac_c.specs.declared.masking.Masking.{Masking}
 use Rattle.ac_c.specs.declared.replace.Length.{Length}
 use Rattle.ac_c.specs.declared.searching.Count.{Count}
-use Rattle.ac_c.specs.Masking.{IsClosedMask, IsPushedTo, masking_by, ready_len}
+use Rattle.ac_c.specs.Masking.{IsClosedMask, IsPushedTo, masking_by, ready_len, word_masking_by}
 use Rattle.ac_c.specs.Searching.{IsRefusedStandard}
 use Rattle.ac_c.specs.Status.{ok, no_masker}
 
@@ -24,10 +24,18 @@ abbrev pub masker_coded : Coded HeldMasker
 masker_coded = coded_option the_row.coded
 
 -- the handle holds a masking that was passed nothing yet; or why there is none, and the handle is unchanged
-abbrev pub AnswersMasking : AhoCorasick → ℕ → HeldMasker → HeldMasker → ℕ → Type 0
-AnswersMasking ac byte old new status =
-    (CanStream OnlyStandard (as_built ac) (supported_by ac) × (new ≡ Some (masking_by ac byte)) × (status ≡ ok))
+abbrev pub HoldsFresh : AhoCorasick → Masking → HeldMasker → HeldMasker → ℕ → Type 0
+HoldsFresh ac fresh old new status =
+    (CanStream OnlyStandard (as_built ac) (supported_by ac) × (new ≡ Some fresh) × (status ≡ ok))
     ⊎ (IsRefusedStandard ac status × (new ≡ old))
+
+-- one of all occurrences
+abbrev pub AnswersMasking : AhoCorasick → ℕ → HeldMasker → HeldMasker → ℕ → Type 0
+AnswersMasking ac byte = HoldsFresh ac (masking_by ac byte)
+
+-- one of whole words
+abbrev pub AnswersWordMasking : AhoCorasick → ℕ → HeldMasker → HeldMasker → ℕ → Type 0
+AnswersWordMasking ac byte = HoldsFresh ac (word_masking_by ac byte)
 
 -- the first bytes of a piece were taken, or why none were; or the handle holds no masking
 abbrev pub AnswersMaskPush : List ℕ → HeldMasker → HeldMasker → Count → Type 0

@@ -391,6 +391,12 @@ dado_status dado_masker_new(const dado_automaton *ac, uint8_t byte, dado_masker 
     return proved()->masker_new(ac, byte, masker);
 }
 
+dado_status dado_word_masker_new(const dado_automaton *ac, uint8_t byte, dado_masker **masker) {
+    if (masker == NULL) return DADO_BAD_ARGUMENT;
+    if (ac == NULL) return DADO_NO_AUTOMATON;
+    return proved()->word_masker_new(ac, byte, masker);
+}
+
 dado_status dado_masker_push(dado_masker **masker, const void *piece, size_t len, size_t *taken) {
     dado_raw_count pushed;
     if (taken == NULL) return DADO_BAD_ARGUMENT;

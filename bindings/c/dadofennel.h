@@ -717,6 +717,18 @@ dado_status dado_mask_words(const dado_automaton *ac, void *text, size_t len, ui
 dado_status dado_masker_new(const dado_automaton *ac, uint8_t byte, dado_masker **masker);
 
 /*
+ * Makes a masker of whole words, and puts it at `*masker`. However the text is cut, what it hands out is the text that dado_mask_words
+ * makes of the whole: a piece may begin or end beside a word byte. It serves in the calls below. What is kept back between pushes is at
+ * most as many bytes as the longest pattern has. A masker that was there is freed, once the new one is made. It owns the automaton too.
+ *
+ * The status is one of those of dado_masker_new, in that order. `*masker` is unchanged at all but DADO_OK.
+ *
+ * Takes memory: two buffers of 64 KiB, or of eight times one byte more than the longest pattern has if that is more. A push copies each
+ * byte twice, and moves two sevenths of all bytes at most.
+ */
+dado_status dado_word_masker_new(const dado_automaton *ac, uint8_t byte, dado_masker **masker);
+
+/*
  * Takes the first bytes of a piece, after all that was pushed before, and masks them; how many, to `*taken`. The piece isn't needed
  * after the call. At least one is taken, if there is one, and all of them, unless the masker's memory is full: then the rest is pushed
  * again after what is ready was handed on. What was ready before is dropped.
@@ -726,7 +738,7 @@ dado_status dado_masker_new(const dado_automaton *ac, uint8_t byte, dado_masker 
  * first `*taken` is 0. At all but the first and the last the masker is unchanged.
  *
  * All calls together look at no more than two states for each byte that was pushed, or at one with a DFA. A call copies each byte once,
- * and moves a seventh of all bytes at most. It takes no memory.
+ * and moves a seventh of all bytes at most; of whole words see dado_word_masker_new. It takes no memory.
  */
 dado_status dado_masker_push(dado_masker **masker, const void *piece, size_t len, size_t *taken);
 

@@ -113,6 +113,7 @@ typedef struct dado_raw_view {
     CALL(dado_status, mask, (const dado_automaton *at, uint8_t *text, size_t len, uint8_t byte))                                           \
     CALL(dado_status, mask_words, (const dado_automaton *at, uint8_t *text, size_t len, uint8_t byte))                                     \
     CALL(dado_status, masker_new, (const dado_automaton *at, uint8_t byte, dado_masker **masker))                                          \
+    CALL(dado_status, word_masker_new, (const dado_automaton *at, uint8_t byte, dado_masker **masker))                                     \
     CALL(dado_raw_count, masker_push, (dado_masker **masker, const uint8_t *piece, size_t len))                                            \
     CALL(dado_raw_length, masker_ready, (dado_masker **masker, const uint8_t **at))                                                        \
     CALL(dado_status, masker_finish, (dado_masker **masker))                                                                               \

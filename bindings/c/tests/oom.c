@@ -73,7 +73,7 @@ int main(void) {
     dado_automaton *ac = NULL, *two = NULL;
     dado_stream *stream = NULL, *words = NULL, *all = NULL, *kept;
     dado_replacer *replacer = NULL, *begun_one;
-    dado_masker *masker = NULL, *made_one;
+    dado_masker *masker = NULL, *word_masker = NULL, *made_one;
     dado_held there;
     dado_bytes slice;
     dado_text text = DADO_NO_TEXT;
@@ -176,6 +176,16 @@ int main(void) {
     CHECK(n >= 2);
     made_one = masker, before = held, left = 0;
     CHECK(dado_masker_new(ac, '*', &masker) == DADO_NO_MEMORY && masker == made_one && held == before);
+    CHECK(dado_word_masker_new(ac, '*', &masker) == DADO_NO_MEMORY && masker == made_one && held == before);
+    for (n = 0;; n++, failed++) {
+        dado_status status;
+        before = held, left = n;
+        status = dado_word_masker_new(ac, '*', &word_masker);
+        left = -1;
+        if (status == DADO_OK || n > 1000) break;
+        CHECK(status == DADO_NO_MEMORY && word_masker == NULL && held == before);
+    }
+    CHECK(n >= 3);
     for (n = 0;; n++, failed++) {
         dado_status status;
         memcpy(out, TEXT, 20);
@@ -223,6 +233,8 @@ int main(void) {
         CHECK(dado_masker_ready(&masker, &slice) == DADO_OK && slice.len == 20 && memcmp(slice.at, MASKED, 20) == 0);
         CHECK(dado_masker_finish(&masker) == DADO_OK);
         CHECK(dado_masker_ready(&masker, &slice) == DADO_OK && slice.len == 0);
+        CHECK(dado_masker_push(&word_masker, BYTES(TEXT), &count) == DADO_OK && count == 20);
+        CHECK(dado_masker_finish(&word_masker) == DADO_OK && dado_masker_ready(&word_masker, &slice) == DADO_OK);
     }
     left = -1;
     CHECK(held == before);
@@ -231,6 +243,7 @@ int main(void) {
     dado_stream_free(&all);
     dado_replacer_free(&replacer);
     dado_masker_free(&masker);
+    dado_masker_free(&word_masker);
     dado_free(&ac);
     CHECK(held == begun);
     CHECK(failed > 40);

@@ -44,11 +44,11 @@ static void *pieces(void *nothing) {
     static dado_bytes instead[COUNT];
     dado_stream *stream = NULL, *words = NULL, *all = NULL;
     dado_replacer *replacer = NULL;
-    dado_masker *masker = NULL;
+    dado_masker *masker = NULL, *word_masker = NULL;
     dado_bytes slice;
     size_t taken, written;
     dado_stream_new(ac, &stream), dado_word_stream_new(ac, DADO_LEFTMOST_FIRST, &words), dado_all_words_stream_new(ac, &all);
-    dado_replacer_new(ac, &replacer), dado_masker_new(ac, '*', &masker);
+    dado_replacer_new(ac, &replacer), dado_masker_new(ac, '*', &masker), dado_word_masker_new(ac, '*', &word_masker);
     dado_stream_push(&stream, text, LEN, &taken), dado_stream_push(&words, text, LEN, &taken);
     dado_stream_push(&all, text, LEN, &taken);
     dado_replacer_push(&replacer, text, LEN, &taken), dado_masker_push(&masker, text, LEN, &taken);
@@ -57,7 +57,9 @@ static void *pieces(void *nothing) {
     while (dado_stream_some(&all, out, 64, &written) == DADO_OK) {}
     while (dado_replacer_next(&replacer, instead, count, &slice) == DADO_OK) {}
     dado_masker_ready(&masker, &slice);
+    dado_masker_push(&word_masker, text, LEN, &taken), dado_masker_finish(&word_masker), dado_masker_ready(&word_masker, &slice);
     dado_stream_free(&stream), dado_stream_free(&words), dado_stream_free(&all), dado_replacer_free(&replacer), dado_masker_free(&masker);
+    dado_masker_free(&word_masker);
     return nothing;
 }
 

@@ -120,12 +120,39 @@ static void all_alike(const dado_automaton *ac, const dado_bytes *patterns, uint
     CHECK(!word_after(patterns, count, at, len, over, all == 0 ? NULL : &last, &wanted));
 }
 
-/* A text whose words are masked, beside that loop. */
+/* The masked text that a masker of whole words makes of pieces of a size, beside the one that is wanted. Few bytes wait: as many as the
+ * longest pattern has. */
+static void masked_in_pieces(const dado_automaton *ac, const uint8_t *at, const uint8_t *wanted, size_t len, size_t longest, uint8_t byte,
+                             size_t size) {
+    dado_masker *masker = NULL;
+    dado_bytes slice;
+    size_t pushed = 0, given = 0, taken;
+    CHECK(dado_word_masker_new(ac, byte, &masker) == DADO_OK && masker != NULL);
+    while (pushed < len) {
+        CHECK(dado_masker_push(&masker, at + pushed, len - pushed < size ? len - pushed : size, &taken) == DADO_OK && taken >= 1);
+        pushed += taken;
+        CHECK(dado_masker_ready(&masker, &slice) == DADO_OK && slice.at != NULL && given + slice.len <= pushed);
+        CHECK(memcmp(slice.at, wanted + given, slice.len) == 0);
+        given += slice.len;
+        CHECK(pushed <= given + longest);
+    }
+    CHECK(dado_masker_finish(&masker) == DADO_OK && dado_masker_push(&masker, BYTES("x"), &taken) == DADO_FINISHED && taken == 0);
+    CHECK(dado_masker_ready(&masker, &slice) == DADO_OK && given + slice.len == len);
+    CHECK(memcmp(slice.at, wanted + given, slice.len) == 0);
+    CHECK(dado_masker_finish(&masker) == DADO_OK && dado_masker_ready(&masker, &slice) == DADO_OK && slice.len == 0);
+    dado_masker_free(&masker);
+    CHECK(masker == NULL);
+}
+
+/* A text whose words are masked, where it lies and in pieces, beside that loop. */
 static void masked_alike(const dado_automaton *ac, const dado_bytes *patterns, uint32_t count, const uint8_t *at, size_t len, uint8_t byte) {
-    static uint8_t masked[600], wanted[600];
-    size_t start;
+    static uint8_t masked[200000], wanted[200000];
+    static const size_t sizes[] = {1, 2, 3, 7, 600, 70000};
+    size_t start, longest = 0, i;
     uint32_t n;
     if (len != 0) memcpy(masked, at, len), memcpy(wanted, at, len);
+    for (n = 0; n < count; n++)
+        if (patterns[n].len > longest) longest = patterns[n].len;
     for (start = 0; start < len; start++)
         for (n = 0; n < count; n++) {
             dado_match it;
@@ -133,6 +160,7 @@ static void masked_alike(const dado_automaton *ac, const dado_bytes *patterns, u
         }
     CHECK(dado_mask_words(ac, masked, len, byte) == DADO_OK);
     CHECK(memcmp(masked, wanted, len) == 0);
+    for (i = 0; i < sizeof sizes / sizeof *sizes; i++) masked_in_pieces(ac, at, wanted, len, longest, byte, sizes[i]);
 }
 
 /* The text with its words replaced, beside one that is put together of what that loop finds. */
@@ -340,6 +368,23 @@ static void overlapping(void) {
     dado_free(&ac);
 }
 
+/* Words across the ends of a masker's memory, and beside what was moved within it or masked before. */
+static void long_masked(void) {
+    static const dado_bytes lynx[] = {WORD("lynx"), WORD("lynx lynx")};
+    static uint8_t text[200000];
+    dado_automaton *ac = NULL;
+    size_t at, start;
+    CHECK(dado_build(lynx, 2, NULL, &ac, NULL) == DADO_OK);
+    memset(text, '-', sizeof text);
+    for (at = 65530; at + 20 < sizeof text; at += 65527)
+        for (start = 0; start < 3; start++) {
+            memcpy(text + at, start == 1 ? "_lynx lynx-lynx_" : "lynx lynx lynxs", 15);
+            if (start == 2) memcpy(text + at, "lynx", 4);
+            masked_alike(ac, lynx, 2, text, sizeof text - start, '*');
+        }
+    dado_free(&ac);
+}
+
 /* Each status of the calls for all words and for masks. */
 static void other_statuses(const dado_automaton *ac, const dado_automaton *leftmost, const dado_automaton *anchored,
                            const dado_automaton *with_empty) {
@@ -390,6 +435,30 @@ static void other_statuses(const dado_automaton *ac, const dado_automaton *leftm
     CHECK(dado_mask_words(ac, word, 3, '*') == DADO_OK && memcmp(word, "***", 3) == 0);
 }
 
+/* Each status of the call that makes a masker of whole words; and a word that is known once the byte after it is. */
+static void masker_statuses(const dado_automaton *ac, const dado_automaton *leftmost, const dado_automaton *anchored,
+                            const dado_automaton *with_empty) {
+    dado_masker *masker = NULL, *kept;
+    dado_bytes slice;
+    size_t taken = 7;
+    CHECK(dado_word_masker_new(NULL, '*', &masker) == DADO_NO_AUTOMATON && masker == NULL);
+    CHECK(dado_word_masker_new(ac, '*', NULL) == DADO_BAD_ARGUMENT);
+    CHECK(dado_word_masker_new(ac, '*', &masker) == DADO_OK && masker != NULL);
+    CHECK(dado_masker_push(&masker, BYTES("a cat"), &taken) == DADO_OK && taken == 5);
+    kept = masker;
+    CHECK(dado_word_masker_new(anchored, '*', &masker) == DADO_NOT_UNANCHORED && masker == kept);
+    CHECK(dado_word_masker_new(leftmost, '*', &masker) == DADO_NOT_STANDARD && masker == kept);
+    CHECK(dado_word_masker_new(with_empty, '*', &masker) == DADO_EMPTY_PATTERN && masker == kept);
+    CHECK(dado_masker_ready(&masker, &slice) == DADO_OK && slice.len == 2 && memcmp(slice.at, "a ", 2) == 0);
+    CHECK(dado_masker_push(&masker, BYTES("s cat"), &taken) == DADO_OK && taken == 5);
+    CHECK(dado_masker_ready(&masker, &slice) == DADO_OK && slice.len == 5 && memcmp(slice.at, "cats ", 5) == 0);
+    CHECK(dado_masker_finish(&masker) == DADO_OK);
+    CHECK(dado_masker_ready(&masker, &slice) == DADO_OK && slice.len == 3 && memcmp(slice.at, "***", 3) == 0);
+    CHECK(dado_masker_push(&masker, BYTES("."), &taken) == DADO_FINISHED && taken == 0);
+    dado_masker_free(&masker);
+    CHECK(masker == NULL);
+}
+
 /* Each status, in the order in which they are tested. */
 static void statuses(void) {
     static const dado_bytes empty[] = {WORD("a"), {NULL, 0}};
@@ -423,6 +492,7 @@ static void statuses(void) {
     from = 1;
     CHECK(dado_words_some(ac, 2, BYTES("xcat cat"), &from, many, 2, &count) == DADO_OK && count == 1 && is(&many[0], 0, 5, 8));
     other_statuses(ac, leftmost, anchored, with_empty);
+    masker_statuses(ac, leftmost, anchored, with_empty);
     replaced_statuses(ac, leftmost, anchored, with_empty);
     dado_free(&ac);
     dado_free(&leftmost);
@@ -434,6 +504,7 @@ int main(void) {
     rows();
     texts();
     overlapping();
+    long_masked();
     statuses();
     return done("words");
 }

@@ -11,7 +11,7 @@ use Rattle.ac_c.specs.declared.masking.Masking.{Masking}
 use Rattle.ac_c.specs.declared.replace.Length.{Length}
 use Rattle.ac_c.specs.declared.searching.Count.{Count}
 use Rattle.ac_c.specs.Begun.{HoldsBegun}
-use Rattle.ac_c.specs.Masking.{IsClosedMask, IsPushedTo, masking_by, ready_len}
+use Rattle.ac_c.specs.Masking.{IsClosedMask, IsPushedTo, masking_by, ready_len, word_masking_by}
 use Rattle.ac_c.specs.Status.{ok, no_masker}
 
 -- a masking of pieces, or none
@@ -24,6 +24,10 @@ masker_coded = coded_option the_row.coded
 -- the handle holds a masking that was passed nothing yet; or why there is none, and the handle is unchanged
 abbrev pub AnswersMasking : AhoCorasick → ℕ → HeldMasker → HeldMasker → ℕ → Type 0
 AnswersMasking ac byte old new status = HoldsBegun OnlyStandard ac (masking_by ac byte) old new status
+
+-- the same of whole words
+abbrev pub AnswersWordMasking : AhoCorasick → ℕ → HeldMasker → HeldMasker → ℕ → Type 0
+AnswersWordMasking ac byte old new status = HoldsBegun OnlyStandard ac (word_masking_by ac byte) old new status
 
 -- the first bytes of a piece were taken, or why none were; or the handle holds no masking
 abbrev pub AnswersMaskPush : List ℕ → HeldMasker → HeldMasker → Count → Type 0

@@ -4,7 +4,8 @@ use Rattle.ac_automaton.specs.InMemory.Overlapping.{IsOverlappingRefusal}
 use Rattle.ac_automaton.specs.Masking.{masked_in}
 use Rattle.ac_automaton.specs.Masking.Words.{masked_words_in}
 use Rattle.ac_automaton.specs.Stream.{CanBeCounted}
-use Rattle.ac_automaton.specs.Stream.Mask.{MasksPushed, finished_mask, fresh_mask, passed_to, ready_of}
+use Rattle.ac_automaton.specs.Masking.Words.Pushed.{MasksWordsPushed, ready_words_of}
+use Rattle.ac_automaton.specs.Stream.Mask.{MaskProgress, MasksPushed, finished_mask, fresh_mask, passed_to, ready_of}
 use Rattle.ac_automaton.specs.declared.error.MatchErrorKind.{MatchErrorKind}
 use Rattle.ac_automaton.specs.declared.error.StreamError.{StreamError}
 use Rattle.ac_input.specs.Input.{whole_of}
@@ -13,6 +14,7 @@ use Rattle.ac_input.specs.declared.search.MatchKind.TheVariants.{Standard}
 use Rattle.aho_corasick.specs.AhoCorasick.{as_built, supported_by}
 use Rattle.aho_corasick.specs.declared.ahocorasick.AhoCorasick.{AhoCorasick}
 use Rattle.ac_c.specs.declared.masking.Masking.{Masking}
+use Rattle.ac_c.specs.declared.masking.Masking.TheVariants.{OfAll, OfWords}
 use Rattle.ac_c.specs.declared.replace.Length.{Length}
 use Rattle.ac_c.specs.declared.searching.Count.{Count}
 use Rattle.ac_c.specs.Searching.{push_of}
@@ -39,23 +41,47 @@ AnswersMaskedWords ac byte before after status =
 
 -- ---- pieces
 
--- a masking by this automaton and with this byte that was passed nothing yet
+-- a masking of all occurrences by this automaton and with this byte that was passed nothing yet
 abbrev pub masking_by : AhoCorasick → ℕ → Masking
-masking_by ac byte = record { stream = fresh_mask (as_built ac) byte }
+masking_by ac byte = OfAll (fresh_mask (as_built ac) byte)
+
+-- and one of whole words
+abbrev pub word_masking_by : AhoCorasick → ℕ → Masking
+word_masking_by ac byte = OfWords (fresh_mask (as_built ac) byte)
+
+-- how far a masking has come
+abbrev pub mask_progress : Masking → MaskProgress
+mask_progress (OfAll s) = s
+mask_progress (OfWords s) = s
+
+-- one of the same kind that has come so far
+abbrev pub come_to : Masking → MaskProgress → Masking
+come_to (OfAll s) t = OfAll t
+come_to (OfWords s) t = OfWords t
+
+-- the masked bytes that are ready
+abbrev pub ready_in : Masking → List ℕ
+ready_in (OfAll s) = ready_of s
+ready_in (OfWords s) = ready_words_of s
+
+-- the result of a push to the library's masking
+abbrev pub TakesMasked : Masking → List ℕ → Masking → Result ℕ StreamError → Type 0
+TakesMasked (OfAll s) piece new result = (t : MaskProgress) × (new ≡ OfAll t) × MasksPushed s t piece result
+TakesMasked (OfWords s) piece new result = (t : MaskProgress) × (new ≡ OfWords t) × MasksWordsPushed s t piece result
 
 -- A finished masking takes nothing, and is unchanged. Any other takes what the library's masking takes.
 abbrev pub IsPushedTo : Masking → List ℕ → Masking → Count → Type 0
 IsPushedTo s piece t taken =
-    ((s.stream.closed ≡ true) × (t ≡ s) × (taken ≡ record { count = 0; status = finished }))
-    ⊎ ((s.stream.closed ≡ false) × (r : Result ℕ StreamError) × MasksPushed s.stream t.stream piece r
-    × (taken ≡ push_of r))
+    (((mask_progress s).closed ≡ true) × (t ≡ s) × (taken ≡ record { count = 0; status = finished }))
+    ⊎ (((mask_progress s).closed ≡ false) × (r : Result ℕ StreamError) × TakesMasked s piece t r × (taken ≡ push_of r))
 
 -- how many masked bytes are ready
 abbrev pub ready_len : Masking → Length
-ready_len s = record { len = length (ready_of s.stream); status = ok }
+ready_len s = record { len = length (ready_in s); status = ok }
 
 -- No more pieces come: all that waited is ready. After more bytes than places nothing is.
 abbrev pub IsClosedMask : Masking → Masking → Type 0
 IsClosedMask s t =
-    (CanBeCounted (passed_to s.stream) → t ≡ record { stream = finished_mask s.stream })
-    × (¬ CanBeCounted (passed_to s.stream) → t ≡ record { stream = (record s.stream { out = s.stream.cut }) })
+    (CanBeCounted (passed_to (mask_progress s)) → t ≡ come_to s (finished_mask (mask_progress s)))
+    × (¬ CanBeCounted (passed_to (mask_progress s))
+    → t ≡ come_to s (record (mask_progress s) { out = (mask_progress s).cut }))

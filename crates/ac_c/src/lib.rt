@@ -16,7 +16,7 @@ ghost use Rattle.ac_c.specs.Find.{AnswersFindIn, bounds, is_set};
 ghost use Rattle.ac_c.specs.Lent.{Lent, is_lent, lasting};
 ghost use Rattle.ac_c.specs.List.{AnswersListed, place};
 ghost use Rattle.ac_c.specs.Found.{found};
-ghost use Rattle.ac_c.specs.Masker.{AnswersMaskEnd, AnswersMaskPush, AnswersMasking, ready_by};
+ghost use Rattle.ac_c.specs.Masker.{AnswersMaskEnd, AnswersMaskPush, AnswersMasking, AnswersWordMasking, ready_by};
 ghost use Rattle.ac_c.specs.Masking.{AnswersMasked, AnswersMaskedWords};
 ghost use Rattle.ac_c.specs.Replace.{AnswersInto, AnswersText};
 ghost use Rattle.ac_c.specs.Replacer.{AnswersPushOn, AnswersReplacing, AnswersSlice, end_by, end_status};
@@ -403,6 +403,23 @@ pub unsafe extern "C" fn dado_raw_masker_new(
 {
     let ac = at as *const AhoCorasick;
     masker::begin(&*ac, byte, alloc, masker)
+}
+
+/// A masking of the whole words of pieces, which owns the automaton too.
+#[unsafe(no_mangle)]
+pub unsafe extern "C" fn dado_raw_word_masker_new(
+    at: *const Opaque,
+    byte: u8,
+    alloc: Global,
+    masker: &mut Masker,
+) -> u32
+    ghost g: { Lent }
+    requires* lent { sem 𝓛 (is_lent at g) }
+    ensures* lasts { sem 𝓛 (lasting g) }
+    ensures answer { AnswersWordMasking g.automaton byte masker.old.value masker.new.value result }
+{
+    let ac = at as *const AhoCorasick;
+    masker::begin_words(&*ac, byte, alloc, masker)
 }
 
 /// Masks a text where it lies.

@@ -1,6 +1,6 @@
 //! What C holds of a masking of pieces: a pointer to it, or null.
 ghost use Rattle.std.specs.Prelude.{◌≡◌, Some, None, option_map};
-ghost use Rattle.ac_c.specs.Masker.{AnswersMasking, HeldMasker, masker_coded};
+ghost use Rattle.ac_c.specs.Masker.{AnswersMasking, AnswersWordMasking, HeldMasker, masker_coded};
 
 use crate::masking::Masking;
 use crate::slot::Slot;
@@ -89,4 +89,11 @@ pub fn begin(ac: &AhoCorasick, byte: u8, alloc: Global, masker: &mut Masker) -> 
     ensures { AnswersMasking ac.now byte masker.old.value masker.new.value result }
 {
     hold!(Masking::begin(ac, byte, alloc), masker: Masker)
+}
+
+/// A masking of the whole words of pieces into a handle, as C sees it. It is another owner of the automaton.
+pub fn begin_words(ac: &AhoCorasick, byte: u8, alloc: Global, masker: &mut Masker) -> u32
+    ensures { AnswersWordMasking ac.now byte masker.old.value masker.new.value result }
+{
+    hold!(Masking::begin_words(ac, byte, alloc), masker: Masker)
 }

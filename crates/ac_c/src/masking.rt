@@ -1,20 +1,22 @@
 //! Masking: of a text where it lies, and of a text that C passes piece by piece.
 //!
 //! The library's masking hands out what is masked of the pieces, as far as no later byte changes it, as one slice of the bytes that it
-//! holds. A call gives C its place and its length, so no byte is copied again.
-ghost use Rattle.std.specs.Prelude.{◌≡◌, IfErr, IfOk, OnOk};
+//! holds. A call gives C its place and its length, so no byte is copied again. A masking of whole words is one like it, and the handle
+//! holds one or the other.
+ghost use Rattle.std.specs.Prelude.{◌≡◌, false, IfErr, IfOk, OnOk};
 ghost use Rattle.ac_automaton.specs.Stream.Mask.{MaskCounts, fresh_mask};
 ghost use Rattle.ac_automaton.specs.declared.stream.StreamKinds.TheVariants.{OnlyStandard};
 ghost use Rattle.aho_corasick.specs.AhoCorasick.{as_built};
 ghost use Rattle.ac_c.specs.Begun.{CanBegin, IsBeginRefused, IsBegun};
-ghost use Rattle.ac_c.specs.Masking.{AnswersMasked, AnswersMaskedWords, IsClosedMask, IsPushedTo, masking_by, ready_len};
+ghost use Rattle.ac_c.specs.Masking.{AnswersMasked, AnswersMaskedWords, IsClosedMask, IsPushedTo, TakesMasked, masking_by, mask_progress, ready_in, ready_len, word_masking_by};
+ghost use Rattle.ac_c.specs.Status.{no_memory};
 
 use crate::replace::Length;
 use crate::searching::{Count, shared};
 use crate::status::{FINISHED, NO_MEMORY, OK, TOO_MANY_BYTES, refused, refused_stream};
 use ac_automaton::stream::StreamKinds;
-use ac_automaton::stream::mask::StreamMask;
-use aho_corasick::{AhoCorasick, ReplaceError, Steps};
+use ac_automaton::stream::mask::{StreamMask, StreamWordMask};
+use aho_corasick::{AhoCorasick, ReplaceError, Steps, StreamError};
 use std::alloc::Global;
 use std::ptr::NonNull;
 
@@ -41,8 +43,11 @@ pub fn mask_words(ac: &AhoCorasick, alloc: Global, text: &mut [u8], byte: u8) ->
 
 /// A masking of pieces.
 #[derive(Drop)]
-pub struct Masking {
-    stream: StreamMask<AhoCorasick>,
+pub enum Masking {
+    /// Of all occurrences.
+    OfAll(StreamMask<AhoCorasick>),
+    /// Of whole words.
+    OfWords(StreamWordMask<AhoCorasick>),
 }
 
 /// A masking of pieces by an automaton, which it shares.
@@ -56,17 +61,76 @@ fn masking_of(ac: &AhoCorasick, byte: u8, alloc: Global) -> Result<StreamMask<Ah
     }
 }
 
+/// The same of whole words.
+fn word_masking_of(
+    ac: &AhoCorasick,
+    byte: u8,
+    alloc: Global,
+) -> Result<StreamWordMask<AhoCorasick>, u32>
+    ensures { IsBegun OnlyStandard ac.now (fresh_mask (as_built ac.now) byte) result }
+{
+    let shared = shared(ac, StreamKinds::OnlyStandard, alloc)?;
+    match StreamWordMask::new(shared, byte, alloc) {
+        Ok(stream) => Ok(stream),
+        Err(error) => Err(refused_stream(&error)),
+    }
+}
+
 impl Masking {
     /// A masking that was passed nothing yet, in a box.
+    fn boxed(self, alloc: Global) -> Result<Box<Masking, Global>, u32>
+        ensures begun { IfOk result (λ m. m.value ≡ self) }
+        ensures refused { IfErr result (λ status. status ≡ no_memory) }
+    {
+        match Box::new(alloc, self) {
+            Ok(begun) => Ok(begun),
+            Err(_) => Err(NO_MEMORY),
+        }
+    }
+
+    /// A masking of all occurrences that was passed nothing yet, in a box.
     pub fn begin(ac: &AhoCorasick, byte: u8, alloc: Global) -> Result<Box<Masking, Global>, u32>
         ensures begun { IfOk result (λ m. masking_by ac.now byte ≡ m.value) }
         ensures can { OnOk result (CanBegin OnlyStandard ac.now) }
         ensures refused { IfErr result (IsBeginRefused OnlyStandard ac.now) }
     {
         let stream = masking_of(ac, byte, alloc)?;
-        match Box::new(alloc, Masking { stream }) {
-            Ok(begun) => Ok(begun),
-            Err(_) => Err(NO_MEMORY),
+        Masking::OfAll(stream).boxed(alloc)
+    }
+
+    /// A masking of whole words that was passed nothing yet, in a box.
+    pub fn begin_words(
+        ac: &AhoCorasick,
+        byte: u8,
+        alloc: Global,
+    ) -> Result<Box<Masking, Global>, u32>
+        ensures begun { IfOk result (λ m. word_masking_by ac.now byte ≡ m.value) }
+        ensures can { OnOk result (CanBegin OnlyStandard ac.now) }
+        ensures refused { IfErr result (IsBeginRefused OnlyStandard ac.now) }
+    {
+        let stream = word_masking_of(ac, byte, alloc)?;
+        Masking::OfWords(stream).boxed(alloc)
+    }
+
+    /// Whether it was told that no more pieces come.
+    fn is_finished(&self) -> bool
+        ensures { result ≡ (mask_progress self.now).closed }
+    {
+        match self {
+            Masking::OfAll(stream) => stream.is_finished(),
+            Masking::OfWords(stream) => stream.is_finished(),
+        }
+    }
+
+    /// Takes the first bytes of a piece, as the library's masking does.
+    fn take(&mut self, piece: &[u8], steps: &mut Steps) -> Result<usize, StreamError>
+        requires unclosed { (mask_progress self.old).closed ≡ false }
+        ensures taken { TakesMasked self.old piece.now self.new result }
+        ensures cost { MaskCounts (mask_progress self.old) (mask_progress self.new) steps.old steps.new }
+    {
+        match self {
+            Masking::OfAll(stream) => stream.push_counted(piece, steps),
+            Masking::OfWords(stream) => stream.push_counted(piece, steps),
         }
     }
 
@@ -80,22 +144,32 @@ impl Masking {
     /// The same; counts what it does.
     fn push_counted(&mut self, piece: &[u8], steps: &mut Steps) -> Count
         ensures pushed { IsPushedTo self.old piece.now self.new result }
-        ensures cost { MaskCounts self.old.stream self.new.stream steps.old steps.new }
+        ensures cost { MaskCounts (mask_progress self.old) (mask_progress self.new) steps.old steps.new }
     {
-        if self.stream.is_finished() {
+        if self.is_finished() {
             return Count::none(FINISHED);
         }
-        match self.stream.push_counted(piece, steps) {
+        match self.take(piece, steps) {
             Ok(count) => Count { count, status: OK },
             Err(_) => Count::none(TOO_MANY_BYTES),
         }
     }
 
-    /// The masked bytes that are ready: where they lie, if there are any, and how many there are.
+    /// The masked bytes that are ready.
+    fn ready_bytes(&self) -> &[u8]
+        ensures { result.now ≡ ready_in self.now }
+    {
+        match self {
+            Masking::OfAll(stream) => stream.ready(),
+            Masking::OfWords(stream) => stream.ready(),
+        }
+    }
+
+    /// Where the masked bytes lie that are ready, if there are any, and how many there are.
     pub fn ready(&self, at: &mut *const u8) -> Length
         ensures { result ≡ ready_len self.now }
     {
-        let ready = self.stream.ready();
+        let ready = self.ready_bytes();
         if let Some(first) = ready.first() {
             *at = NonNull::from_ref(first).as_ptr();
         }
@@ -109,6 +183,9 @@ impl Masking {
     pub fn finish(&mut self)
         ensures { IsClosedMask self.old self.new }
     {
-        self.stream.finish();
+        match self {
+            Masking::OfAll(stream) => stream.finish(),
+            Masking::OfWords(stream) => stream.finish(),
+        }
     }
 }

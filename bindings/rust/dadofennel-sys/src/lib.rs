@@ -293,6 +293,7 @@ extern "C" {
     pub fn dado_mask(ac: *const dado_automaton, text: *mut u8, len: usize, byte: u8) -> dado_status;
     pub fn dado_mask_words(ac: *const dado_automaton, text: *mut u8, len: usize, byte: u8) -> dado_status;
     pub fn dado_masker_new(ac: *const dado_automaton, byte: u8, masker: *mut *mut dado_masker) -> dado_status;
+    pub fn dado_word_masker_new(ac: *const dado_automaton, byte: u8, masker: *mut *mut dado_masker) -> dado_status;
     pub fn dado_masker_push(masker: *mut *mut dado_masker, piece: *const u8, len: usize, taken: *mut usize) -> dado_status;
     pub fn dado_masker_ready(masker: *mut *mut dado_masker, slice: *mut dado_bytes) -> dado_status;
     pub fn dado_masker_finish(masker: *mut *mut dado_masker) -> dado_status;

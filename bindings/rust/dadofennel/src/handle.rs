@@ -236,6 +236,16 @@ impl Handle {
         }
     }
 
+    /// The same of its whole words.
+    pub(crate) fn word_masker(&self, mask: u8) -> Result<Masker, sys::dado_status> {
+        let mut masker = Masker(ptr::null_mut());
+        // SAFETY: the automaton is lent; the masker is null.
+        match unsafe { sys::dado_word_masker_new(self.0.as_ptr(), mask, &mut masker.0) } {
+            sys::DADO_OK => Ok(masker),
+            other => Err(other),
+        }
+    }
+
     pub(crate) fn engine(&self) -> u32 {
         // SAFETY: the automaton is lent.
         unsafe { sys::dado_engine(self.0.as_ptr()) }
@@ -340,7 +350,7 @@ unsafe impl Sync for Masker {}
 
 impl Drop for Masker {
     fn drop(&mut self) {
-        // SAFETY: it is null or was made by `dado_masker_new`, and nothing else frees it.
+        // SAFETY: it is null or was made by `dado_masker_new` or `dado_word_masker_new`, and nothing else frees it.
         unsafe { sys::dado_masker_free(&mut self.0) }
     }
 }

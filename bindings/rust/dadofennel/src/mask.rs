@@ -2,8 +2,10 @@
 
 use std::io::{self, Read, Write};
 
+use dadofennel_sys as sys;
+
 use crate::ahocorasick::{supported, unfailing};
-use crate::handle::status_text;
+use crate::handle::{status_text, Masker};
 use crate::stream::READ_AT_ONCE;
 use crate::{AhoCorasick, Anchored, MatchError};
 
@@ -80,23 +82,39 @@ impl AhoCorasick {
     }
 
     /// Writes what a reader has, masked. See `stream_mask`. A `MatchError` is an error of the kind `Other`.
-    pub fn try_stream_mask<R: Read, W: Write>(&self, mut rdr: R, mut wtr: W, mask: u8) -> io::Result<()> {
+    pub fn try_stream_mask<R: Read, W: Write>(&self, rdr: R, wtr: W, mask: u8) -> io::Result<()> {
         self.masks_streams().map_err(|error| io::Error::new(io::ErrorKind::Other, error))?;
-        let mut masker = self.handle().masker(mask).unwrap_or_else(|status| panic!("a mask: {}", status_text(status)));
-        let mut buffer = vec![0; READ_AT_ONCE];
-        loop {
-            let len = rdr.read(&mut buffer)?;
-            if len == 0 {
-                break;
-            }
-            let mut rest = &buffer[..len];
-            while !rest.is_empty() {
-                rest = &rest[unfailing(masker.push(rest))..];
-                wtr.write_all(masker.ready())?;
-            }
-        }
-        masker.finish();
-        wtr.write_all(masker.ready())
+        write_masked(made(self.handle().masker(mask)), rdr, wtr)
+    }
+
+    /// Writes what a reader has, with its whole words masked, as `mask_words` masks bytes. The writer isn't flushed.
+    ///
+    /// What was read is masked at once, and all that no later byte changes is written before the next read: what waits is at most as
+    /// many bytes as the longest pattern has. It takes twice 64 KiB of memory, or twice 8 times a byte more than the longest pattern has,
+    /// and 56 KiB for what the reader gives. It needs patterns that are not empty.
+    ///
+    /// ```
+    /// use dadofennel::AhoCorasick;
+    ///
+    /// let ac = AhoCorasick::new(["cat", "big cat"])?;
+    /// let mut masked = vec![];
+    /// ac.stream_mask_words(&b"a big cat, concatenated"[..], &mut masked, b'*')?;
+    /// assert_eq!(b"a *******, concatenated", &masked[..]);
+    /// # Ok::<(), Box<dyn std::error::Error>>(())
+    /// ```
+    ///
+    /// # Panics
+    ///
+    /// Where memory runs out.
+    pub fn stream_mask_words<R: Read, W: Write>(&self, rdr: R, wtr: W, mask: u8) -> io::Result<()> {
+        supported(self.masks_streams());
+        self.try_stream_mask_words(rdr, wtr, mask)
+    }
+
+    /// Writes what a reader has, with its whole words masked. See `stream_mask_words`. A `MatchError` is an error of the kind `Other`.
+    pub fn try_stream_mask_words<R: Read, W: Write>(&self, rdr: R, wtr: W, mask: u8) -> io::Result<()> {
+        self.masks_streams().map_err(|error| io::Error::new(io::ErrorKind::Other, error))?;
+        write_masked(made(self.handle().word_masker(mask)), rdr, wtr)
     }
 
     /// An error where the automaton can't mask a stream.
@@ -107,4 +125,27 @@ impl AhoCorasick {
         }
         Ok(())
     }
+}
+
+/// What the library made, where memory doesn't run out.
+fn made(masker: Result<Masker, sys::dado_status>) -> Masker {
+    masker.unwrap_or_else(|status| panic!("a mask: {}", status_text(status)))
+}
+
+/// Writes what a reader has, as a masker hands it out.
+fn write_masked<R: Read, W: Write>(mut masker: Masker, mut rdr: R, mut wtr: W) -> io::Result<()> {
+    let mut buffer = vec![0; READ_AT_ONCE];
+    loop {
+        let len = rdr.read(&mut buffer)?;
+        if len == 0 {
+            break;
+        }
+        let mut rest = &buffer[..len];
+        while !rest.is_empty() {
+            rest = &rest[unfailing(masker.push(rest))..];
+            wtr.write_all(masker.ready())?;
+        }
+    }
+    masker.finish();
+    wtr.write_all(masker.ready())
 }

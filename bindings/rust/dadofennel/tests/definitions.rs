@@ -321,6 +321,16 @@ fn all_words() {
         assert_eq!(masks, case.ac.try_mask_words(&mut bytes, mask).is_ok());
         assert_eq!(if masks { &wanted } else { text }, &bytes[..], "{}", case.shown());
         let can = masks && !case.patterns.contains(&String::new());
+        let size = rng.one(&[1, 2, 7, 100]);
+        let reader = |fails_after| Pieces { text, size, fails_after };
+        let mut written = vec![];
+        assert_eq!(can, case.ac.try_stream_mask_words(reader(0), &mut written, mask).is_ok());
+        assert_eq!(if can { &wanted[..] } else { &[] }, &written[..], "{}", case.shown());
+        if can {
+            let mut beginning = vec![];
+            assert_eq!(!text.is_empty(), case.ac.stream_mask_words(reader(2), &mut beginning, mask).is_err());
+            assert!(wanted.starts_with(&beginning), "{}", case.shown());
+        }
         let words = case.ac.try_find_overlapping_word_iter(text).map(Iterator::collect::<Vec<_>>);
         assert_eq!(if can { Some(all) } else { None }, words.as_ref().ok().cloned(), "{}", case.shown());
         let reader = Pieces { text, size: rng.one(&[1, 2, 7, 100]), fails_after: 0 };
@@ -414,6 +424,14 @@ fn long_streams() {
             let mut masked = vec![];
             ac.stream_mask(reader(), &mut masked, b'*').unwrap();
             assert!(text.replace(pattern, &"*".repeat(pattern.len())).as_bytes() == masked);
+            // each pattern stands within a word, and as one where spaces are around it
+            masked.clear();
+            ac.stream_mask_words(reader(), &mut masked, b'*').unwrap();
+            assert!(text.as_bytes() == masked);
+            let apart = text.replace(pattern, &format!(" {} ", pattern));
+            masked.clear();
+            ac.stream_mask_words(Pieces { text: apart.as_bytes(), size, fails_after: 0 }, &mut masked, b'*').unwrap();
+            assert!(apart.replace(pattern, &"*".repeat(pattern.len())).as_bytes() == masked);
         }
     }
 }

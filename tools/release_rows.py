@@ -1,4 +1,5 @@
 """What of a release is tried in a room: the program, and the examples of the library for C."""
+import os
 import re
 
 from release_room import CRATE, equal
@@ -75,3 +76,14 @@ def by_cmake(room, prefix, examples, version, out):
     for form in ("dadofennel", "static"):
         equal(room.must(f"{out}/made/example_{form}"), LISTED)
         equal(room.must(f"{out}/made/pieces_{form}", given=GIVEN), PIECES)
+
+
+def go_works(room, module, library, folder):
+    """The tests of the package for Go, over the library of the tar: with no network, and without this repository."""
+    room.must("tar", "-xzf", module, "-C", folder)
+    room.must("tar", "-xzf", library, "-C", folder)
+    name, prefix = (f"{folder}/{os.path.basename(it)[:-len('.tar.gz')]}" for it in (module, library))
+    variables = {"PKG_CONFIG_PATH": f"{prefix}/lib/pkgconfig", "LD_LIBRARY_PATH": f"{prefix}/lib", "GOCACHE": f"{folder}/cache"}
+    variables.update(GOPROXY="off", GOFLAGS="-count=1", GOTOOLCHAIN="local", GOWORK="off", CASES="200")
+    room.must("go", "vet", "./...", folder=name, **variables)
+    room.must("go", "test", "./...", folder=name, **variables)

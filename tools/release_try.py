@@ -17,7 +17,7 @@ import release_files
 import release_node
 import release_wheel
 from release_room import COMPILERS, TOOLCHAIN, Here, Room, Rows, equal, without_toolchain
-from release_rows import by_cmake, by_pkg_config, examples_work, program_works
+from release_rows import by_cmake, by_pkg_config, examples_work, go_works, program_works
 
 SUITE = "bookworm"
 NEEDED = ["gcc", "libc6-dev", "pkg-config", "cmake", "make"]
@@ -203,6 +203,11 @@ def here(rows, dist, pythons):
     for package in glob.glob(f"{dist}/*.tgz"):
         if shutil.which("node") and shutil.which("npm") or rows.leave_out("the package for Node (node, npm)"):
             rows.group("the package for Node", release_node.tried, package)
+    for module in glob.glob(f"{dist}/dadofennel-go-*.tar.gz"):
+        library = module.replace("dadofennel-go-", "dadofennel-").replace(".tar.gz", f"-linux-{MACHINE}.tar.gz")
+        if shutil.which("go") and shutil.which("pkg-config") or rows.leave_out("the package for Go (go, pkg-config)"):
+            with tempfile.TemporaryDirectory(prefix="go-") as folder:
+                rows.row("the package for Go", go_works, Here(folder), module, library, folder)
 
 
 def on_aarch64(rows, dist, version, outer):

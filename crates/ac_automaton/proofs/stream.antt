@@ -6,6 +6,7 @@ pub mod PlacedLemmas
 pub mod PumpCostLemmas
 pub mod PumpLemmas
 pub mod PumpReadLemmas
+pub mod ReplacerWriteLemmas
 pub mod SearchAheadLemmas
 pub mod SearchLemmas
 pub mod SearchReadLemmas

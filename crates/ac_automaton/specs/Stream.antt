@@ -11,6 +11,7 @@ pub mod Replace
 pub mod ReplaceWith
 pub mod Replacer
 pub mod ReplacerNext
+pub mod ReplacerWrite
 pub mod Search
 pub mod SinkLaws
 pub mod Texts

@@ -9,15 +9,18 @@ ghost use Rattle.std.specs.Borrow.{sem};
 ghost use Rattle.ac_literal.specs.Packed.{bytes_of};
 ghost use Rattle.ac_automaton.specs.Stream.{AreAllGiven, CanBeCounted, StreamCounts, cut_of, read_by, closed_by};
 ghost use Rattle.ac_automaton.specs.Stream.Replacer.{FindsPart, AnswersReplacer, CanBeLent, IsReady, LooksForMatch, TakesPart, PushesText, ends_there, part_bytes, decided_to};
+ghost use Rattle.ac_automaton.specs.Stream.ReplacerWrite.{WritesNext, WritesText};
 
 use super::StreamSearch;
 use crate::error::StreamError;
 use crate::search::Search;
 use crate::stream::ItemSearch;
+use crate::stream::devices::watched::{Watched, write_whole};
 use ac_input::primitives::PatternID;
 use ac_input::search::Match;
 use ac_input::steps::Steps;
 use std::alloc::Global;
+use std::io::Write;
 use std::marker::Model;
 
 /// A slice of the replaced text.
@@ -38,7 +41,7 @@ enum Part {
 /// ```
 ///
 /// A slice borrows the replacer, so a loop takes one in a function of its own: `send_next` calls [`StreamReplacer::next`], sends what
-/// it returns, and says whether that was a slice.
+/// it returns, and says whether that was a slice. [`StreamReplacer::write_to`] writes them all.
 #[derive(Drop)]
 pub struct StreamReplacer<A: Search> {
     search: StreamSearch<A>,
@@ -274,5 +277,63 @@ impl<A: Search> StreamReplacer<A> {
     {
         let slice = self.advance(steps)?;
         Some(self.bytes(slice, replacements))
+    }
+}
+
+impl<A: Search> StreamReplacer<A> {
+    /// Writes the next slice of the text that is decided, whole. Returns whether there was one.
+    fn write_next<W: Write>(
+        &mut self,
+        replacements: &[&[u8]],
+        writer: &mut Watched<W>,
+        steps: &mut Steps,
+    ) -> Result<bool, StreamError>
+        requires one_each { length replacements.now
+            ≡ length self.old.search.built.dictionary.patterns }
+        ensures writes { WritesNext W.contents (bytes_of replacements.now) self.old self.new
+            writer.old writer.new result }
+        ensures counts { StreamCounts self.old.search self.new.search steps.old steps.new }
+    {
+        let Some(slice) = self.advance(steps) else {
+            return Ok(false);
+        };
+        write_whole(writer, self.bytes(slice, replacements))?;
+        Ok(true)
+    }
+
+    /// Writes the replaced text, as far as it is decided and wasn't handed out before: each slice that [`StreamReplacer::next`] would
+    /// return, by as many writes as that takes. The writer isn't flushed.
+    ///
+    /// It requires one replacement for each pattern. It stops at the first write that fails or takes no byte, and returns the error
+    /// `Write` or `WriteZero`. What is left of the slice is lost then; a second call goes on with the next slice.
+    pub fn write_to<W: Write>(
+        &mut self,
+        replacements: &[&[u8]],
+        writer: &mut Watched<W>,
+    ) -> Result<(), StreamError>
+        requires one_each { length replacements.now
+            ≡ length self.old.search.built.dictionary.patterns }
+        ensures { WritesText W.contents (bytes_of replacements.now) self.old self.new
+            writer.old writer.new result }
+    {
+        let mut steps = Steps::new();
+        self.write_to_counted(replacements, writer, &mut steps)
+    }
+
+    /// The same; counts what it does.
+    pub fn write_to_counted<W: Write>(
+        &mut self,
+        replacements: &[&[u8]],
+        writer: &mut Watched<W>,
+        steps: &mut Steps,
+    ) -> Result<(), StreamError>
+        requires one_each { length replacements.now
+            ≡ length self.old.search.built.dictionary.patterns }
+        ensures writes { WritesText W.contents (bytes_of replacements.now) self.old self.new
+            writer.old writer.new result }
+        ensures counts { StreamCounts self.old.search self.new.search steps.old steps.new }
+    {
+        while self.write_next(replacements, writer, steps)? {}
+        Ok(())
     }
 }

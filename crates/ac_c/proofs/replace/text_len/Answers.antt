@@ -1,5 +1,6 @@
 -- Each turn adds the bytes before a match, and its replacement. The walk ends past the last match.
 use Rattle.std.proofs.Common.{◌≡◌, [], ◌∷◌, sym, rules, arith}
+use Rattle.std.proofs.lemmas.Grind.{common_steps}
 use Rattle.std.proofs.lemmas.List.{get_or-map}
 use Rattle.ac_automaton.specs.InMemory.Iter.{left_of}
 use Rattle.ac_automaton.proofs.lemmas.ReplaceLemmas.{lies-first}
@@ -57,3 +58,15 @@ returns-clause-cost g c = (
   g.W.Walking.walk c.next_match.new.self,
   walks-on g.W.Walking.ahead _ _ _ _ _ _ c.loop-found.invariant.cost c.in_default.ensures.cost,
 )
+
+pub returns-in_default-checked_add-clause-len : goal.returns-in_default-checked_add-clause-len
+returns-in_default-checked_add-clause-len g c = grind (arith, common_steps)
+
+pub returns-in_default-checked_add-2-clause-len : goal.returns-in_default-checked_add-2-clause-len
+returns-in_default-checked_add-2-clause-len g c = grind (arith, common_steps)
+
+pub returns-in-Some-checked_add-3-clause-len : goal.returns-in-Some-checked_add-3-clause-len
+returns-in-Some-checked_add-3-clause-len g c = grind (arith, common_steps)
+
+pub returns-clause-len : goal.returns-clause-len
+returns-clause-len g c = grind (arith, common_steps)

@@ -1,5 +1,6 @@
 -- Each turn writes the bytes before a match, and those of its replacement.
 use Rattle.std.proofs.Common.{◌≡◌, ◌∷◌, [], sym, rules, arith}
+use Rattle.std.proofs.lemmas.Grind.{common_steps}
 use Rattle.std.proofs.lemmas.List.{get_or-map}
 use Rattle.ac_automaton.specs.InMemory.Iter.{left_of}
 use Rattle.ac_automaton.proofs.lemmas.ReplaceLemmas.{lies-first}
@@ -50,3 +51,12 @@ loop-found-preserved g c =
       within = rw c.end-at.ensures.value lies.3;
       cost = walks-on g.W.Walking.ahead _ _ _ _ _ _ i.cost c.in-Some.ensures.cost;
     }
+
+pub copy_to-len-requires : goal.copy_to-len-requires
+copy_to-len-requires g c = grind (arith, common_steps)
+
+pub copy_to-requires : goal.copy_to-requires
+copy_to-requires g c = grind (arith, common_steps)
+
+pub returns-clause-text : goal.returns-clause-text
+returns-clause-text g c = grind (arith, common_steps)

@@ -14,11 +14,11 @@ import (
 )
 
 // Texts of random words, of which a few are common, as in a language, and patterns of these words. Ours is of kind LeftmostFirst, which
-// finds what the two others do. Run it by bindings/go/bench, which makes the table of the page.
+// finds what the two others do. bindings/go/bench runs them, and makes the table of the page.
 
 const (
 	benchShort = 80
-	benchLong  = 1 << 20
+	benchLong  = 256 << 10
 )
 
 type benchData struct {

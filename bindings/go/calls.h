@@ -13,8 +13,19 @@
 #include <stdlib.h>
 #include <string.h>
 
-/* The address of an automaton, a stream, a replacer, a masker, or an array of dado_bytes in memory of C. */
+/* The address of an automaton, a stream, a replacer, a masker, or bytes in memory of C. */
 typedef uintptr_t dadogo_at;
+
+/* A dado_bytes in memory of C, as Go writes and keeps it. Were it a pointer, a write of Go would also read what lay there before, and take
+ * it for a pointer of Go. */
+struct dadogo_slice {
+    dadogo_at at;
+    size_t len;
+};
+
+/* It has the same layout. */
+typedef char dadogo_same_size[sizeof(struct dadogo_slice) == sizeof(dado_bytes) ? 1 : -1];
+typedef char dadogo_same_place[offsetof(struct dadogo_slice, len) == offsetof(dado_bytes, len) ? 1 : -1];
 
 #define AUTOMATON(at) ((const dado_automaton *)(at))
 
@@ -192,17 +203,11 @@ static inline void dadogo_masker_free(dadogo_at at) {
 /* What a step does before it asks for what is decided. */
 enum { DADOGO_ASK = 0, DADOGO_PUSH = 1, DADOGO_FINISH = 2 };
 
-/* What is left of a slice that the library handed out: so many bytes in memory of C. */
-struct dadogo_rest {
-    dadogo_at at;
-    size_t len;
-};
-
 /* How many bytes a step took, how many matches or bytes it wrote, and what is left of the slice that it wrote last. More may be decided
  * where `written` is all that there was room for. */
 struct dadogo_step {
     size_t taken, written;
-    struct dadogo_rest rest;
+    struct dadogo_slice rest;
     dado_status status;
 };
 
@@ -239,7 +244,7 @@ static inline void dadogo_put(struct dadogo_step *step, dado_bytes slice, uint8_
 /* One step of a replacer: pushes a piece or finishes, if that is asked for, and writes the text that is decided, after `rest`. Where it
  * pushes or finishes, `rest` is empty. */
 static inline struct dadogo_step dadogo_replacer_step(dadogo_at at, int act, const uint8_t *piece, size_t len, dadogo_at replacements,
-                                                      size_t count, struct dadogo_rest rest, uint8_t *out, size_t room) {
+                                                      size_t count, struct dadogo_slice rest, uint8_t *out, size_t room) {
     struct dadogo_step step = {0, 0, {0, 0}, DADO_OK};
     dado_replacer *replacer = (dado_replacer *)at;
     dado_bytes slice = dado_bytes_of((const void *)rest.at, rest.len);
@@ -255,7 +260,7 @@ static inline struct dadogo_step dadogo_replacer_step(dadogo_at at, int act, con
 }
 
 /* The same of a masker. */
-static inline struct dadogo_step dadogo_masker_step(dadogo_at at, int act, const uint8_t *piece, size_t len, struct dadogo_rest rest,
+static inline struct dadogo_step dadogo_masker_step(dadogo_at at, int act, const uint8_t *piece, size_t len, struct dadogo_slice rest,
                                                     uint8_t *out, size_t room) {
     struct dadogo_step step = {0, 0, {0, 0}, DADO_OK};
     dado_masker *masker = (dado_masker *)at;

@@ -1,7 +1,9 @@
 package dadofennel_test
 
 import (
+	"encoding/binary"
 	"errors"
+	"runtime"
 	"strings"
 	"sync"
 	"testing"
@@ -84,4 +86,38 @@ func TestClosedIter(t *testing.T) {
 	wantError(t, "Err", ErrClosed, it.Err())
 	_, err := it.All()
 	wantError(t, "All", ErrClosed, err)
+}
+
+// What lay in memory that C gives again may look like pointers of Go, to objects that are gone. The collector must not meet them.
+func TestUsedMemory(t *testing.T) {
+	used := make([]byte, 64<<10)
+	for at := 0; at < len(used); at += 8 {
+		// the heap of Go begins there, on most systems
+		binary.LittleEndian.PutUint64(used[at:], 0xc000000000+uint64(at)*2)
+	}
+	short := make([][]byte, len(used)/20)
+	for i := range short {
+		short[i] = used[:1]
+	}
+	ac := built(t, []string{"a"})
+	ended := make(chan bool)
+	go func() {
+		for i := 0; i < 30; i++ {
+			runtime.GC()
+		}
+		close(ended)
+	}()
+	for {
+		select {
+		case <-ended:
+			return
+		default:
+		}
+		// refused before anything is built, so the same memory is taken again
+		for _, patterns := range [][][]byte{{used}, short} {
+			_, err := New(patterns, WithKind(7))
+			wantError(t, "New", ErrBadKind, err)
+		}
+		wantError(t, "FindAll", nil, last(ac.Matches(used)))
+	}
 }

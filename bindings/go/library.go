@@ -74,9 +74,10 @@ type lent struct {
 	count C.size_t
 }
 
-// lend copies the texts. It returns false where memory ran out.
+// lend copies the texts. It returns false where memory ran out. What it writes to memory of C has no pointers: the runtime would take what
+// lay there before for one.
 func lend[T text](texts []T) (lent, bool) {
-	const each = int(unsafe.Sizeof(C.dado_bytes{}))
+	const each = int(unsafe.Sizeof(C.struct_dadogo_slice{}))
 	size := each * len(texts)
 	for _, t := range texts {
 		if size += len(t); size < 0 {
@@ -90,17 +91,15 @@ func lend[T text](texts []T) (lent, bool) {
 	if memory == nil {
 		return lent{}, false
 	}
-	list := unsafe.Slice((*C.dado_bytes)(memory), len(texts))
+	first := C.dadogo_at(uintptr(memory))
+	list := unsafe.Slice((*C.struct_dadogo_slice)(memory), len(texts))
 	bytes := unsafe.Slice((*byte)(memory), size)
 	from := each * len(texts)
 	for i, t := range texts {
-		list[i] = C.dado_bytes{len: C.size_t(len(t))}
-		if len(t) > 0 {
-			list[i].at = (*C.uint8_t)(&bytes[from])
-			from += copy(bytes[from:], t)
-		}
+		list[i] = C.struct_dadogo_slice{first + C.dadogo_at(from), C.size_t(len(t))}
+		from += copy(bytes[from:], t)
 	}
-	return lent{C.dadogo_at(uintptr(memory)), C.size_t(len(texts))}, true
+	return lent{first, C.size_t(len(texts))}, true
 }
 
 func (l *lent) free() {

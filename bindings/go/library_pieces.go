@@ -80,7 +80,7 @@ func (s *streamHandle) view() held {
 type replacerHandle struct {
 	replacer C.dadogo_at
 	with     lent
-	rest     C.struct_dadogo_rest
+	rest     C.struct_dadogo_slice
 	room     []byte
 }
 
@@ -107,7 +107,7 @@ func replacer[T text](h *handle, replacements []T) (*replacerHandle, Status) {
 func (r *replacerHandle) free() {
 	C.dadogo_replacer_free(r.replacer)
 	r.replacer = 0
-	r.rest = C.struct_dadogo_rest{}
+	r.rest = C.struct_dadogo_slice{}
 	r.with.free()
 }
 
@@ -121,7 +121,7 @@ func (r *replacerHandle) step(first act, piece []byte) (int, []byte, bool, Statu
 // maskerHandle is a masker of the library.
 type maskerHandle struct {
 	masker C.dadogo_at
-	rest   C.struct_dadogo_rest
+	rest   C.struct_dadogo_slice
 	room   []byte
 }
 
@@ -142,7 +142,7 @@ func (h *handle) masker(with byte) (*maskerHandle, Status) {
 func (m *maskerHandle) free() {
 	C.dadogo_masker_free(m.masker)
 	m.masker = 0
-	m.rest = C.struct_dadogo_rest{}
+	m.rest = C.struct_dadogo_slice{}
 }
 
 func (m *maskerHandle) step(first act, piece []byte) (int, []byte, bool, Status) {

@@ -60,9 +60,9 @@ def is_bare(room):
 
 
 def has(room, *names):
-    """Installs packages of Debian itself."""
+    """Installs packages of Debian itself, and doesn't wait until each file is on the disk."""
     room.must("apt-get", "update")
-    room.must("apt-get", "install", "-y", "--no-install-recommends", *names)
+    room.must("apt-get", "install", "-y", "--no-install-recommends", "-o", "Dpkg::Options::=--force-unsafe-io", *names)
 
 
 def module_works(room, python):

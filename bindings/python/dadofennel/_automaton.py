@@ -225,12 +225,13 @@ class Automaton(native.Searches[AnyStr], Generic[AnyStr]):
         built = self._built
         return _stream.found(_stream.begun(built, number_of("kind", kind, native.KINDS)), built, reader)
 
-
-_text_of = attrgetter("text")
-
     def overlapping_words_stream(self, reader: Any) -> Iterator[Match]:
         """All whole words of what `reader` has, each as soon as it is decided: as `overlapping_word_stream` gives them."""
-        return _stream.found(self.overlapping_word_stream(), self._built.longest, reader)
+        built = self._built
+        return _stream.found(_stream.begun(built, native.ALL_WORDS), built, reader)
+
+
+_text_of = attrgetter("text")
 
 
 def _again(patterns: Tuple[Any, ...], settings: Dict[str, Any]) -> Automaton[Any]:

@@ -46,7 +46,9 @@ function textOf(draw, alphabet, patterns, areText) {
   const add = (part) => parts.splice(draw.below(parts.length + 1), 0, part);
   if (areText && draw.next() < 0.3) add(wordOf(draw, draw.pick(OTHERS), 4));
   if (areText && draw.next() < 0.2) add(draw.pick([' ', 'z', '\u00fc', '\u4e00']).repeat(1030));
-  return joined(parts, areText);
+  const text = joined(parts, areText);
+  if (text.length === 0 || draw.next() < 0.95) return text;
+  return joined(new Array(Math.ceil(1100 / text.length)).fill(text), areText); // some hundred matches, as a rule
 }
 
 function caseOf(seed) {

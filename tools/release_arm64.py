@@ -62,7 +62,7 @@ def node_works(room, root, package, folder, version):
     os.makedirs(f"{folder}/node_modules")
     os.rename(f"{folder}/package", f"{folder}/node_modules/dadofennel")
     release_files.write(f"{folder}/tried.js", release_node.TRIED)
-    equal(room.must(*emulated(root, f"{root}/usr/bin/node"), f"{folder}/tried.js").strip(), number_of(version))
+    equal(room.must(*emulated(root, f"{root}/usr/bin/node"), "tried.js", folder=folder).strip(), number_of(version))
 
 
 def tried(rows, dist, version, folder):

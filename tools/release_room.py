@@ -9,6 +9,8 @@ CRATE = f"{launch.REPOSITORY}/crates/acsub"
 TOOLCHAIN = ("rt", "rattle")
 COMPILERS = ("cc", "gcc", "clang")
 ENVIRONMENT = {"PATH": "/usr/sbin:/usr/bin:/sbin:/bin", "LC_ALL": "C", "DEBIAN_FRONTEND": "noninteractive", "HOME": "/"}
+# goes into a folder as root, with what the system tells of processes where that may be had: for this command alone
+CHANGE = '[ ! -d "$0/proc" ] || mount -t proc proc "$0/proc" 2> /dev/null; exec chroot "$0" "$@"'
 RULES = "fox\tsloth\nbrown\tgrey\nquick\tslow\n"
 
 
@@ -68,7 +70,7 @@ class Room:
     def ran(self, words, given, folder, variables):
         """Runs a command there, by its place below the root."""
         begin = ["env", "--chdir", folder] if folder != "/" else []
-        change = ["chroot", self.folder] if os.geteuid() == 0 else ["unshare", "-r", "chroot", self.folder]
+        change = ["unshare", "--mount", "sh", "-c", CHANGE, self.folder] if os.geteuid() == 0 else ["unshare", "-r", "chroot", self.folder]
         how = {"input": given, "stdout": subprocess.PIPE, "stderr": subprocess.PIPE, "env": {**ENVIRONMENT, **variables}}
         return subprocess.run([*change, *begin, *words], **how)
 

@@ -609,26 +609,18 @@ void dado_stream_free(dado_stream **stream);
  */
 
 /*
- * Makes a replacer of an automaton, and puts it at `*replacer`. A replacer that was there is freed, once the new one is made. It owns
- * the automaton too, which may be freed before it.
- *
- * DADO_NO_AUTOMATON; DADO_BAD_ARGUMENT: `replacer` is NULL; DADO_NOT_UNANCHORED: the automaton was built for anchored searches alone;
- * DADO_EMPTY_PATTERN: one of its patterns is empty; DADO_NO_MEMORY. `*replacer` is unchanged at these.
- *
- * Takes 64 KiB of memory, or 8 times as much as the longest pattern has, and no more in the calls after that.
+ * Makes a replacer of an automaton, and puts it at `*replacer`. It has the statuses of dado_stream_new, and takes as much memory. A
+ * replacer that was there is freed, once the new one is made. It owns the automaton too, which may be freed before it.
  */
 dado_status dado_replacer_new(const dado_automaton *ac, dado_replacer **replacer);
 
 /*
- * Takes the first bytes of a piece, after all that was pushed before; how many, to `*taken`. The piece isn't needed after the call.
- * None are taken before dado_replacer_next has returned DADO_NONE for what was pushed before. Else at least one is, if there is one,
- * and all of them, unless the replacer's memory is full: then the rest is pushed again after the next DADO_NONE.
+ * Takes the first bytes of a piece, as dado_stream_push does; how many, to `*taken`. None are taken before dado_replacer_next has returned
+ * DADO_NONE for what was pushed before. The slices that were given before are gone.
  *
  * DADO_OK, also if none was taken. DADO_BAD_ARGUMENT: `replacer`, `taken`, or a piece that isn't empty, is NULL; DADO_NO_REPLACER:
  * `*replacer` is NULL; DADO_FINISHED: the replacer was finished; DADO_TOO_MANY_BYTES: there are more bytes than places now, and no call
  * gives text after that. At all but the first `*taken` is 0. At all but the first and the last the replacer is unchanged.
- *
- * It copies each byte once, and moves a seventh of all bytes at most. It takes no memory. The slices that were given before are gone.
  */
 dado_status dado_replacer_push(dado_replacer **replacer, const void *piece, size_t len, size_t *taken);
 
@@ -640,17 +632,13 @@ dado_status dado_replacer_push(dado_replacer **replacer, const void *piece, size
  * DADO_OK: there is one. It is empty where a replacement is, and its `at` is never NULL. DADO_NONE: all that is decided was handed out:
  * push more bytes, or finish; after dado_replacer_finish it is the whole text. DADO_BAD_ARGUMENT: `replacer`, `slice`, or an array that
  * isn't empty, is NULL; DADO_NO_REPLACER: `*replacer` is NULL; DADO_WRONG_COUNT: `count` isn't the number of patterns, and the replacer is
- * unchanged. `*slice` is written at DADO_OK alone.
- *
- * All calls together look at states as often as those of dado_stream_some do. It takes no memory.
+ * unchanged. `*slice` is written at DADO_OK alone. The calls look at states as often as those of dado_stream_some. They take no memory.
  */
 dado_status dado_replacer_next(dado_replacer **replacer, const dado_bytes *replacements, size_t count, dado_bytes *slice);
 
 /*
- * Tells the replacer that nothing more comes, so that everything is decided: dado_replacer_next hands out the text to its end, and each
- * push is DADO_FINISHED. A second call changes nothing.
- *
- * DADO_OK. DADO_BAD_ARGUMENT: `replacer` is NULL; DADO_NO_REPLACER: `*replacer` is NULL. It takes no memory.
+ * Tells the replacer that nothing more comes: dado_replacer_next hands out the text to its end, and each push is DADO_FINISHED. A second
+ * call changes nothing. DADO_OK. DADO_BAD_ARGUMENT: `replacer` is NULL; DADO_NO_REPLACER: `*replacer` is NULL. It takes no memory.
  */
 dado_status dado_replacer_finish(dado_replacer **replacer);
 

@@ -1,5 +1,5 @@
-/* Whole words, one after another, all of them, both in pieces, replaced and masked: rows, batches of each size, texts beside a loop that compares each
- * pattern at each place, and each status. */
+/* Whole words, one after another, all of them, both in pieces, replaced and masked: rows, batches of each size, texts beside a loop that
+ * compares each pattern at each place, and each status. */
 #include "check.h"
 
 /* The kinds, and what asks for all words. */

@@ -63,11 +63,35 @@ fn hint_for<F: Files>(
     code: ExitCode,
 ) -> Result<Option<String>, AllocError> {
     match read_words(alloc, words) {
-        Ok(asked) if code == ExitCode::from(3) => hint_for_file(rt, alloc, &asked),
-        Ok(asked) => hint_of(alloc, hint_for_run(&asked, code)),
-        Err(WordsFault::Bad) => arguments::hint_for(alloc, words),
-        Err(WordsFault::Pairing(PairingError::Twice(byte))) => Ok(Some(twice(alloc, byte)?)),
-        Err(_) => Ok(None),
+        Ok(asked) => hint_for_asked(rt, alloc, &asked, code),
+        Err(fault) => hint_for_fault(alloc, words, &fault),
+    }
+}
+
+/// The hint for arguments that were understood.
+fn hint_for_asked<F: Files>(
+    rt: &F,
+    alloc: Global,
+    asked: &Words<'_>,
+    code: ExitCode,
+) -> Result<Option<String>, AllocError> {
+    if code == ExitCode::from(3) {
+        hint_for_file(rt, alloc, asked)
+    } else {
+        hint_of(alloc, hint_for_run(asked, code))
+    }
+}
+
+/// The hint for arguments that were not.
+fn hint_for_fault(
+    alloc: Global,
+    words: &[String],
+    fault: &WordsFault,
+) -> Result<Option<String>, AllocError> {
+    match fault {
+        WordsFault::Bad => arguments::hint_for(alloc, words),
+        WordsFault::Pairing(error) => Ok(Some(hint_for_pairs(alloc, error)?)),
+        _ => Ok(None),
     }
 }
 
@@ -80,7 +104,10 @@ fn hint_of(alloc: Global, text: Option<&str>) -> Result<Option<String>, AllocErr
 }
 
 /// The hint where `--pairs` names a byte twice: the byte as `--pairs` spells it.
-fn twice(alloc: Global, byte: u8) -> Result<String, AllocError> {
+fn hint_for_pairs(alloc: Global, error: &PairingError) -> Result<String, AllocError> {
+    let byte = match error {
+        PairingError::Twice(byte) => *byte,
+    };
     let (high, low) = (byte / 16, byte % 16);
     let mut hint = format!(in alloc; "--pairs names byte {high:x}{low:x}")?;
     if byte.is_ascii_graphic() {

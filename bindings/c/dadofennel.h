@@ -44,9 +44,9 @@
 #include <stdint.h>
 
 /* The version of this header. That of the library that runs is dado_version(). */
-#define DADO_VERSION "1.0.0"
+#define DADO_VERSION "1.1.0"
 #define DADO_VERSION_MAJOR 1
-#define DADO_VERSION_MINOR 0
+#define DADO_VERSION_MINOR 1
 #define DADO_VERSION_PATCH 0
 
 #ifdef __GNUC__
@@ -780,7 +780,7 @@ size_t dado_memory(const dado_automaton *ac);
 /* The text of a status, in English, without a full stop; never NULL, and never freed. */
 const char *dado_error_text(dado_status status);
 
-/* The version of the library that runs, such as "1.0.0"; DADO_VERSION is that of this header. */
+/* The version of the library that runs, such as "1.1.0"; DADO_VERSION is that of this header. */
 const char *dado_version(void);
 
 /*

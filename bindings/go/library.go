@@ -57,7 +57,7 @@ func statusText(s Status) string {
 	return C.GoString(C.dado_error_text(C.dado_status(s)))
 }
 
-// Version is the version of the library that runs, such as "1.0.0".
+// Version is the version of the library that runs, such as "1.1.0".
 func Version() string {
 	return C.GoString(C.dado_version())
 }

@@ -2,7 +2,7 @@
 
 import type { Transform } from 'node:stream';
 
-/** The version of the library that is linked in, such as "1.0.0". */
+/** The version of the library that is linked in, such as "1.1.0". */
 export const version: string;
 
 /**

@@ -123,9 +123,12 @@ pub fn read_words<'a>(alloc: Global, words: &'a [String]) -> Result<Words<'a>, W
     asked_for(alloc, &matches)
 }
 
-/// The error with which clap refuses the words, if it does.
-pub fn words_refused(alloc: Global, words: &[String]) -> Option<clap::Error> {
-    command(alloc).ok()?.try_get_matches_from(words).err()
+/// What clap makes of the words, for a hint: its matches, or the error with which it refuses them. Out of memory gives none.
+pub fn taken<'a>(
+    alloc: Global,
+    words: &'a [String],
+) -> Option<Result<ArgMatches<'a>, clap::Error>> {
+    Some(command(alloc).ok()?.try_get_matches_from(words))
 }
 
 // clap's part: which words belong to which argument, and whether they may stand there.

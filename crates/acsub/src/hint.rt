@@ -1,95 +1,195 @@
-//! What a person may do about a fault.
+//! What a person may do about an error.
 //!
-//! A program reads the line of a fault, so that line stands alone. Where standard error is a terminal, a person reads it, and
-//! `main` writes a second line: what is wrong with the words, with a line of the rule file, or with its path. The hint is made
-//! anew from the words and the file, after the run, so no run pays for it. Its texts are held by tests: no clause names them.
-use crate::args::{Words, WordsFault, read_words, words_refused};
-use crate::rules::{RuleError, read_rules};
-use std::alloc::{AllocError, Global};
-use std::fs;
-use std::io::{self, Read, Write};
-use std::rt::Files;
+//! A program reads the line of an error, so that line stands alone. Where standard error is a terminal, or the environment has
+//! `ACSUB_HINTS=1`, `main` writes a second line: what is wrong with the arguments, the settings or the rule file, or what takes less
+//! memory. The hint is made anew after the run, from the arguments and the rule file, so no run pays for it. The file is read again
+//! only if it is a regular one: to open a pipe or a terminal again would wait for its writer. The texts are held by tests: no
+//! clause names them.
+mod arguments;
 
-/// Writes a hint after the line of a fault, if there is one. A write that fails, and out of memory, leave it out.
-pub fn write_hint<F: Files, E: Write>(rt: &F, alloc: Global, words: &[String], errors: &mut E) {
-    if let Ok(Some(hint)) = hint_for(rt, alloc, words) {
+use crate::args::settings::{Engine, Mode, finds_early};
+use crate::args::{Words, WordsFault, read_words};
+use crate::rules::{RuleError, read_rules};
+use ac_input::pairing::PairingError;
+use ac_input::search::MatchKind;
+use std::alloc::{AllocError, Global};
+use std::io::{self, Read, Write};
+use std::process::ExitCode;
+use std::rt::{Env, Files};
+use std::{env, fs};
+
+/// Whether hints are asked for wherever standard error goes: by `ACSUB_HINTS=1` in the environment.
+pub fn is_asked_for<R: Env + Alloc>(rt: &R) -> bool {
+    match env::var(rt, "ACSUB_HINTS") {
+        Ok(value) => value.as_str() == "1",
+        Err(_) => false,
+    }
+}
+
+/// Writes a hint after the line of an error, if there is one for this status. There are no arguments where one of them is no text. A
+/// write that fails, and out of memory, leave the hint out.
+pub fn write_hint<F: Files, E: Write>(
+    rt: &F,
+    alloc: Global,
+    words: Option<&[String]>,
+    code: ExitCode,
+    errors: &mut E,
+) {
+    let hint = match words {
+        Some(words) => hint_for(rt, alloc, words, code),
+        None => hint_of(alloc, no_text(code)),
+    };
+    if let Ok(Some(hint)) = hint {
         let _ = writeln!(errors, "acsub: hint: {hint}");
     }
 }
 
-/// The hint for words that are bad, or whose rule file is.
+/// The hint where the arguments can't be had as text: one of them is none, unless memory ran out.
+fn no_text(code: ExitCode) -> Option<&'static str> {
+    if code == ExitCode::from(2) {
+        Some(
+            "an argument isn't UTF-8; give a file of such a name as /dev/fd/3, and 3< FILE after the arguments",
+        )
+    } else {
+        None
+    }
+}
+
+/// The hint for these arguments and the status of their run.
 fn hint_for<F: Files>(
     rt: &F,
     alloc: Global,
     words: &[String],
+    code: ExitCode,
 ) -> Result<Option<String>, AllocError> {
     match read_words(alloc, words) {
-        Ok(asked) => hint_for_file(rt, alloc, &asked),
-        Err(WordsFault::Bad) => hint_for_words(alloc, words),
-        Err(_) => Ok(None),
+        Ok(asked) => hint_for_asked(rt, alloc, &asked, code),
+        Err(fault) => hint_for_fault(alloc, words, &fault),
     }
 }
 
-/// The reason for which clap refuses the words; where it takes them, the value of `--pairs` or of `--with` is bad.
-fn hint_for_words(alloc: Global, words: &[String]) -> Result<Option<String>, AllocError> {
-    match words_refused(alloc, words) {
-        Some(error) => {
-            let text = error.to_string(alloc)?;
-            Ok(Some(on_one_line(alloc, reason_of(text.as_str()))?))
-        }
-        None => {
-            let values =
-                "--pairs takes four hex digits a pair, and no --fold beside it; --with takes two, in mode mask";
-            Ok(Some(String::from_str(alloc, values)?))
-        }
+/// The hint for arguments that were understood.
+fn hint_for_asked<F: Files>(
+    rt: &F,
+    alloc: Global,
+    asked: &Words<'_>,
+    code: ExitCode,
+) -> Result<Option<String>, AllocError> {
+    if code == ExitCode::from(3) {
+        hint_for_file(rt, alloc, asked)
+    } else {
+        hint_of(alloc, hint_for_run(asked, code))
     }
 }
 
-/// The text of an error without the word that it begins with.
-fn reason_of(text: &str) -> &str {
-    match text.strip_prefix("error: ") {
-        Some(reason) => reason,
-        None => text,
+/// The hint for arguments that were not.
+fn hint_for_fault(
+    alloc: Global,
+    words: &[String],
+    fault: &WordsFault,
+) -> Result<Option<String>, AllocError> {
+    match fault {
+        WordsFault::Bad => arguments::hint_for(alloc, words),
+        WordsFault::Pairing(error) => Ok(Some(hint_for_pairs(alloc, error)?)),
+        _ => Ok(None),
     }
 }
 
-/// The first lines of a text, up to an empty one, with a space between.
-fn on_one_line(alloc: Global, text: &str) -> Result<String, AllocError> {
-    let mut line = String::new(alloc);
-    for part in text.lines() {
-        if part.is_empty() {
-            return Ok(line);
-        }
-        if !line.is_empty() {
-            line.push_str(" ")?;
-        }
-        line.push_str(part.trim())?;
+/// A fixed text as a hint.
+fn hint_of(alloc: Global, text: Option<&str>) -> Result<Option<String>, AllocError> {
+    match text {
+        Some(text) => Ok(Some(String::from_str(alloc, text)?)),
+        None => Ok(None),
     }
-    Ok(line)
 }
 
-/// Why the rule file can't be read, or what is wrong with its first bad line.
+/// The hint where `--pairs` names a byte twice: the byte as `--pairs` spells it.
+fn hint_for_pairs(alloc: Global, error: &PairingError) -> Result<String, AllocError> {
+    let byte = match error {
+        PairingError::Twice(byte) => *byte,
+    };
+    let (high, low) = (byte / 16, byte % 16);
+    let mut hint = format!(in alloc; "--pairs names byte {high:x}{low:x}")?;
+    if byte.is_ascii_graphic() {
+        let sign = char::from(byte);
+        write!(hint, " ('{sign}')")?;
+    }
+    hint.push_str(" twice; a byte has one partner at most")?;
+    Ok(hint)
+}
+
+/// The hint for a run whose settings were refused, or that was out of memory.
+fn hint_for_run(asked: &Words<'_>, code: ExitCode) -> Option<&'static str> {
+    if code == ExitCode::from(2) {
+        hint_for_settings(asked)
+    } else if code == ExitCode::from(7) {
+        hint_for_memory(asked)
+    } else {
+        None
+    }
+}
+
+/// Which options exclude one another.
+fn hint_for_settings(asked: &Words<'_>) -> Option<&'static str> {
+    let settings = &asked.settings;
+    let is_standard = settings.kind == MatchKind::Standard;
+    let is_packed = settings.engine == Engine::Packed;
+    match settings.mode {
+        Mode::Overlap if !is_standard => {
+            Some("overlap and mask take every occurrence, whatever the kind: leave --kind out")
+        }
+        Mode::Overlap if is_packed => {
+            Some("overlap and mask need an automaton: leave --engine packed out")
+        }
+        _ if is_packed && is_standard => {
+            Some("beside --engine packed give --kind leftmost-first or --kind leftmost-longest")
+        }
+        _ if is_packed && !settings.pairing.is_none() => {
+            Some("--engine packed can't be used with --fold or --pairs; every other engine can")
+        }
+        _ => None,
+    }
+}
+
+/// What holds less, where the run held its input.
+fn hint_for_memory(asked: &Words<'_>) -> Option<&'static str> {
+    let settings = &asked.settings;
+    let is_early = match settings.mode {
+        Mode::Overlap => asked.stream,
+        _ => finds_early(settings, asked.stream),
+    };
+    if asked.word || asked.mask.is_some() || is_early {
+        None
+    } else if settings.engine == Engine::Packed {
+        Some(
+            "packed holds the whole input; another engine with --stream holds a part, if no pattern is empty",
+        )
+    } else {
+        Some(
+            "such a run holds the whole input; with --stream it holds a part, if no pattern is empty",
+        )
+    }
+}
+
+/// Why the rule file can't be read, or what is wrong with its first bad line. Only a regular file is opened.
 fn hint_for_file<F: Files>(
     rt: &F,
     alloc: Global,
     asked: &Words<'_>,
 ) -> Result<Option<String>, AllocError> {
     let path = asked.rules;
-    let bytes = match bytes_of(rt, alloc, path) {
-        Ok(bytes) => bytes,
-        Err(error) => return Ok(Some(format!(in alloc; "{path}: {error}")?)),
-    };
-    match read_rules(alloc, asked.text, bytes.as_slice()) {
-        Err(RuleError::Line(number)) => {
-            let line = line_at(bytes.as_slice(), number);
-            let reason = if asked.text {
-                text_reason(line)
-            } else {
-                hex_reason(line)
-            };
-            Ok(Some(String::from_str(alloc, reason)?))
-        }
-        _ => Ok(None),
+    match fs::metadata(rt, path) {
+        _ if path.is_empty() => hint_of(alloc, Some("the path of the rule file is empty")),
+        Ok(found) if found.is_dir() => Ok(Some(format!(in alloc; "{path} is a folder")?)),
+        Ok(found) if !found.is_file() => hint_of(alloc, Some(form_of(asked.text))),
+        Ok(_) => match bytes_of(rt, alloc, path) {
+            Ok(bytes) => hint_of(alloc, reason(alloc, asked.text, bytes.as_slice())),
+            Err(error) => Ok(Some(format!(in alloc; "{path}: {error}")?)),
+        },
+        Err(error) if path == "-" => Ok(Some(format!(in alloc;
+            "-: {error}; RULES is a path, and standard input is what is searched"
+        )?)),
+        Err(error) => Ok(Some(format!(in alloc; "{path}: {error}")?)),
     }
 }
 
@@ -99,6 +199,24 @@ fn bytes_of<F: Files>(rt: &F, alloc: Global, path: &str) -> io::Result<Vec<u8>> 
     let mut file = fs::open(rt, path)?;
     file.read_to_end(&mut bytes)?;
     Ok(bytes)
+}
+
+/// What a rule is, where the bad line can't be looked at.
+fn form_of(text: bool) -> &'static str {
+    if text {
+        "a rule is pattern TAB replacement, or a pattern alone; no line is empty"
+    } else {
+        "a rule is hex TAB hex, two digits a byte; for plain text give --text"
+    }
+}
+
+/// Why the first bad line of a rule file is no rule.
+fn reason(alloc: Global, text: bool, file: &[u8]) -> Option<&'static str> {
+    match read_rules(alloc, text, file) {
+        Err(RuleError::Line(number)) if text => Some(text_reason(line_at(file, number))),
+        Err(RuleError::Line(number)) => Some(hex_reason(line_at(file, number))),
+        _ => None,
+    }
 }
 
 /// A line of the bytes, counted from 1, with its line feed.
@@ -130,6 +248,19 @@ fn text_reason(line: &[u8]) -> &'static str {
     match line.first() {
         Some(b'\t') => "the line has no pattern before its TAB",
         Some(b'\n' | b'\r') => "the line is empty; a pattern has a byte at least",
+        _ if has_lone_return(line) =>
+            "the line has a CR and a second TAB; lines end in LF or CR LF, not in CR",
         _ => "the line has a second TAB; a rule is pattern TAB replacement",
     }
 }
+
+/// Whether a CR stands before another byte than the line feed.
+fn has_lone_return(line: &[u8]) -> bool {
+    match line.iter().position(|byte| *byte == b'\r') {
+        Some(at) => at.saturating_add(2) < line.len(),
+        None => false,
+    }
+}
+
+#[cfg(test)]
+mod tests;

@@ -29,7 +29,7 @@ use std::io::{IsTerminal, Stderr, Stdin, Stdout};
 use std::process::ExitCode;
 
 /// Gives [`tool::program`] the words and the standard streams, which their types keep apart: no contract can say which is which.
-/// Where a person reads the line of a fault, on a terminal, a hint follows it.
+/// Where a person reads the line of an error, on a terminal or by `ACSUB_HINTS=1`, a hint follows it.
 fn main(rt: HostRuntime) -> ExitCode {
     let mut reader: Watched<Stdin> = Watched::new(rt.stdin());
     let mut writer: Watched<Stdout> = Watched::new(rt.stdout());
@@ -43,10 +43,10 @@ fn main(rt: HostRuntime) -> ExitCode {
         &mut writer,
         &mut errors,
     );
-    if code != ExitCode::SUCCESS && errors.is_terminal() {
-        if let Some(words) = tool::collected(alloc, env::args(&rt)) {
-            hint::write_hint(&rt, alloc, words.as_slice(), &mut errors);
-        }
+    if code != ExitCode::SUCCESS && (errors.is_terminal() || hint::is_asked_for(&rt)) {
+        let words = tool::collected(alloc, env::args(&rt));
+        let words = words.as_ref().map(|words| words.as_slice());
+        hint::write_hint(&rt, alloc, words, code, &mut errors);
     }
     code
 }

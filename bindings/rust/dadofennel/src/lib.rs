@@ -53,7 +53,7 @@ pub use crate::search::{Anchored, Input, Match, MatchKind, Span, StartKind};
 pub use crate::stream::{StreamFindIter, StreamFindOverlappingWordIter, StreamFindWordIter};
 pub use crate::words::{FindOverlappingWordIter, FindWordIter};
 
-/// The version of the library that searches, such as `1.0.0`.
+/// The version of the library that searches, such as `1.1.0`.
 pub fn version() -> &'static str {
     handle::version()
 }

@@ -413,7 +413,7 @@ const ROWS: &[Row] = &[
     SHOWN,
     Row {
         words: &["--version"],
-        text: "acsub 1.0.0\n",
+        text: "acsub 1.1.0\n",
         fewest: 12,
         most: 12,
         ..SHOWN

@@ -1,0 +1,337 @@
+//! The hint for each mistake: of arguments, settings, rule files and memory.
+use super::write_hint;
+use crate::scripted::{command_line, equal, expecting};
+use std::alloc::{AllocError, Global};
+use std::fs;
+use std::process::{Abort, ExitCode};
+use std::rt::Files;
+use std::test::Fail;
+
+/// Where the rule file lies while a row is tried.
+const PATH: &str = "out/hint.rules";
+
+/// A command line, its rule file, the status of the run, and the line after that of the error.
+struct Row {
+    words: &'static [&'static str],
+    rules: &'static str,
+    status: u8,
+    hint: &'static str,
+}
+
+/// Arguments that are no command line.
+const BAD: Row = Row {
+    words: &[],
+    rules: "61\t62\n",
+    status: 2,
+    hint: "acsub: hint: the following required arguments were not provided: <MODE> <RULES>; write acsub MODE RULES [OPTION..] < INPUT, and see acsub --help\n",
+};
+
+/// A rule file with a bad line.
+const LINE: Row = Row {
+    words: &["list", PATH, "--text"],
+    status: 3,
+    ..BAD
+};
+
+/// A run that was out of memory, for which there is no hint.
+const FULL: Row = Row {
+    words: &["list", PATH],
+    status: 7,
+    hint: "",
+    ..BAD
+};
+
+const ROWS: &[Row] = &[
+    BAD,
+    Row {
+        words: &["list"],
+        hint: "acsub: hint: the following required arguments were not provided: <RULES>; write acsub MODE RULES [OPTION..] < INPUT, and see acsub --help\n",
+        ..BAD
+    },
+    Row {
+        words: &["cut", PATH],
+        hint: "acsub: hint: invalid value 'cut' for '<MODE>' [possible values: replace, list, overlap, mask]; see acsub --help\n",
+        ..BAD
+    },
+    Row {
+        words: &["list", PATH, "--kind", "longest"],
+        hint: "acsub: hint: invalid value 'longest' for '--kind <K>' [possible values: standard, leftmost-first, leftmost-longest]; see acsub --help\n",
+        ..BAD
+    },
+    Row {
+        words: &["list", PATH, "--kind"],
+        hint: "acsub: hint: a value is required for '--kind <K>' but none was supplied [possible values: standard, leftmost-first, leftmost-longest]; see acsub --help\n",
+        ..BAD
+    },
+    Row {
+        words: &["list", PATH, "--txt"],
+        hint: "acsub: hint: unexpected argument '--txt' found; a similar argument exists: '--text'; see acsub --help\n",
+        ..BAD
+    },
+    Row {
+        words: &["list", PATH, "-z"],
+        hint: "acsub: hint: there is no option '-z': acsub reads standard input and writes standard output; see acsub --help\n",
+        ..BAD
+    },
+    Row {
+        words: &["list", PATH, "h.txt"],
+        hint: "acsub: hint: unexpected argument 'h.txt': the input is standard input, as in acsub .. < FILE; see acsub --help\n",
+        ..BAD
+    },
+    Row {
+        words: &["list", PATH, "--text", "--text"],
+        hint: "acsub: hint: the argument '--text' cannot be used multiple times; give it once\n",
+        ..BAD
+    },
+    Row {
+        words: &["list", PATH, "--text=yes"],
+        hint: "acsub: hint: unexpected value 'yes' for '--text' found; no more were expected; see acsub --help\n",
+        ..BAD
+    },
+    Row {
+        words: &["list", PATH, "--dense-depth", "-1"],
+        hint: "acsub: hint: '-1' is no option; --dense-depth takes a whole number from 0 to 2147483646\n",
+        ..BAD
+    },
+    Row {
+        words: &["list", PATH, "--dense-depth", "two"],
+        hint: "acsub: hint: invalid value 'two' for '--dense-depth <N>': invalid digit found in string; N is a whole number from 0 to 2147483646\n",
+        ..BAD
+    },
+    Row {
+        words: &["list", PATH, "--pairs", "303"],
+        hint: "acsub: hint: --pairs takes four hex digits a pair, as 3031 for 0 and 1, not '303'\n",
+        ..BAD
+    },
+    Row {
+        words: &["list", PATH, "--pairs", "3031", "--fold"],
+        hint: "acsub: hint: --fold and --pairs exclude each other; --pairs can name letters too, as 4161 for A and a\n",
+        ..BAD
+    },
+    Row {
+        words: &["list", PATH, "--with", "23"],
+        hint: "acsub: hint: --with goes with mode mask alone; leave it out, or give mode mask\n",
+        ..BAD
+    },
+    Row {
+        words: &["mask", PATH, "--with", "#"],
+        hint: "acsub: hint: --with takes a byte as two hex digits, as 23 for #, not '#'\n",
+        ..BAD
+    },
+    Row {
+        words: &["mask", PATH, "--with", "23", "--pairs", "zz"],
+        hint: "acsub: hint: --pairs takes four hex digits a pair, as 3031 for 0 and 1, not 'zz'\n",
+        ..BAD
+    },
+    // Pairs that name a byte twice, one that is no sign among them.
+    Row {
+        words: &["list", PATH, "--pairs", "30313032"],
+        hint: "acsub: hint: --pairs names byte 30 ('0') twice; a byte has one partner at most\n",
+        ..BAD
+    },
+    Row {
+        words: &["list", PATH, "--pairs", "0a0a"],
+        hint: "acsub: hint: --pairs names byte 0a twice; a byte has one partner at most\n",
+        ..BAD
+    },
+    // Settings that exclude one another.
+    Row {
+        words: &["mask", PATH, "--kind", "leftmost-longest"],
+        hint: "acsub: hint: overlap and mask take every occurrence, whatever the kind: leave --kind out\n",
+        ..BAD
+    },
+    Row {
+        words: &["overlap", PATH, "--engine", "packed"],
+        hint: "acsub: hint: overlap and mask need an automaton: leave --engine packed out\n",
+        ..BAD
+    },
+    Row {
+        words: &["list", PATH, "--engine", "packed"],
+        hint: "acsub: hint: beside --engine packed give --kind leftmost-first or --kind leftmost-longest\n",
+        ..BAD
+    },
+    Row {
+        words: &[
+            "list",
+            PATH,
+            "--engine",
+            "packed",
+            "--kind",
+            "leftmost-first",
+            "--fold",
+        ],
+        hint: "acsub: hint: --engine packed can't be used with --fold or --pairs; every other engine can\n",
+        ..BAD
+    },
+    // Rule files that can't be read; and one that is no regular file, and isn't opened.
+    Row {
+        words: &["list", ""],
+        status: 3,
+        hint: "acsub: hint: the path of the rule file is empty\n",
+        ..BAD
+    },
+    Row {
+        words: &["list", "missing.rules"],
+        status: 3,
+        hint: "acsub: hint: missing.rules: No such file or directory (os error 2)\n",
+        ..BAD
+    },
+    Row {
+        words: &["list", "-"],
+        status: 3,
+        hint: "acsub: hint: -: No such file or directory (os error 2); RULES is a path, and standard input is what is searched\n",
+        ..BAD
+    },
+    Row {
+        words: &["list", "out"],
+        status: 3,
+        hint: "acsub: hint: out is a folder\n",
+        ..BAD
+    },
+    Row {
+        words: &["list", "/dev/null"],
+        status: 3,
+        hint: "acsub: hint: a rule is hex TAB hex, two digits a byte; for plain text give --text\n",
+        ..BAD
+    },
+    Row {
+        words: &["list", "/dev/null", "--text"],
+        status: 3,
+        hint: "acsub: hint: a rule is pattern TAB replacement, or a pattern alone; no line is empty\n",
+        ..BAD
+    },
+    // The first bad line of a rule file, in hex and in plain text.
+    Row {
+        words: &["list", PATH],
+        rules: "fox\tsloth\n",
+        hint: "acsub: hint: a rule is hex TAB hex; for plain text give --text\n",
+        ..LINE
+    },
+    Row {
+        words: &["list", PATH],
+        rules: "61\t62\r\n",
+        hint: "acsub: hint: the line ends in CR LF; a line of hex ends in LF alone\n",
+        ..LINE
+    },
+    Row {
+        words: &["list", PATH],
+        rules: "61\t62\n63\t64",
+        hint: "acsub: hint: the last line has no LF; a line of hex ends in LF\n",
+        ..LINE
+    },
+    Row {
+        words: &["list", PATH],
+        rules: "61\n",
+        hint: "acsub: hint: a rule is hex TAB hex, two digits a byte\n",
+        ..LINE
+    },
+    Row {
+        rules: "a\n\nb\n",
+        hint: "acsub: hint: the line is empty; a pattern has a byte at least\n",
+        ..LINE
+    },
+    Row {
+        rules: "a\n\tb\n",
+        hint: "acsub: hint: the line has no pattern before its TAB\n",
+        ..LINE
+    },
+    Row {
+        rules: "a\tb\tc\r\n",
+        hint: "acsub: hint: the line has a second TAB; a rule is pattern TAB replacement\n",
+        ..LINE
+    },
+    Row {
+        rules: "a\tb\rc\td\r",
+        hint: "acsub: hint: the line has a CR and a second TAB; lines end in LF or CR LF, not in CR\n",
+        ..LINE
+    },
+    // Runs that were out of memory: those that write while they read, and those that hold their input.
+    FULL,
+    Row {
+        words: &["replace", PATH, "--kind", "leftmost-longest", "--stream"],
+        ..FULL
+    },
+    Row {
+        words: &["overlap", PATH, "--stream"],
+        ..FULL
+    },
+    Row {
+        words: &["mask", PATH],
+        ..FULL
+    },
+    Row {
+        words: &["list", PATH, "--word", "--kind", "leftmost-first"],
+        ..FULL
+    },
+    Row {
+        words: &["replace", PATH, "--kind", "leftmost-longest"],
+        hint: "acsub: hint: such a run holds the whole input; with --stream it holds a part, if no pattern is empty\n",
+        ..FULL
+    },
+    Row {
+        words: &["overlap", PATH],
+        hint: "acsub: hint: such a run holds the whole input; with --stream it holds a part, if no pattern is empty\n",
+        ..FULL
+    },
+    Row {
+        words: &[
+            "list",
+            PATH,
+            "--kind",
+            "leftmost-first",
+            "--engine",
+            "packed",
+            "--stream",
+        ],
+        hint: "acsub: hint: packed holds the whole input; another engine with --stream holds a part, if no pattern is empty\n",
+        ..FULL
+    },
+    // Errors that need no hint: the line says what the reader has to know.
+    Row {
+        words: &["mask", PATH, "--with", "61"],
+        status: 4,
+        hint: "",
+        ..BAD
+    },
+    Row {
+        words: &["list", PATH],
+        status: 6,
+        hint: "",
+        ..BAD
+    },
+];
+
+/// Asserts the hint of a row.
+fn hints<F: Abort + Files>(rt: &F, alloc: Global, row: &Row) -> Result<(), AllocError> {
+    let words = command_line(alloc, row.words)?;
+    let mut errors = expecting(row.hint.as_bytes());
+    let code = ExitCode::from(row.status);
+    write_hint(rt, alloc, Some(words.as_slice()), code, &mut errors);
+    let said = (row.words, row.rules, errors.written());
+    let want = (row.words, row.rules, Some(row.hint.len()));
+    equal(rt, &said, &want, row.hint);
+    Ok(())
+}
+
+/// Arguments that are no text have a hint of their own, unless there was no memory for them.
+fn hints_at_no_text<F: Abort + Files>(rt: &F, alloc: Global) {
+    let no_text =
+        "acsub: hint: an argument isn't UTF-8; give a file of such a name as /dev/fd/3, and 3< FILE after the arguments\n";
+    for (status, hint) in [(2, no_text), (7, "")] {
+        let mut errors = expecting(hint.as_bytes());
+        write_hint(rt, alloc, None, ExitCode::from(status), &mut errors);
+        equal(rt, &errors.written(), &Some(hint.len()), hint);
+    }
+}
+
+#[test]
+fn says_what_to_write(rt: HostRuntime) -> Result<(), Fail> {
+    fs::create_dir_all(&rt, "out")?;
+    for row in ROWS {
+        fs::write(&rt, PATH, row.rules)?;
+        hints(&rt, rt.alloc(), row)?;
+    }
+    fs::remove_file(&rt, PATH)?;
+    hints_at_no_text(&rt, rt.alloc());
+    Ok(())
+}

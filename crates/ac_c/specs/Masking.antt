@@ -55,9 +55,9 @@ mask_progress (OfAll s) = s
 mask_progress (OfWords s) = s
 
 -- one of the same kind that has come so far
-abbrev pub come_to : Masking → MaskProgress → Masking
-come_to (OfAll s) t = OfAll t
-come_to (OfWords s) t = OfWords t
+abbrev pub with_progress : Masking → MaskProgress → Masking
+with_progress (OfAll s) t = OfAll t
+with_progress (OfWords s) t = OfWords t
 
 -- the masked bytes that are ready
 abbrev pub ready_in : Masking → List ℕ
@@ -82,6 +82,6 @@ ready_len s = record { len = length (ready_in s); status = ok }
 -- No more pieces come: all that waited is ready. After more bytes than places nothing is.
 abbrev pub IsClosedMask : Masking → Masking → Type 0
 IsClosedMask s t =
-    (CanBeCounted (passed_to (mask_progress s)) → t ≡ come_to s (finished_mask (mask_progress s)))
+    (CanBeCounted (passed_to (mask_progress s)) → t ≡ with_progress s (finished_mask (mask_progress s)))
     × (¬ CanBeCounted (passed_to (mask_progress s))
-    → t ≡ come_to s (record (mask_progress s) { out = (mask_progress s).cut }))
+    → t ≡ with_progress s (record (mask_progress s) { out = (mask_progress s).cut }))

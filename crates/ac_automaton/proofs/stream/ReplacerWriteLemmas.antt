@@ -13,12 +13,12 @@ use Rattle.ac_automaton.proofs.stream.StreamCountLemmas.{StreamCounts-none, Stre
 use Rattle.ac_automaton.proofs.stream.devices.OutputLemmas.{Sends-then, Sent-none, Sent-then}
 
 -- a search that makes no step reads nothing
-stays : (s : StreamProgress Picks) → ReadsNothing s s
+pub stays : (s : StreamProgress Picks) → ReadsNothing s s
 stays s =
     record { on = λ standard. omega arith; last = omega arith; closed = refl; built = refl; pieces = refl; from = refl }
 
 -- bytes handed out in two steps, one after the other
-hands-then : (r t u : ReplacerProgress) (replacements : List (List ℕ)) (bytes more : List ℕ)
+pub hands-then : (r t u : ReplacerProgress) (replacements : List (List ℕ)) (bytes more : List ℕ)
     → HandsOut r t replacements bytes → HandsOut t u replacements more → HandsOut r u replacements (bytes ++ more)
 hands-then r t u replacements bytes more a b = record {
   same = ReadsNothing-then r.search t.search u.search a.same b.same;

@@ -82,7 +82,7 @@ function splicing(searcher, how, of) {
     const cut = Math.max(at, stop - from);
     pieces.push(held.subarray(at, cut));
     const out = Buffer.concat(pieces);
-    held = held.subarray(cut);
+    held = Buffer.from(held.subarray(cut)); // the writer may use its chunk again
     from += cut;
     return out;
   };

@@ -111,13 +111,11 @@ typedef struct {
     void *own, *own_coded;
 } Text;
 
-/* Reads an argument, which is copied if it is a string. -1 with an exception. What lies near is gone with it. */
+/* Reads an argument, which is copied if it is a string: near, if it is short and `near` isn't NULL. -1 with an exception. */
 int text_read(napi_env env, const Searcher *of, napi_value value, uint32_t how, Near *near, Text *out);
 /* Writes what is searched. With `fresh` it is a copy, and has no `marker`. It calls nothing of Node. */
 dado_status text_code(const Searcher *of, Text *it, int fresh, Near *near);
 void text_let_go(Text *it);
-/* Moves what lies near to memory of its own. */
-dado_status text_keep(Text *it, const Near *near);
 /* Appends the bytes of units, one to three for each. Returns how many there are; `out` may be NULL. */
 size_t wide_of(const char16_t *units, size_t count, uint8_t *out);
 /* The span of two arguments. */

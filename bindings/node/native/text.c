@@ -88,23 +88,6 @@ void text_let_go(Text *it) {
     it->own = it->own_coded = NULL;
 }
 
-static dado_status keep(const void **at, void **own, size_t size) {
-    *own = malloc(size + 1);
-    if (*own == NULL) return DADO_NO_MEMORY;
-    if (size != 0) memcpy(*own, *at, size);
-    *at = *own;
-    return DADO_OK;
-}
-
-dado_status text_keep(Text *it, const Near *near) {
-    const void *coded = it->coded;
-    dado_status status = DADO_OK;
-    if (it->at == near->units) status = keep(&it->at, &it->own, it->len * sizeof(char16_t));
-    if (status == DADO_OK && it->coded == near->coded) status = keep(&coded, &it->own_coded, it->size);
-    it->coded = coded;
-    return status;
-}
-
 /* ---- Writing what is searched ---- */
 
 size_t wide_of(const char16_t *units, size_t count, uint8_t *out) {

@@ -224,14 +224,12 @@ static void walk_finalize(napi_env env, void *data, void *hint) {
     free(data);
 }
 
-static napi_value walk_of(napi_env env, Searcher *of, Text *text, const Near *near, uint32_t how) {
+static napi_value walk_of(napi_env env, Searcher *of, Text *text, uint32_t how) {
     Walk *it = calloc(1, sizeof *it);
-    dado_status status = it == NULL ? DADO_NO_MEMORY : text_keep(text, near);
     int64_t now;
-    if (status != DADO_OK) {
+    if (it == NULL) {
         text_let_go(text);
-        free(it);
-        return refuse(env, status);
+        return refuse(env, DADO_NO_MEMORY);
     }
     it->tag = WALK, it->of = searcher_shared(of), it->text = *text;
     begin(&it->going, how, text);
@@ -243,11 +241,10 @@ static napi_value walk_of(napi_env env, Searcher *of, Text *text, const Near *ne
 
 /* walk(searcher, text, how[, start, end]) */
 napi_value walk_new(napi_env env, napi_callback_info info) {
-    Near near;
     Text text;
     uint32_t how;
-    Searcher *of = search_of(env, info, &near, &text, &how);
-    return of == NULL ? NULL : walk_of(env, of, &text, &near, how);
+    Searcher *of = search_of(env, info, NULL, &text, &how);
+    return of == NULL ? NULL : walk_of(env, of, &text, how);
 }
 
 /* A Buffer is given again at each call: it may be elsewhere, or shorter, than it was. */

@@ -109,6 +109,17 @@ test('a result of bytes is a copy', () => {
   assert.strictEqual(text.toString(), 'no match');
 });
 
+test('bytes of a shared buffer, and of a part of one', () => {
+  const ac = new Automaton([bytes('abc')]);
+  const shared = new Uint8Array(new SharedArrayBuffer(12));
+  shared.set(bytes('abc-abc-abcd'));
+  assert.deepStrictEqual(triples(ac.findAll(shared)), [[0, 0, 3], [0, 4, 7], [0, 8, 11]]);
+  assert.deepStrictEqual(triples(ac.findAll(shared.subarray(1, 10))), [[0, 3, 6]]);
+  assert.deepStrictEqual(ac.replace(shared.subarray(4), [bytes('')]), bytes('-d'));
+  ac.maskInPlace(shared.subarray(1));
+  assert.deepStrictEqual(Buffer.from(shared), bytes('abc-***-***d'));
+});
+
 test('masks', () => {
   assert.strictEqual(new Automaton(['\u00e9t\u00e9', 't\u00e9 d\'or']).mask('l\'\u00e9t\u00e9 d\'or'), 'l\'********');
   assert.strictEqual(new Automaton(['abc', 'cde']).mask('xabcdex', '\u2588'), 'x\u2588\u2588\u2588\u2588\u2588x');

@@ -7,7 +7,7 @@ const fs = require('node:fs');
 const os = require('node:os');
 const path = require('node:path');
 const { Readable } = require('node:stream');
-const { pipeline } = require('node:stream/promises');
+const { finished, pipeline } = require('node:stream/promises');
 const { test } = require('node:test');
 const { Automaton } = require('dadofennel');
 
@@ -92,6 +92,22 @@ test('a function is given places in all that was written', async () => {
   });
   assert.strictEqual((await through(transform, [Buffer.from('xa'), Buffer.from('b-'), Buffer.from('ab')])).toString(), 'x-');
   assert.deepStrictEqual(triples(found), [[0, 1, 3], [0, 4, 6]]);
+});
+
+test('a chunk may be written to after it was taken', async () => {
+  const ac = new Automaton(['fox', 'foxglove'], { kind: 'leftmost-longest' });
+  for (const transform of [ac.replaceStream('-'), ac.replaceStream(() => '-')]) {
+    const out = [];
+    transform.on('data', (made) => out.push(Buffer.from(made)));
+    for (const part of ['a fo', 'x, a', ' fo', 'g']) {
+      const chunk = Buffer.from(part);
+      await new Promise((done) => transform.write(chunk, done));
+      chunk.fill('#');
+    }
+    transform.end();
+    await finished(transform);
+    assert.strictEqual(Buffer.concat(out).toString(), 'a -, a fog');
+  }
 });
 
 test('an error of a function ends the stream', async () => {

@@ -14,6 +14,7 @@ import re
 import shutil
 import subprocess
 import sys
+import sysconfig
 import tarfile
 import tempfile
 import time
@@ -66,6 +67,19 @@ def platform_of(path, machine):
     return f"manylinux2014_{machine}" if glibc <= OLDEST else f"manylinux_{glibc[0]}_{glibc[1]}_{machine}"
 
 
+def headers_for(machine, folder):
+    """What lets the compiler of another machine take the headers of Python here. Debian's ask for those of its machine, for which these
+    stand: both have 64 bits, and the module keeps to the limited API."""
+    name = os.path.relpath(sysconfig.get_config_h_filename(), "/usr/include")
+    mine = f"/usr/include/{platform.machine()}-linux-gnu/{name}"
+    if machine == platform.machine() or name.startswith("..") or not os.path.exists(mine):
+        return ""
+    to = f"{folder}/{machine}-linux-gnu/{name}"
+    os.makedirs(os.path.dirname(to))
+    shutil.copy(mine, to)
+    return f" -I{folder}"
+
+
 def make(prefix, dist, version, when, machine="x86_64"):
     """Writes the wheel and the sources to a folder, and returns their names. `when` is the time of all files, in seconds since 1970.
 
@@ -76,7 +90,7 @@ def make(prefix, dist, version, when, machine="x86_64"):
     compiler = os.environ.get("CC") or tool("gcc" if machine != platform.machine() else "cc", machine)
     with tempfile.TemporaryDirectory(prefix="wheel-") as folder:
         path = f"{folder}/{os.path.basename(pack.MODULE)}"
-        build.compile_module(found, path, compiler, LINKED)
+        build.compile_module(found, path, compiler + headers_for(machine, folder), LINKED)
         tag = f"cp38-abi3-{platform_of(path, machine)}"
         contents = [*build.package(), (pack.MODULE, pack.read(path), 0o755)]
     wheel = build.written(dist, f"dadofennel-{public}-{tag}.whl", pack.wheel(public, tag, contents, when))

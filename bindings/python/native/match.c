@@ -30,7 +30,7 @@ static int numbers_of(const dado_match *it, size_t shift, PyObject **out) {
     return -1;
 }
 
-int is_plain(PyObject *text) { return PyUnicode_CheckExact(text) || PyBytes_CheckExact(text); }
+int is_plain(PyObject *text) { return PyUnicode_CheckExact(text) || PyBytes_CheckExact(text) || PyByteArray_CheckExact(text); }
 
 /* A match, whose memory is set here. The numbers and a plain text lead nowhere, so then the collector needn't look at it. */
 static PyObject *made_at_once(PyObject *const *numbers, PyObject *text) {

@@ -45,7 +45,7 @@ int matches_ready(PyObject *module);
 int take_match_type(PyObject *type);
 /* A new `Match`; `shift` is added to its places. It holds the text, which may be NULL. */
 PyObject *match_of(const dado_match *it, size_t shift, PyObject *text);
-/* Whether a text is a `str` or `bytes` itself, which refers to nothing. */
+/* Whether a text is a `str`, `bytes` or `bytearray` itself, which refers to nothing. */
 int is_plain(PyObject *text);
 
 /* ---- owner.c ---- */

@@ -156,6 +156,7 @@ class Held(unittest.TestCase):
 
     def test_plain_matches_are_not_tracked(self):
         self.assertFalse(gc.is_tracked(Automaton(["fox"]).find("a fox")))
+        self.assertFalse(gc.is_tracked(Automaton([b"fox"]).find(bytearray(b"a fox"))))
         self.assertTrue(gc.is_tracked(Automaton(["fox"]).find(Text("a fox"))))
 
 

@@ -1,5 +1,6 @@
 'use strict';
 
+const { Buffer } = require('node:buffer');
 const { badArgument, badSetting } = require('./errors');
 const { native, matchesOf, flatOf, firstOf } = require('./native');
 const { ENGINES, SHORT, asked, latinOf, lengthOf, wordsOf } = require('./options');
@@ -109,9 +110,11 @@ class Automaton {
       return spliced(text, this.matches(text, options && { words: options.words, kind: options.kind }), replacements);
     }
     const by = replacementsOf(this.#patterns, this.#isText, replacements);
-    if (lengthOf(text) > SHORT) return native.replace(this.#searcher, text, how | latinOf(text), by.native);
-    const matches = matchesOf(native.all(this.#searcher, text, how));
-    return spliced(text, matches, (match) => by.list[match.pattern]);
+    const found = lengthOf(text) > SHORT
+      ? native.replace(this.#searcher, text, how | latinOf(text), by.native)
+      : native.all(this.#searcher, text, how);
+    if (typeof found === 'string' || Buffer.isBuffer(found)) return found;
+    return spliced(text, matchesOf(found), (match) => by.list[match.pattern]);
   }
 
   async replaceAsync(text, replacements, options) {

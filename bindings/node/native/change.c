@@ -114,7 +114,7 @@ uint32_t how_to_replace(const Searcher *of, const Replacements *by, uint32_t how
 }
 
 static dado_status put(Changed *it, const char16_t *from, size_t len) {
-    size_t room = it->room < 256 ? 256 : it->room;
+    size_t room = it->room;
     if (len > SIZE_MAX / 8 - it->len) return DADO_TOO_MANY_BYTES;
     while (room < it->len + len) room *= 2;
     if (room != it->room) {
@@ -136,6 +136,9 @@ static dado_status splice(const Searcher *of, const Text *text, uint32_t how, co
     int over = 0;
     dado_status status = by->count == dado_pattern_count(of->handle) ? DADO_OK : DADO_WRONG_COUNT;
     begin(&going, how, text);
+    out->room = text->len + text->len / 8 + 64; /* enough, as a rule */
+    out->units = malloc(out->room * sizeof *out->units);
+    if (out->units == NULL) return DADO_NO_MEMORY;
     while (status == DADO_OK && !over) {
         size_t count = 0;
         status = some(of, text, &going, found, &count, &over);
@@ -150,7 +153,7 @@ static dado_status splice(const Searcher *of, const Text *text, uint32_t how, co
 }
 
 dado_status change(const Searcher *of, Text *text, uint32_t how, const Replacements *by, Changed *out) {
-    dado_status status = text_code(of, text, 0, NULL);
+    dado_status status = text->coded != NULL ? DADO_OK : text_code(of, text, 0, NULL);
     uint32_t kind = (how & KIND) >> KIND_SHIFT;
     memset(out, 0, sizeof *out);
     if (status != DADO_OK) return status;
@@ -198,23 +201,44 @@ void changed_let_go(Changed *it) {
     it->units = NULL;
 }
 
-/* replace(searcher, text, how, replacements) */
+/* The number of matches of a string, which are in the instance's room, if there are so few: JavaScript puts the text together of slices
+ * then, which copies nothing. NULL where there are more, or with an exception. */
+static napi_value few_matches(napi_env env, const Searcher *of, Text *text, uint32_t how, dado_status *status) {
+    Going going;
+    Flat flat;
+    dado_match found[ROOM];
+    size_t count = 0;
+    int over = 0;
+    Instance *instance = instance_of(env);
+    *status = text_code(of, text, 0, NULL);
+    if (*status != DADO_OK) return NULL;
+    begin(&going, how, text);
+    *status = some(of, text, &going, found, &count, &over);
+    if (*status != DADO_OK || !over) return NULL;
+    flat_begin(&flat, instance->out, 0);
+    *status = flat_add(&flat, found, count);
+    return *status == DADO_OK ? flat_value(env, instance, &flat) : NULL;
+}
+
+/* replace(searcher, text, how, replacements): the text, or the number of its matches. */
 napi_value call_replace(napi_env env, napi_callback_info info) {
-    napi_value given[4];
+    napi_value given[4], value = NULL;
     Text text;
-    Changed changed;
+    Changed changed = {DADO_NO_TEXT, NULL, 0, 0, 0};
     Searcher *of;
     Replacements *by;
     uint32_t how;
-    dado_status status;
+    dado_status status = DADO_OK;
     if (arguments_of(env, info, given, 4, NULL) < 0) return NULL;
     of = object_of(env, given[0], SEARCHER);
     by = of == NULL ? NULL : object_of(env, given[3], REPLACEMENTS);
     if (by == NULL) return NULL;
     how = how_to_replace(of, by, how_of(env, given[2]));
     if (text_read(env, of, given[1], how, NULL, &text) < 0) return NULL;
-    status = change(of, &text, how, by, &changed);
+    if (text.form != FORM_BYTES) value = few_matches(env, of, &text, how, &status);
+    if (value == NULL && status == DADO_OK) status = change(of, &text, how, by, &changed);
     text_let_go(&text);
+    if (value != NULL) return value;
     if (status == DADO_OK) return changed_value(env, text.form, &changed);
     changed_let_go(&changed);
     return refuse(env, status);

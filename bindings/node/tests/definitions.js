@@ -34,30 +34,29 @@ const before = {
   'leftmost-longest': (a, b) => a.start - b.start || b.end - a.end || a.pattern - b.pattern,
 };
 
-/** The best occurrence that begins at a place or after it; with `anchored` at it. */
-function best(all, kind, from, anchored) {
-  let found = null;
-  for (const it of all) {
-    const counts = anchored ? it.start === from : it.start >= from;
-    if (counts && (found === null || before[kind](it, found) < 0)) found = it;
-  }
-  return found;
+/** The best occurrence that begins at a place or after it; with `anchored` at it. They are in the order of the kind. */
+function first(ordered, from, anchored) {
+  return ordered.find((it) => (anchored ? it.start === from : it.start >= from)) ?? null;
 }
+
+const best = (all, kind, from, anchored) => first([...all].sort(before[kind]), from, anchored);
 
 /** The matches of a walk. An empty one where the last one ended is left out, and the search goes on one further. */
 function walk(all, kind, { start = 0, anchored = false } = {}) {
   const matches = [];
+  let ordered = [...all].sort(before[kind]);
   let from = start;
   let last = -1;
   for (;;) {
-    let it = best(all, kind, from, anchored);
+    let it = first(ordered, from, anchored);
     if (it !== null && it.start === it.end && it.end === last) {
       from += 1;
-      it = best(all, kind, from, anchored);
+      it = first(ordered, from, anchored);
     }
     if (it === null) return matches;
     matches.push(it);
     from = last = it.end;
+    if (!anchored) ordered = ordered.slice(ordered.indexOf(it)); // those in front of it begin before it, so no later search takes them
   }
 }
 

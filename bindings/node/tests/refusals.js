@@ -31,20 +31,20 @@ async function held() {
   }
 }
 
-/** Calls with no request, one, two and so on, until the call succeeds, and returns how many it takes. */
+/** Calls with memory for no request, for one, two and so on, until the call succeeds, and returns how many it takes. */
 let refused = 0;
 async function each(name, call, wanted) {
-  for (let n = 0; ; n++) {
-    const before = await held();
-    const error = await tried(n, call);
-    if (!(error instanceof Error)) {
-      assert.deepStrictEqual(wanted(error), wanted(call()), name);
-      return n;
-    }
-    assert.ok(isMemory(error), `${name}, ${n}: ${error.stack}`);
-    assert.ok(await held() <= before, `${name}, ${n}: something is held`);
-    refused++;
+  const before = await held();
+  let n = 0;
+  let result = await tried(n, call);
+  for (; result instanceof Error; n++, refused++) {
+    assert.ok(isMemory(result), `${name}, ${n}: ${result.stack}`);
+    result = await tried(n + 1, call);
   }
+  assert.deepStrictEqual(wanted(result), wanted(call()), name);
+  result = undefined;
+  assert.ok(await held() <= before, `${name}: something is held`);
+  return n;
 }
 
 /** The result of a call, or its error, that has memory for so many requests. */

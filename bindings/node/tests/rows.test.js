@@ -164,6 +164,11 @@ test('more matches than there is room for', () => {
     assert.deepStrictEqual(triples(ac.matches(text)), wanted);
     assert.deepStrictEqual(triples(new Automaton([bytes('a')]).matches(bytes(text))), wanted);
     assert.strictEqual(ac.replace(text, 'xy'), 'xyb'.repeat(count));
+    for (const rest of ['c', '\u00fc', '\u4e00']) {
+      const more = rest.repeat(2000);
+      assert.strictEqual(ac.replace(text + more, 'xy'), 'xyb'.repeat(count) + more);
+      assert.strictEqual(ac.replace(text + more, '\u0416'), '\u0416b'.repeat(count) + more);
+    }
     assert.strictEqual(ac.mask(text), '*b'.repeat(count));
   }
 });

@@ -112,6 +112,19 @@ test('long strings in each form', () => {
   }
 });
 
+test('many matches in long strings', () => {
+  for (const more of [[], ['\u00ff'], ['\u0416'], FAR]) {
+    for (const beside of ['', '\u00e9', '\u3000']) {
+      const ac = new Automaton(['fox', ...more]);
+      for (const by of ['sloth', '\u00fc', '\u0417']) {
+        assert.strictEqual(ac.replace(`fox ${beside} `.repeat(1000), by), `${by} ${beside} `.repeat(1000));
+      }
+      assert.strictEqual(ac.mask(`fox ${beside} `.repeat(1000)), `*** ${beside} `.repeat(1000));
+      assert.strictEqual(ac.findAll(`fox ${beside} `.repeat(1000)).length, 1000);
+    }
+  }
+});
+
 test('strings about as long as what is read at once', () => {
   for (const length of [1022, 1023, 1024, 1025, 1026, 4095, 4096, 4097]) {
     for (const fill of ['x', '\u00fc', '\u3000']) {

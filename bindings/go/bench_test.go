@@ -1,3 +1,5 @@
+//go:build unix
+
 package dadofennel_test
 
 import (
@@ -8,6 +10,7 @@ import (
 	"sort"
 	"strings"
 	"sync"
+	"syscall"
 	"testing"
 
 	. "dadofennel"
@@ -19,6 +22,8 @@ import (
 const (
 	benchShort = 80
 	benchLong  = 256 << 10
+
+	benchLetters = "eeeeeetttttaaaaooooiiiinnnnsssshhhrrrdddllluuccmmwwffggyyppbbvkjxqz"
 )
 
 type benchData struct {
@@ -39,9 +44,9 @@ func (data *benchData) make() {
 	rng := rand.New(rand.NewSource(7))
 	known := map[string]bool{}
 	for len(data.words) < 20000 {
-		letters := make([]byte, 3+rng.Intn(8))
+		letters := make([]byte, 4+rng.Intn(8))
 		for i := range letters {
-			letters[i] = "etaoinshrdlucmfwypvbgkjqxz"[int(26*rng.Float64()*rng.Float64())]
+			letters[i] = benchLetters[rng.Intn(len(benchLetters))]
 		}
 		if w := string(letters); !known[w] {
 			known[w] = true
@@ -66,27 +71,39 @@ var benchSets = []struct {
 // slow is from how many patterns package regexp takes too long for a long text.
 const slow = 1000
 
-// each runs a benchmark for each set and length, and gives the texts one after another.
-func each(b *testing.B, most int, run func(b *testing.B, patterns []string, text func(i int) string)) {
+// each runs a benchmark for each set and length, over one text after another; with more patterns than most over short ones alone. What is
+// made of the patterns searches a text. Beside the time it reports that of the processor, which other work on the machine changes less.
+func each(b *testing.B, most int, made func(patterns []string) func(text string)) {
 	data := bench()
 	for _, set := range benchSets {
 		patterns := append([]string(nil), data.words[set.from:set.from+set.count]...)
 		sort.Slice(patterns, func(i, j int) bool { return len(patterns[i]) > len(patterns[j]) })
+		search := made(patterns)
 		for _, size := range []int{benchShort, benchLong} {
 			if size == benchLong && set.count > most {
 				continue
 			}
-			text := func(i int) string {
-				at := i * 7919 % (len(data.text) - size + 1)
-				return data.text[at : at+size]
-			}
 			b.Run(fmt.Sprintf("%s/%d", strings.ReplaceAll(set.name, " ", "_"), size), func(b *testing.B) {
 				b.SetBytes(int64(size))
 				b.ReportAllocs()
-				run(b, patterns, text)
+				begun := processorTime()
+				for i := 0; i < b.N; i++ {
+					at := i * 7919 % (len(data.text) - size + 1)
+					search(data.text[at : at+size])
+				}
+				b.ReportMetric(float64(processorTime()-begun)/float64(b.N), "cpu-ns/op")
 			})
 		}
 	}
+}
+
+// processorTime is how many nanoseconds the process has had of processors.
+func processorTime() int64 {
+	var usage syscall.Rusage
+	if err := syscall.Getrusage(syscall.RUSAGE_SELF, &usage); err != nil {
+		panic(err)
+	}
+	return usage.Utime.Nano() + usage.Stime.Nano()
 }
 
 func alternation(patterns []string) *regexp.Regexp {
@@ -106,68 +123,52 @@ func starred(patterns []string) []string {
 }
 
 func BenchmarkFindAll(b *testing.B) {
-	each(b, math.MaxInt, func(b *testing.B, patterns []string, text func(int) string) {
+	each(b, math.MaxInt, func(patterns []string) func(string) {
 		ac := built(b, patterns, WithKind(LeftmostFirst))
-		b.ResetTimer()
-		for i := 0; i < b.N; i++ {
-			if _, err := ac.FindAllString(text(i)); err != nil {
-				b.Fatal(err)
-			}
-		}
+		return func(text string) { mustNot(ac.FindAllString(text)) }
 	})
 }
 
 func BenchmarkFindAllByRegexp(b *testing.B) {
-	each(b, slow, func(b *testing.B, patterns []string, text func(int) string) {
+	each(b, slow, func(patterns []string) func(string) {
 		pattern := alternation(patterns)
-		b.ResetTimer()
-		for i := 0; i < b.N; i++ {
-			pattern.FindAllStringIndex(text(i), -1)
-		}
+		return func(text string) { pattern.FindAllStringIndex(text, -1) }
 	})
 }
 
 func BenchmarkIsMatch(b *testing.B) {
-	each(b, math.MaxInt, func(b *testing.B, patterns []string, text func(int) string) {
+	each(b, math.MaxInt, func(patterns []string) func(string) {
 		ac := built(b, patterns, WithKind(LeftmostFirst))
-		b.ResetTimer()
-		for i := 0; i < b.N; i++ {
-			ac.IsMatchString(text(i))
-		}
+		return func(text string) { ac.IsMatchString(text) }
 	})
 }
 
 func BenchmarkIsMatchByRegexp(b *testing.B) {
-	each(b, slow, func(b *testing.B, patterns []string, text func(int) string) {
+	each(b, slow, func(patterns []string) func(string) {
 		pattern := alternation(patterns)
-		b.ResetTimer()
-		for i := 0; i < b.N; i++ {
-			pattern.MatchString(text(i))
-		}
+		return func(text string) { pattern.MatchString(text) }
 	})
 }
 
 func BenchmarkReplace(b *testing.B) {
-	each(b, math.MaxInt, func(b *testing.B, patterns []string, text func(int) string) {
-		ac := built(b, patterns, WithKind(LeftmostFirst))
-		list := starred(patterns)
-		b.ResetTimer()
-		for i := 0; i < b.N; i++ {
-			if _, err := ac.ReplaceAllString(text(i), list); err != nil {
-				b.Fatal(err)
-			}
-		}
+	each(b, math.MaxInt, func(patterns []string) func(string) {
+		ac, list := built(b, patterns, WithKind(LeftmostFirst)), starred(patterns)
+		return func(text string) { mustNot(ac.ReplaceAllString(text, list)) }
 	})
 }
 
 func BenchmarkReplaceByStrings(b *testing.B) {
-	each(b, math.MaxInt, func(b *testing.B, patterns []string, text func(int) string) {
+	each(b, math.MaxInt, func(patterns []string) func(string) {
 		replacer := stringsReplacer(patterns)
-		b.ResetTimer()
-		for i := 0; i < b.N; i++ {
-			replacer.Replace(text(i))
-		}
+		return func(text string) { replacer.Replace(text) }
 	})
+}
+
+// mustNot panics where a call failed.
+func mustNot[T any](_ T, err error) {
+	if err != nil {
+		panic(err)
+	}
 }
 
 func stringsReplacer(patterns []string) *strings.Replacer {

@@ -157,17 +157,18 @@ func same(all []Match) []Match {
 	return all
 }
 
-func cases() int {
-	if count, err := strconv.Atoi(os.Getenv("CASES")); err == nil {
-		return count
+// asked is a number in the environment, or the usual one.
+func asked(name string, usual int) int {
+	if number, err := strconv.Atoi(os.Getenv(name)); err == nil {
+		return number
 	}
-	return 2000
+	return usual
 }
 
-// TestCases compares all calls with the definitions in as many random cases as CASES says.
+// TestCases compares all calls with the definitions in random cases: as many as CASES says, of the seed that SEED says.
 func TestCases(t *testing.T) {
-	rng := rand.New(rand.NewSource(1))
-	for i := 0; i < cases(); i++ {
+	rng := rand.New(rand.NewSource(int64(asked("SEED", 1))))
+	for i := asked("CASES", 2000); i > 0; i-- {
 		c := newCase(t, rng)
 		c.finds()
 		c.walks()

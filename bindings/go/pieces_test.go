@@ -11,6 +11,15 @@ import (
 	. "dadofennel"
 )
 
+// What all calls make of a text under a kind.
+type made struct {
+	ac, standard               *Automaton // of the kind, and of the standard one
+	kind                       Kind
+	instead                    [][]byte
+	matches, words             []Match
+	replaced, wordwise, masked string
+}
+
 // A text in three pieces, cut at each two places, under each kind.
 func TestCuts(t *testing.T) {
 	patterns := []string{"app", "append", "appendage", "end", "d to"}
@@ -21,48 +30,43 @@ func TestCuts(t *testing.T) {
 		known.patterns = append(known.patterns, []byte(pattern))
 		instead = append(instead, []byte("<"+strings.ToUpper(pattern)+">"))
 	}
-	whole := Span{End: len(text)}
+	b, whole := []byte(text), Span{End: len(text)}
 	for _, kind := range []Kind{Standard, LeftmostFirst, LeftmostLongest} {
-		ac := built(t, patterns, WithKind(kind))
-		wanted := known.walk([]byte(text), whole, kind)
-		replaced := string(spliced([]byte(text), wanted, instead))
-		words := known.words([]byte(text), kind)
-		wordwise := string(spliced([]byte(text), words, instead))
-		masked := string(covered([]byte(text), known.occurrences([]byte(text), whole), '*'))
-		standard := built(t, patterns)
-		for one := 0; one <= len(text); one++ {
+		all := made{ac: built(t, patterns, WithKind(kind)), standard: built(t, patterns), kind: kind, instead: instead}
+		all.matches, all.words = known.walk(b, whole, kind), known.words(b, kind)
+		all.replaced = string(spliced(b, all.matches, instead))
+		all.wordwise = string(spliced(b, all.words, instead))
+		all.masked = string(covered(b, known.occurrences(b, whole), '*'))
+		for one := 0; one <= len(text) && !t.Failed(); one++ {
 			for two := one; two <= len(text); two++ {
-				pieces := []string{text[:one], text[one:two], text[two:]}
-				stream, err := ac.Stream()
-				equal(t, "Stream", nil, err)
-				equal(t, "Stream", wanted, pushed(t, stream, pieces))
-				stream, err = standard.WordStream(kind)
-				equal(t, "WordStream", nil, err)
-				equal(t, "WordStream", words, pushed(t, stream, pieces))
-				var out bytes.Buffer
-				replacer, err := ac.NewReplacer(&out, instead)
-				equal(t, "NewReplacer", nil, err)
-				equal(t, "Replacer", replaced, wrote(t, replacer, pieces, &out))
-				out.Reset()
-				replacer, err = ac.NewReplacerFunc(&out, func(m Match, match []byte) []byte {
-					return []byte("<" + strings.ToUpper(string(match)) + ">")
-				})
-				equal(t, "NewReplacerFunc", nil, err)
-				equal(t, "Replacer", replaced, wrote(t, replacer, pieces, &out))
-				out.Reset()
-				replacer, err = standard.NewWordReplacer(&out, kind, instead)
-				equal(t, "NewWordReplacer", nil, err)
-				equal(t, "NewWordReplacer", wordwise, wrote(t, replacer, pieces, &out))
-				out.Reset()
-				masker, err := standard.NewMasker(&out, '*')
-				equal(t, "NewMasker", nil, err)
-				equal(t, "Masker", masked, wrote(t, masker, pieces, &out))
-			}
-			if t.Failed() {
-				t.FailNow()
+				all.cut(t, []string{text[:one], text[one:two], text[two:]})
 			}
 		}
 	}
+}
+
+func (m made) cut(t *testing.T, pieces []string) {
+	stream, err := m.ac.Stream()
+	equal(t, "Stream", nil, err)
+	equal(t, "Stream", m.matches, pushed(t, stream, pieces))
+	stream, err = m.standard.WordStream(m.kind)
+	equal(t, "WordStream", nil, err)
+	equal(t, "WordStream", m.words, pushed(t, stream, pieces))
+	var out bytes.Buffer
+	replacer, err := m.ac.NewReplacer(&out, m.instead)
+	equal(t, "NewReplacer", nil, err)
+	equal(t, "Replacer", m.replaced, wrote(t, replacer, pieces, &out))
+	replacer, err = m.ac.NewReplacerFunc(&out, func(_ Match, match []byte) []byte {
+		return []byte("<" + strings.ToUpper(string(match)) + ">")
+	})
+	equal(t, "NewReplacerFunc", nil, err)
+	equal(t, "Replacer", m.replaced, wrote(t, replacer, pieces, &out))
+	replacer, err = m.standard.NewWordReplacer(&out, m.kind, m.instead)
+	equal(t, "NewWordReplacer", nil, err)
+	equal(t, "NewWordReplacer", m.wordwise, wrote(t, replacer, pieces, &out))
+	masker, err := m.standard.NewMasker(&out, '*')
+	equal(t, "NewMasker", nil, err)
+	equal(t, "Masker", m.masked, wrote(t, masker, pieces, &out))
 }
 
 func pushed(t *testing.T, stream *Stream, pieces []string) []Match {
@@ -87,7 +91,9 @@ type writer interface {
 	io.StringWriter
 }
 
+// wrote writes the pieces, closes, and takes what came out.
 func wrote(t *testing.T, to writer, pieces []string, out *bytes.Buffer) string {
+	out.Reset()
 	for _, piece := range pieces {
 		n, err := to.WriteString(piece)
 		equal(t, "WriteString", len(piece), n)
@@ -115,13 +121,11 @@ func TestLongPieces(t *testing.T) {
 	if wrote(t, replacer, []string{short}, &out) != strings.Repeat("a "+long+". ", 300) {
 		t.Error("long replacements")
 	}
-	out.Reset()
 	replacer, err = ac.NewReplacerFunc(&out, func(m Match, match []byte) []byte { return []byte{match[0], '-'} })
 	equal(t, "NewReplacerFunc", nil, err)
 	if wrote(t, replacer, []string{text}, &out) != strings.Repeat("t- f-. ", count) {
 		t.Error("a long text by a function")
 	}
-	out.Reset()
 	masker, err := ac.NewMasker(&out, '*')
 	equal(t, "NewMasker", nil, err)
 	if wrote(t, masker, []string{text}, &out) != strings.Repeat("*** ***. ", count) {

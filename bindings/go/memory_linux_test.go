@@ -12,6 +12,7 @@ import (
 	"strings"
 	"syscall"
 	"testing"
+	"time"
 
 	. "dadofennel"
 )
@@ -33,40 +34,66 @@ func inStatus(t *testing.T, name string) int {
 	return 0
 }
 
-// What is dropped or closed doesn't stay in memory: forty automata of some megabytes, and what was made of them.
+// What is closed, dropped, or closed while a search runs, doesn't stay in memory: forty automata of some megabytes, and what was made of
+// them.
 func TestMemoryIsFreed(t *testing.T) {
 	var words []string
 	for i := 0; i < 3000; i++ {
 		words = append(words, fmt.Sprintf("%x", i*2654435761))
 	}
 	taken := 0
-	make := func(closes bool) {
+	build := func() *Automaton {
 		ac := built(t, words, WithEngine(DFA))
 		taken = ac.Memory()
-		stream, _ := ac.Stream()
-		replacer, _ := ac.NewReplacerStrings(&strings.Builder{}, words)
-		masker, _ := ac.NewMasker(&strings.Builder{}, '*')
-		if closes {
-			ac.Close()
-			stream.Close()
-			replacer.Close()
-			masker.Close()
-		}
+		return ac
 	}
-	for _, closes := range []bool{true, false} {
-		make(closes)
+	text := bytes.Repeat([]byte("0f1e2d"), 1<<16)
+	ways := map[string]func(){
+		"closed": func() {
+			ac := build()
+			for _, made := range pieces(ac, words) {
+				made.Close()
+			}
+			ac.Close()
+		},
+		"dropped": func() {
+			pieces(build(), words)
+			// the finalizers run after a collection
+			runtime.GC()
+		},
+		"closed while a search runs": func() {
+			ac, begun, ended := build(), make(chan bool), make(chan bool)
+			go func() {
+				close(begun)
+				for err := error(nil); err == nil; {
+					err = last(ac.Matches(text))
+				}
+				close(ended)
+			}()
+			<-begun
+			time.Sleep(time.Millisecond)
+			ac.Close()
+			<-ended
+		},
+	}
+	for name, way := range ways {
+		way()
 		before := inStatus(t, "VmRSS")
 		for i := 0; i < 40; i++ {
-			make(closes)
-			if !closes {
-				// the finalizers run after a collection
-				runtime.GC()
-			}
+			way()
 		}
 		if more := inStatus(t, "VmRSS") - before; taken < 1<<20 || more > 10*taken>>10 {
-			t.Errorf("closed %v: %d kB more, of forty automata of %d", closes, more, taken>>10)
+			t.Errorf("%s: %d kB more, of forty automata of %d", name, more, taken>>10)
 		}
 	}
+}
+
+// pieces makes one of each for texts in pieces.
+func pieces(ac *Automaton, words []string) []io.Closer {
+	stream, _ := ac.Stream()
+	replacer, _ := ac.NewReplacerStrings(io.Discard, words)
+	masker, _ := ac.NewMasker(io.Discard, '*')
+	return []io.Closer{stream, replacer, masker, ac.FindReader(strings.NewReader(""))}
 }
 
 const limited = "DADOFENNEL_TEST_LIMITED"

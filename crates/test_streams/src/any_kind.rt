@@ -473,6 +473,34 @@ impl Written {
         Ok(())
     }
 
+    /// Asserts the text that a replacement of pieces writes, of so many bytes each.
+    fn writes_out<T: Abort, A: Search>(
+        &self,
+        on: &Trial<'_, T, A>,
+        most: usize,
+    ) -> Result<(), Fail> {
+        let tally = Tally::new();
+        let mut replacer = StreamReplacer::any_kind(on.automaton, on.alloc)?;
+        let mut writer = Watched::new(Sink::new(on.alloc, AMPLE, &tally)?);
+        for piece in self.text.chunks(most.max(1)) {
+            if replacer.is_finished() {
+                return Err(Fail::from("the replacement is finished"));
+            }
+            replacer.push(piece)?;
+            write_out(&mut replacer, self.replacements, &mut writer)?;
+        }
+        replacer.finish();
+        write_out(&mut replacer, self.replacements, &mut writer)?;
+        let taken = writer.into_inner().taken;
+        same(
+            on.rt,
+            taken.as_slice(),
+            self.written,
+            "all of it is written",
+        );
+        Ok(())
+    }
+
     /// Asserts that a read which fails after a front of the text leaves written what was due by then.
     fn stops<T: Abort, A: Search>(&self, on: &Trial<'_, T, A>, way: Way) -> Result<(), Fail> {
         let (rt, list) = (on.rt, self.replacements);
@@ -546,6 +574,19 @@ fn take_one<A: Search>(
     }
 }
 
+/// Writes all that a replacement has to hand out.
+fn write_out<A: Search, W: Write>(
+    replacer: &mut StreamReplacer<A>,
+    replacements: &[&[u8]],
+    writer: &mut Watched<W>,
+) -> Result<(), Fail> {
+    if replacer.patterns_len() != replacements.len() {
+        return Err(Fail::from("a replacement for each pattern"));
+    }
+    replacer.write_to(replacements, writer)?;
+    Ok(())
+}
+
 /// Appends all that a replacement has to hand out, at most this many slices.
 fn take_out<A: Search>(
     replacer: &mut StreamReplacer<A>,
@@ -576,6 +617,7 @@ impl<T: Abort> Case<T> for Written {
         }
         for most in [1, 2, 3, 7, 100] {
             self.hands_out(on, most)?;
+            self.writes_out(on, most)?;
         }
         Ok(())
     }

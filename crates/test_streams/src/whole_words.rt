@@ -141,6 +141,32 @@ impl Words<'_> {
         Ok(())
     }
 
+    /// By pieces of so many bytes that are pushed, as in [`Words::pushed`].
+    fn pushed_masked<T: Abort, A: Search>(
+        &self,
+        on: &Trial<'_, T, A>,
+        most: usize,
+    ) -> Result<(), Fail> {
+        let mut stream = on.automaton.try_stream_word_mask(on.alloc, MASK)?;
+        let mut text = Vec::new(on.alloc);
+        for piece in self.text.chunks(most.max(1)) {
+            let mut rest = piece;
+            for _ in 0..2 {
+                if stream.is_finished() {
+                    return Err(Fail::from("the masking is finished"));
+                }
+                let n = stream.push(rest)?;
+                rest = rest.get(n..).ok_or("the rest of a piece")?;
+                text.extend_from_slice(stream.ready())?;
+            }
+            equal(on.rt, &rest.len(), &0, self.shows);
+        }
+        stream.finish();
+        text.extend_from_slice(stream.ready())?;
+        same(on.rt, &text, self.masks, self.shows);
+        Ok(())
+    }
+
     fn masked_in_memory<T: Abort, A: Search>(&self, on: &Trial<'_, T, A>) -> Result<(), Fail> {
         let mut text = self.text.to_vec(on.alloc)?;
         on.automaton
@@ -166,6 +192,7 @@ impl<T: Abort> Case<T> for Words<'_> {
             self.pushed(on, most)?;
             self.pushed_listed(on, most)?;
             self.masked(on, most)?;
+            self.pushed_masked(on, most)?;
         }
         Ok(())
     }
@@ -305,6 +332,7 @@ impl<T: Abort> Case<T> for Long {
             words.pushed(on, most)?;
             words.pushed_listed(on, most)?;
             words.masked(on, most)?;
+            words.pushed_masked(on, most)?;
         }
         Ok(())
     }

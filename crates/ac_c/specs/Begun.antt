@@ -26,9 +26,9 @@ IsBeginRefused kinds ac status =
     ⊎ (CanBegin kinds ac × (status ≡ no_memory))
 
 -- what is begun, or why nothing is
-abbrev pub IsBegun : {X : Type 0} → StreamKinds → AhoCorasick → X → Result X ℕ → Type 0
-IsBegun kinds ac begun (Ok x) = CanBegin kinds ac × (x ≡ begun)
-IsBegun kinds ac begun (Err status) = IsBeginRefused kinds ac status
+abbrev pub IsBegunAs : {X : Type 0} → StreamKinds → AhoCorasick → X → Result X ℕ → Type 0
+IsBegunAs kinds ac begun (Ok x) = CanBegin kinds ac × (x ≡ begun)
+IsBegunAs kinds ac begun (Err status) = IsBeginRefused kinds ac status
 
 -- the handle holds what is begun; or the status says why nothing is, and the handle is unchanged
 abbrev pub HoldsBegun : {X : Type 0} → StreamKinds → AhoCorasick → X → Option X → Option X → ℕ → Type 0

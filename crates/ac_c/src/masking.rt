@@ -7,7 +7,7 @@ ghost use Rattle.std.specs.Prelude.{◌≡◌, false, IfErr, IfOk, OnOk};
 ghost use Rattle.ac_automaton.specs.Stream.Mask.{MaskCounts, fresh_mask};
 ghost use Rattle.ac_automaton.specs.declared.stream.StreamKinds.TheVariants.{OnlyStandard};
 ghost use Rattle.aho_corasick.specs.AhoCorasick.{as_built};
-ghost use Rattle.ac_c.specs.Begun.{CanBegin, IsBeginRefused, IsBegun};
+ghost use Rattle.ac_c.specs.Begun.{CanBegin, IsBeginRefused, IsBegunAs};
 ghost use Rattle.ac_c.specs.Masking.{AnswersMasked, AnswersMaskedWords, IsClosedMask, IsPushedTo, TakesMasked, masking_by, mask_progress, ready_in, ready_len, word_masking_by};
 ghost use Rattle.ac_c.specs.Status.{no_memory};
 
@@ -52,7 +52,7 @@ pub enum Masking {
 
 /// A masking of pieces by an automaton, which it shares.
 fn masking_of(ac: &AhoCorasick, byte: u8, alloc: Global) -> Result<StreamMask<AhoCorasick>, u32>
-    ensures { IsBegun OnlyStandard ac.now (fresh_mask (as_built ac.now) byte) result }
+    ensures { IsBegunAs OnlyStandard ac.now (fresh_mask (as_built ac.now) byte) result }
 {
     let shared = shared(ac, StreamKinds::OnlyStandard, alloc)?;
     match StreamMask::new(shared, byte, alloc) {
@@ -67,7 +67,7 @@ fn word_masking_of(
     byte: u8,
     alloc: Global,
 ) -> Result<StreamWordMask<AhoCorasick>, u32>
-    ensures { IsBegun OnlyStandard ac.now (fresh_mask (as_built ac.now) byte) result }
+    ensures { IsBegunAs OnlyStandard ac.now (fresh_mask (as_built ac.now) byte) result }
 {
     let shared = shared(ac, StreamKinds::OnlyStandard, alloc)?;
     match StreamWordMask::new(shared, byte, alloc) {

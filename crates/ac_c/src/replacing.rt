@@ -7,7 +7,7 @@ ghost use Rattle.ac_automaton.specs.Stream.{StreamCounts};
 ghost use Rattle.ac_automaton.specs.Stream.Replacer.{fresh_replacer};
 ghost use Rattle.ac_automaton.specs.declared.stream.StreamKinds.TheVariants.{AnyKind};
 ghost use Rattle.aho_corasick.specs.AhoCorasick.{as_built};
-ghost use Rattle.ac_c.specs.Begun.{CanBegin, IsBeginRefused, IsBegun};
+ghost use Rattle.ac_c.specs.Begun.{CanBegin, IsBeginRefused, IsBegunAs};
 ghost use Rattle.ac_c.specs.Replacing.{IsGivenText, IsPushedOn, ended_by, replacing_by};
 
 use crate::replace::Length;
@@ -26,7 +26,7 @@ pub struct Replacing {
 
 /// A replacement of pieces by an automaton, which it shares.
 fn replacer_by(ac: &AhoCorasick, alloc: Global) -> Result<StreamReplacer<AhoCorasick>, u32>
-    ensures { IsBegun AnyKind ac.now (fresh_replacer (as_built ac.now)) result }
+    ensures { IsBegunAs AnyKind ac.now (fresh_replacer (as_built ac.now)) result }
 {
     let shared = shared(ac, StreamKinds::AnyKind, alloc)?;
     match StreamReplacer::any_kind(shared, alloc) {

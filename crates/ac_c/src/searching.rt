@@ -9,7 +9,7 @@ ghost use Rattle.ac_automaton.specs.Stream.{IsOnCourse, StreamCounts, fresh_prog
 ghost use Rattle.ac_automaton.specs.Stream.WholeWords.{asked_for};
 ghost use Rattle.ac_automaton.specs.declared.stream.StreamKinds.TheVariants.{AnyKind, OnlyStandard};
 ghost use Rattle.aho_corasick.specs.AhoCorasick.{MeansSame, as_built};
-ghost use Rattle.ac_c.specs.Begun.{CanBegin, IsBeginError, IsBeginRefused, IsBegun};
+ghost use Rattle.ac_c.specs.Begun.{CanBegin, IsBeginError, IsBeginRefused, IsBegunAs};
 ghost use Rattle.ac_c.specs.Searching.{AreNext, GivesNext, IsGiven, IsOnItsCourse, IsPushed, TakesPushed, all_words_begun_by, begun_by, seen_by, finished_by, finished_with, held_by, is_finished, view_in, view_of, words_begun_by};
 ghost use Rattle.ac_c.specs.Status.{no_memory};
 
@@ -142,7 +142,7 @@ pub(crate) fn shared(
 
 /// A search of pieces by an automaton, which it shares.
 fn search_by(ac: &AhoCorasick, alloc: Global) -> Result<StreamSearch<AhoCorasick>, u32>
-    ensures { IsBegun AnyKind ac.now (fresh_progress (as_built ac.now)) result }
+    ensures { IsBegunAs AnyKind ac.now (fresh_progress (as_built ac.now)) result }
 {
     let shared = shared(ac, StreamKinds::AnyKind, alloc)?;
     match StreamSearch::any_kind(shared, alloc) {
@@ -157,7 +157,7 @@ fn words_by(
     kind: MatchKind,
     alloc: Global,
 ) -> Result<WordSearch<AhoCorasick>, u32>
-    ensures { IsBegun OnlyStandard ac.now (fresh_progress (asked_for kind (as_built ac.now))) result }
+    ensures { IsBegunAs OnlyStandard ac.now (fresh_progress (asked_for kind (as_built ac.now))) result }
 {
     let shared = shared(ac, StreamKinds::OnlyStandard, alloc)?;
     match WordSearch::new(shared, kind, alloc) {
@@ -168,7 +168,7 @@ fn words_by(
 
 /// A search of pieces for all whole words.
 fn all_words_by(ac: &AhoCorasick, alloc: Global) -> Result<OverlappingWordSearch<AhoCorasick>, u32>
-    ensures { IsBegun OnlyStandard ac.now (fresh_progress (as_built ac.now)) result }
+    ensures { IsBegunAs OnlyStandard ac.now (fresh_progress (as_built ac.now)) result }
 {
     let shared = shared(ac, StreamKinds::OnlyStandard, alloc)?;
     match OverlappingWordSearch::new(shared, alloc) {

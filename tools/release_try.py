@@ -177,7 +177,8 @@ def debian(rows, folder, made_before):
         ran = subprocess.run(["debootstrap", "--variant=minbase", SUITE, folder], stdout=file, stderr=file)
     if ran.returncode:
         with open(log) as file:
-            rows.leave_out(f"a bare Debian (debootstrap: {file.read().strip().splitlines()[-1:]}): a folder with the C library alone is taken")
+            last = file.read().strip().splitlines()[-1:]
+        rows.leave_out(f"a bare Debian (debootstrap: {last}): a folder with the C library alone is taken")
         shutil.rmtree(folder)
         os.mkdir(folder)
     return ran.returncode == 0

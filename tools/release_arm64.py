@@ -5,24 +5,14 @@ import os
 import shutil
 import subprocess
 
-import launch
 import release_files
 import release_node
 from release_machine import AARCH64
 from release_room import Here, equal
-from release_rows import number_of
+from release_rows import number_of, python_works
 
 SUITE = "bookworm"
 PROGRAMS = ["python3", "nodejs"]
-TESTS = f"{launch.REPOSITORY}/bindings/python/tests"
-
-# One run of the package. Of its tests only those run here that start no other program, since nothing emulates that.
-SHOWN = """\
-from dadofennel import Automaton
-ac = Automaton(["fox", "brown", "quick"])
-assert ac.replace("The quick brown fox.", ["sloth", "grey", "slow"]) == "The slow grey sloth."
-assert ac.replace("Der quick brown fox: \\u20ac", ["sloth", "grey", "slow"]) == "Der slow grey sloth: \\u20ac"
-"""
 
 
 def system(folder):
@@ -49,11 +39,9 @@ def emulated(root, program, **variables):
 
 
 def wheel_works(room, root, wheel, folder):
-    """The package's example, and its tests by the names of pyahocorasick."""
+    """An example of the package, and those of its tests that start no other program, since nothing emulates that."""
     unpacked(wheel, folder)
-    python = emulated(root, release_files.only(f"{root}/usr/bin/python3.[0-9]*"), PYTHONPATH=folder) + ["-B", "-W", "error"]
-    room.must(*python, "-c", SHOWN)
-    room.must(*python, f"{TESTS}/test_ahocorasick.py", CASES="100")
+    python_works(room, *emulated(root, release_files.only(f"{root}/usr/bin/python3.[0-9]*"), PYTHONPATH=folder))
 
 
 def node_works(room, root, package, folder, version):

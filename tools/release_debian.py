@@ -214,7 +214,8 @@ def make(built, dist, version, when, wheel=None):
     names = [it for it in PACKAGES if it not in ("acsub", PYTHON)] + ["acsub"] * bool(built.program)
     if wheel:
         python_below(built.usual, wheel)
-        known["python"] = release_files.least_glibc(built.machine, release_files.only(f"{built.usual}/usr/lib/python3/dist-packages/dadofennel/*.so"))
+        module = release_files.only(f"{built.usual}/usr/lib/python3/dist-packages/dadofennel/*.so")
+        known["python"] = release_files.least_glibc(built.machine, module)
         names.append(PYTHON)
     for name in names:
         package(name, built, dist, known, when)

@@ -2,6 +2,7 @@
 import os
 import re
 
+import launch
 from release_room import CRATE, equal
 
 CMAKE = """\
@@ -14,6 +15,13 @@ foreach(example IN ITEMS example pieces)
         target_link_libraries(${{example}}_${{form}} PRIVATE dadofennel::${{form}})
     endforeach()
 endforeach()
+"""
+
+SHOWN = """\
+from dadofennel import Automaton
+ac = Automaton(["fox", "brown", "quick"])
+assert ac.replace("The quick brown fox.", ["sloth", "grey", "slow"]) == "The slow grey sloth."
+assert ac.replace("Der quick brown fox: \u20ac", ["sloth", "grey", "slow"]) == "Der slow grey sloth: \u20ac"
 """
 
 LISTED = "2 4 9\n1 10 15\n0 16 19\nThe slow grey sloth.\n"
@@ -76,6 +84,19 @@ def by_cmake(room, prefix, examples, version, out):
     for form in ("dadofennel", "static"):
         equal(room.must(f"{out}/made/example_{form}"), LISTED)
         equal(room.must(f"{out}/made/pieces_{form}", given=GIVEN), PIECES)
+
+
+def python_works(room, *python):
+    """An example of Python's package, and its tests by the names of pyahocorasick, run by these words."""
+    room.must(*python, "-B", "-W", "error", "-c", SHOWN)
+    room.must(*python, "-B", "-W", "error", f"{launch.REPOSITORY}/bindings/python/tests/test_ahocorasick.py", CASES="100")
+
+
+def wheel_works(room, python, wheel, folder):
+    """A wheel in a new environment of a Python, with no index of packages."""
+    room.must(python, "-m", "venv", folder)
+    room.must(f"{folder}/bin/pip", "install", "--quiet", "--no-index", "--no-deps", "--disable-pip-version-check", wheel)
+    python_works(room, f"{folder}/bin/python")
 
 
 def go_works(room, module, library, folder):

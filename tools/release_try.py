@@ -2,6 +2,7 @@
 alone; and what runs on other things than those on what this machine has of them."""
 import glob
 import hashlib
+import importlib.util
 import os
 import re
 import shutil
@@ -17,7 +18,7 @@ import release_files
 import release_node
 import release_wheel
 from release_room import COMPILERS, TOOLCHAIN, Here, Room, Rows, equal, without_toolchain
-from release_rows import by_cmake, by_pkg_config, examples_work, go_works, program_works
+from release_rows import by_cmake, by_pkg_config, examples_work, go_works, program_works, wheel_works
 
 SUITE = "bookworm"
 NEEDED = ["gcc", "libc6-dev", "pkg-config", "cmake", "make"]
@@ -177,7 +178,8 @@ def debian(rows, folder, made_before):
         ran = subprocess.run(["debootstrap", "--variant=minbase", SUITE, folder], stdout=file, stderr=file)
     if ran.returncode:
         with open(log) as file:
-            rows.leave_out(f"a bare Debian (debootstrap: {file.read().strip().splitlines()[-1:]}): a folder with the C library alone is taken")
+            last = file.read().strip().splitlines()[-1:]
+        rows.leave_out(f"a bare Debian (debootstrap: {last}): a folder with the C library alone is taken")
         shutil.rmtree(folder)
         os.mkdir(folder)
     return ran.returncode == 0
@@ -194,10 +196,10 @@ def version_of(dist):
     return re.search(r"dadofennel-(.*)-linux", os.path.basename(found[0]))[1]
 
 
-def here(rows, dist, pythons):
-    """The wheel by these Pythons, or all that are here; the crates and the package for Node."""
+def here(rows, dist):
+    """The wheel by each Python that is here; the crates and the packages for Node and Go."""
     if glob.glob(f"{dist}/*_{MACHINE}.whl"):
-        rows.group("the wheel", release_wheel.tried, dist, pythons)
+        rows.group("the wheel", release_wheel.tried, dist)
     if glob.glob(f"{dist}/*.crate") and (shutil.which("cargo") or rows.leave_out("the crates (cargo)")):
         rows.group("the crates", release_crates.tried, dist)
     for package in glob.glob(f"{dist}/*.tgz"):
@@ -231,7 +233,7 @@ def tried(dist, made_before):
         if packages and (shutil.which("lintian") or rows.leave_out("lintian")):
             rows.row("lintian", lintian_is_clean, packages)
         (in_debian if debian(rows, folder, made_before) else with_libc_alone)(rows, Room(folder), dist, version)
-        here(rows, dist, None)
+        here(rows, dist)
         on_aarch64(rows, dist, version, outer)
     return rows.ended()
 
@@ -256,5 +258,7 @@ def tried_here(dist):
             rows.row("the examples, by CMake", by_cmake, room, prefix, examples, version, f"{folder}/cmake")
         else:
             rows.leave_out("the examples, by CMake (cmake)")
-        here(rows, dist, [sys.executable])
+        for wheel in glob.glob(f"{dist}/*_{MACHINE}.whl"):
+            if importlib.util.find_spec("ensurepip") or rows.leave_out("the wheel (ensurepip: Debian's python3-venv)"):
+                rows.row("the wheel", wheel_works, room, sys.executable, wheel, f"{folder}/venv")
     return rows.ended()

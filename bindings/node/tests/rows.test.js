@@ -155,7 +155,7 @@ test('what an automaton says of itself', () => {
   assert.ok(Object.isFrozen(ac.patterns));
   assert.deepStrictEqual([ac.kind, ac.fold, ac.engine, ac.startKind], ['leftmost-first', true, 'dfa', 'unanchored']);
   assert.ok(ac.memory > 100);
-  assert.match(version, /^\d+\.\d+\.\d+$/);
+  assert.match(version, /^\d+\.\d+\.\d+(-dev)?$/);
 });
 
 test('the bytes of patterns are copied', () => {

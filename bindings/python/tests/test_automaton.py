@@ -894,7 +894,7 @@ class Threads(unittest.TestCase):
             lambda: raw.mask_words_in_place(long), lambda: raw.stream().push(long), lambda: text.find(wide),
             lambda: Automaton([b"x%d" % it for it in range(30000)]),
         ):
-            self.assertTrue(any(self.others_run(call) for _ in range(20)))
+            self.assertTrue(any(self.others_run(call) for _ in range(400)))  # where other work is, it may take many
         short = b"x" * 4096
         for call in (
             lambda: raw.find(short), lambda: list(raw.finditer(short)), lambda: raw.find_each([short] * 9), lambda: raw.replace(short, b""),

@@ -51,14 +51,15 @@ ALL = {it.name: it for it in (X86_64, AARCH64)}
 
 @contextlib.contextmanager
 def compiling_for(machine):
-    """An environment in which CC is a machine's compiler. What is changed besides is as before at the end, too."""
-    before = dict(os.environ)
+    """An environment in which CC is a machine's compiler."""
+    before = os.environ.get("CC")
     os.environ["CC"] = shlex.join(machine.compiler())
     try:
         yield
     finally:
-        os.environ.clear()
-        os.environ.update(before)
+        os.environ.pop("CC")
+        if before is not None:
+            os.environ["CC"] = before
 
 
 class Built(NamedTuple):

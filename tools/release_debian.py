@@ -10,6 +10,8 @@ import time
 import release_files
 from release_files import write
 
+# The first release: all symbols are there since it. One that comes later names its own.
+FIRST = "1.1.0"
 MAINTAINER = "Dadofennel maintainers <maintainers@users.noreply.dadofennel.example>"
 
 ABOUT = """\
@@ -152,7 +154,7 @@ def shared(folder, name, machine, known):
     said = release_files.said_by(machine.tool("nm"), "-D", "--defined-only", "--with-symbol-versions", path)
     names = sorted(line.split()[2].replace("@@", "@") for line in said.splitlines())
     names = [it if "@" in it else f"{it}@{it}" for it in names]
-    lines = "".join(f" {it} 1.0.0\n" for it in names)
+    lines = "".join(f" {it} {FIRST}\n" for it in names)
     write(f"{folder}/DEBIAN/symbols", f"{soname} {name} #MINVER#\n* Build-Depends-Package: libdadofennel-dev\n{lines}")
     write(f"{folder}/DEBIAN/shlibs", f"libdadofennel {known['major']} {name} (>= {known['soversion']})\n")
     write(f"{folder}/DEBIAN/triggers", "activate-noawait ldconfig\n")

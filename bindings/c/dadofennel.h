@@ -784,9 +784,9 @@ const char *dado_error_text(dado_status status);
 const char *dado_version(void);
 
 /*
- * For which processors the code is compiled that serves: "x86-64-v2", or "x86-64-v3" with vectors of 32 bytes; "generic" where the library
- * has one code for all of its machine. The first call of the library chooses by the processor, for all threads and for good. Both codes
- * have the same proof, and give the same results.
+ * For which processors the code is compiled that serves: "x86-64-v2", without which the loader refuses a program, or "x86-64-v3" with
+ * vectors of 32 bytes; "generic" where the library has one code for all of its machine. The first call of the library chooses by the
+ * processor, for all threads and for good. Both codes have the same proof, and give the same results.
  *
  * For tests alone: with x86-64-v2 in the environment's variable DADOFENNEL_CPU, before the first call, the first serves on every processor.
  */

@@ -934,7 +934,7 @@ class Matches(unittest.TestCase):
             gc.collect()
             self.assertEqual(kept, [Match(0, at, at + 3) for at in range(2, len(text), 7)])
         counted = [self.blocks() for _ in range(4)]
-        self.assertLess(counted[-1] - counted[1], 50)
+        self.assertLess(counted[-1] - counted[1], 500)
 
     def test_types_keep_no_reference(self):
         """What is let go of gives back its reference to its type; and a cycle is collected."""

@@ -54,11 +54,13 @@ static void sizes(void) {
 
 static void version(void) {
     char text[32];
+    const char *after;
     snprintf(text, sizeof text, "%d.%d.%d", DADO_VERSION_MAJOR, DADO_VERSION_MINOR, DADO_VERSION_PATCH);
     /* between releases the next number, and -dev */
-    CHECK(strncmp(DADO_VERSION, text, strlen(text)) == 0);
-    CHECK(strcmp(DADO_VERSION + strlen(text), "") == 0 || strcmp(DADO_VERSION + strlen(text), "-dev") == 0);
     CHECK(strcmp(dado_version(), DADO_VERSION) == 0);
+    CHECK(strncmp(dado_version(), text, strlen(text)) == 0);
+    after = dado_version() + strlen(text);
+    CHECK(strcmp(after, "") == 0 || strcmp(after, "-dev") == 0);
 }
 
 /* With an argument, that is the code which must serve. */

@@ -25,11 +25,19 @@ def verdicts(log):
     return found
 
 
-def checked(log, built):
+def kept(text):
+    """What takes the place of a verdict in a draft, of each crate that `rt ci` didn't prove since an earlier run on this machine had."""
+    return {name: "no verdict here: an earlier run on this machine proved it" for name in re.findall(r"^rt: (\w+) is kept: ", text, re.M)}
+
+
+def checked(log, built, is_draft):
     """The verdicts. The run ends where one lacks, or where a file isn't one that the log names."""
     found = verdicts(log)
     with open(log, errors="replace") as file:
-        made = set(re.findall(r"^sha256=(\w+)$", file.read(), re.M))
+        text = file.read()
+    made = set(re.findall(r"^sha256=(\w+)$", text, re.M))
+    if is_draft:
+        found = {**kept(text), **found}
     for it in built:
         for path in (*it.archives, *([it.program] if it.program else [])):
             if digest(path) not in made:
@@ -67,7 +75,7 @@ def needs(built):
 
 def head(given, built):
     """What holds of all files of the release."""
-    found = checked(given.log, built)
+    found = checked(given.log, built, given.draft)
     commit = said_by("git", "-C", ROOT, "rev-parse", "HEAD").strip()
     changed = ", with changes that aren't committed" if given.is_changed else ""
     lines = [f"Dadofennel {given.version} for Linux on {' and '.join(it.machine.name for it in built)}, of commit {commit}{changed}."]

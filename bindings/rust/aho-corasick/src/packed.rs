@@ -99,7 +99,7 @@ impl Builder {
     }
 
     /// A searcher for the patterns. There is none without a pattern, with an empty one, with more than 128, or where it can't be
-    /// built for want of memory.
+    /// built since memory ran out.
     pub fn build(&self) -> Option<Searcher> {
         if self.patterns.is_empty() {
             return None;

@@ -4,6 +4,7 @@ import os
 import re
 import subprocess
 import sys
+import tempfile
 
 # Bytes and no text, so that no program pays for an encoding.
 ENVIRONMENT = dict(os.environ, LC_ALL="C")
@@ -12,11 +13,12 @@ ENVIRONMENT = dict(os.environ, LC_ALL="C")
 class Command:
     """A program with its arguments, under the label that results name it by. It reads the file `stdin`.
 
-    `counts` says that it writes a count, and may end with status 1 where that is 0.
+    `counts` says that it writes a count, and may end with status 1 where that is 0. `environment` is added to the one that all have.
     """
 
-    def __init__(self, label, words, stdin=os.devnull, counts=False):
+    def __init__(self, label, words, stdin=os.devnull, counts=False, environment=()):
         self.label, self.words, self.stdin, self.counts = label, [str(it) for it in words], stdin, counts
+        self.environment = dict(ENVIRONMENT, **dict(environment))
 
 
 def seconds(command):
@@ -26,7 +28,7 @@ def seconds(command):
     """
     stdout = subprocess.PIPE if command.counts else subprocess.DEVNULL
     with open(command.stdin, "rb") as stdin:
-        child = subprocess.Popen(command.words, stdin=stdin, stdout=stdout, stderr=subprocess.DEVNULL, env=ENVIRONMENT)
+        child = subprocess.Popen(command.words, stdin=stdin, stdout=stdout, stderr=subprocess.DEVNULL, env=command.environment)
     _, status, used = os.wait4(child.pid, 0)
     child.returncode = os.waitstatus_to_exitcode(status)
     if command.counts:
@@ -53,7 +55,7 @@ def peak(command, launcher):
     stdout = subprocess.PIPE if command.counts else subprocess.DEVNULL
     with open(command.stdin, "rb") as stdin:
         words = [launcher, *command.words]
-        done = subprocess.run(words, stdin=stdin, stdout=stdout, stderr=subprocess.PIPE, env=ENVIRONMENT)
+        done = subprocess.run(words, stdin=stdin, stdout=stdout, stderr=subprocess.PIPE, env=command.environment)
     refuse(command, done.returncode)
     return int(done.stderr.split()[-1]) * 1024 / 1e6
 
@@ -61,7 +63,7 @@ def peak(command, launcher):
 def output(command):
     """What a run writes."""
     with open(command.stdin, "rb") as stdin:
-        done = subprocess.run(command.words, stdin=stdin, stdout=subprocess.PIPE, stderr=subprocess.DEVNULL, env=ENVIRONMENT)
+        done = subprocess.run(command.words, stdin=stdin, stdout=subprocess.PIPE, stderr=subprocess.DEVNULL, env=command.environment)
     refuse(command, done.returncode)
     return done.stdout
 
@@ -76,11 +78,28 @@ def speeds(commands, runs):
     best = {}
     for _ in range(runs):
         for command in commands:
-            done = subprocess.run(command.words, stdout=subprocess.PIPE, stderr=subprocess.PIPE, env=ENVIRONMENT)
+            done = subprocess.run(command.words, stdout=subprocess.PIPE, stderr=subprocess.PIPE, env=command.environment)
             refuse(command, done.returncode)
             speed, count = int(done.stderr.split()[0]), int(done.stdout.split()[0])
             best[command.label] = max(best.get(command.label, (0, count)), (speed, count))
     return best
+
+
+def instructions(command, functions):
+    """What a run writes, and how many instructions each of these functions took with all that it called, as callgrind counts them."""
+    with tempfile.TemporaryDirectory() as folder:
+        words = ["valgrind", "--tool=callgrind", f"--callgrind-out-file={folder}/counts", *command.words]
+        done = subprocess.run(words, stdout=subprocess.PIPE, stderr=subprocess.DEVNULL, env=command.environment)
+        refuse(command, done.returncode)
+        words = ["callgrind_annotate", "--inclusive=yes", "--threshold=100", f"{folder}/counts"]
+        listed = subprocess.run(words, stdout=subprocess.PIPE, check=True).stdout.decode(errors="replace")
+    counts = []
+    for function in functions:
+        line = re.search(rf"^ *([\d,]+) .*:{function}\b", listed, re.M)
+        if not line:
+            sys.exit(f"{' '.join(command.words)}: callgrind has no function {function}")
+        counts.append(int(line.group(1).replace(",", "")))
+    return done.stdout.decode().strip(), counts
 
 
 def lines_matched(listing, text):

@@ -28,7 +28,7 @@
  * - Memory. Where a call says that it takes memory, it is of `malloc`, and DADO_NO_MEMORY says that there was none. Nothing is
  *   lost then: the automaton, text, stream, replacer or masker that the call was to replace is still there. All other calls take none. A
  *   haystack is never copied; a stream copies each piece once.
- * - Stack. No proof bounds it. As measured a build takes 92 KiB, the calls of a stream, a replacer or a masker 31 KiB, and all others
+ * - Stack. No proof bounds it. As measured a build takes 108 KiB, the calls of a stream, a replacer or a masker 31 KiB, and all others
  *   14 KiB, whatever the patterns. So a thread that builds is given 128 KiB at least.
  * - Cost. What a call says of looks at states and of bytes moved is proved of the body below it, which counts them: docs/TRUST.md says
  *   of which calls. Neither the time of a call is proved, nor how much memory it takes.

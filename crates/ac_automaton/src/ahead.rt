@@ -9,8 +9,12 @@
 //!
 //! A look is counted when it is made, so taking a note counts nothing. Under the standard kind a search takes every note: a note
 //! begins where the one before it ended, or just after a byte that no pattern has, which leaves each search in its start. So no byte
-//! is looked at twice, and the looks so far are those for the bytes passed and for at most 8192 bytes more. Under a leftmost kind a
-//! search may begin anew where no note begins. Then notes are lost, and their bytes are read again; no byte is read ahead twice.
+//! is looked at twice, and the looks so far are those for the bytes passed and for at most 8192 bytes more.
+//!
+//! Under a leftmost kind no state is dead before the first one that matches, so up to there a search reads as under the standard
+//! kind. Then it reads on alone to the dead state, and begins anew at the end of the best match. Mostly that is where the first match
+//! ended, and the next note begins there. Where a longer match is taken, the next note is lost, and its bytes are read again; no byte
+//! is read ahead twice.
 ghost use Rattle.std.specs.Prelude.{◌≡◌, ◌+◌, ◌≤◌, ◌<◌, List, [], ◌∷◌, drop, length, take, IfSome, IsTrue, nat_le, slice_get};
 ghost use Rattle.ac_automaton.specs.Ahead.{HasForgotten, HasSkipped, IsPaid, Settles, StaysReadOnce, bytes_ahead, left_notes, most_ahead, notes_from, onward};
 ghost use Rattle.ac_automaton.specs.InMemory.Find.Ahead.{IsAheadOf};

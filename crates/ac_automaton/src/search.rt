@@ -35,7 +35,7 @@ use std::io::{Read, Write};
 
 /// An automaton that searches.
 pub trait Search: Automaton {
-    ghost use Rattle.std.specs.Prelude.{◌≡◌, ◌≤◌, ◌-◌, false, [], length, drop, map, None, Some};
+    ghost use Rattle.std.specs.Prelude.{◌≡◌, ◌≤◌, ◌-◌, false, [], length, drop, map, take, None, Some};
     ghost use Rattle.ac_input.specs.declared.search.Anchored.TheVariants.{No};
     ghost use Rattle.ac_input.specs.declared.search.MatchKind.TheVariants.{Standard};
     ghost use Rattle.ac_automaton.specs.Ahead.{IsPaid, StaysReadOnce};
@@ -81,6 +81,7 @@ pub trait Search: Automaton {
         ensures found { IsFound (Self.built self.now) input.now result }
         ensures cost { IsPaid ahead.old ahead.new steps.new (λ paid. IsFindCost (Self.built self.now) input.now steps.old paid result) }
         ensures ahead { IsAheadIn Self.Automaton self.now input.now start (ended_at input.now result) ahead.new }
+        ensures once { StaysReadOnce (take input.now.span.end input.now.haystack) ahead.old ahead.new }
     {
         find::ahead::find(self, input, start, ahead, steps)
     }

@@ -1,7 +1,7 @@
 //! Reading on over bytes that begin no pattern.
 //!
 //! While a search stands in the start, what counts is where a pattern may begin. There are two ways to find the next such place many
-//! bytes at a time: by the first bytes of the patterns ([`Openings`]), and by the few bytes that lead out of the start ([`Starters`]).
+//! bytes at a time: by bytes of the patterns ([`Openings`]), and by the few bytes that lead out of the start ([`Starters`]).
 //! Between such places the automaton reads on by its own loop, which stops at the start, too.
 //!
 //! At a place that openings find, only the last bytes before it can still be live, one fewer than an opening has. The search reads
@@ -9,7 +9,7 @@
 //!
 //! An automaton stores [`Skips`] and reads on by them. They skip only where the search stops at no start, and by openings only where
 //! it isn't anchored. Where the openings pass few bytes, they are left for a while, as a prefilter is, and the automaton's loop stops
-//! at no start.
+//! at no start. So it is where few bytes are left.
 //!
 //! The numbers of the states have one order in every automaton: those that match, the starts, the others. So one comparison decides
 //! whether a search has more to do at a state than to read on: with the last special state ([`last_special`]).
@@ -32,16 +32,19 @@ use std::alloc::{AllocError, Global};
 /// How many bytes openings have to pass, to pay.
 const COST: usize = 24;
 
-/// For how many patterns openings pass bytes faster than several walks side by side read them. With more patterns more places are
-/// marked in vain.
-const FEW_PATTERNS: usize = 64;
+/// Fewer bytes are read by the automaton's own loop: a block of openings has 32 places, and those after them.
+const FEW: usize = 40;
+
+/// For how many patterns openings and packed search pass bytes faster than several walks side by side read them. With more patterns
+/// more places are found in vain, unless they go by grams.
+pub(crate) const FEW_PATTERNS: usize = 64;
 
 /// What an automaton skips by while a search stands in its start.
-#[derive(Clone, Copy)]
+#[derive(Drop)]
 pub struct Skips {
     /// The start of the searches that aren't anchored.
     pub start: StateID,
-    /// Where a pattern may begin, if the patterns are few.
+    /// Where a pattern may begin, if the patterns are few or long.
     pub openings: Option<Openings>,
     /// The bytes that lead from the start to another state.
     pub starters: Starters,
@@ -51,8 +54,16 @@ impl Skips {
     /// Whether a search for so many patterns that stands in its start passes bytes faster than several walks read them side by side.
     pub fn pass_many(&self, patterns: usize) -> bool {
         match &self.openings {
-            Some(_) => patterns <= FEW_PATTERNS,
+            Some(openings) => patterns <= FEW_PATTERNS || openings.are_sparse(),
             None => self.starters.are_few(),
+        }
+    }
+
+    /// How many bytes of memory they take, besides themselves.
+    pub fn memory_usage(&self) -> usize {
+        match &self.openings {
+            Some(openings) => openings.memory_usage(),
+            None => 0,
         }
     }
 
@@ -73,7 +84,7 @@ impl Skips {
             steps.old steps.new }
     {
         let start = self.start;
-        if to.is_before(start) {
+        if bytes.len() >= FEW && to.is_before(start) {
             if let (Some(openings), Anchored::No) = (&self.openings, anchored) {
                 return skip(automaton, openings, start, sid, bytes, to, steps);
             }
@@ -128,6 +139,12 @@ fn pass<A: LookUp>(
     }
 }
 
+/// For how many of the bytes that are left the automaton reads on alone; 0 where the openings are asked.
+#[inline(always)]
+fn alone_for(gain: &mut Gain, read: usize, left: usize) -> usize {
+    if left < FEW { left } else { gain.alone(read) }
+}
+
 /// Reads on to the first state between two numbers or to the start; or, alone, through so many bytes and past the start.
 #[inline(always)]
 fn read_some<A: LookUp>(
@@ -175,8 +192,8 @@ fn skip<A: LookUp>(
     let mut current = sid;
     let mut read = 0;
     while read < bytes.len() {
-        let alone = gain.alone(read);
         let rest = &bytes[read..];
+        let alone = alone_for(&mut gain, read, rest.len());
         let stop = read_some(
             automaton,
             start,

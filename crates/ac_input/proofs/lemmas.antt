@@ -8,6 +8,7 @@ pub mod CutLemmas
 pub mod DeadLemmas
 pub mod DfaLemmas
 pub mod DistinctLemmas
+pub mod EscapeLemmas
 pub mod ExitLemmas
 pub mod FailureLemmas
 pub mod GhostLemmas
@@ -24,6 +25,7 @@ pub mod OnceLemmas
 pub mod OpeningLemmas
 pub mod OrderLemmas
 pub mod RisingLemmas
+pub mod RuleFileLemmas
 pub mod RuleLemmas
 pub mod RuleOrderLemmas
 pub mod SameLemmas

@@ -14,7 +14,7 @@ use Rattle.ac_input.specs.Best.{preference, IsBest}
 use Rattle.ac_input.specs.Walk.{IsPick, IsWalk}
 use Rattle.ac_input.specs.Listing.{IsListing}
 use Rattle.ac_input.specs.Text.{replaced_from, listed}
-use Rattle.ac_input.specs.Rules.{FirstBadLine, FirstBadTextLine, IsRuleFile, IsTextRuleFile, Rule}
+use Rattle.ac_input.specs.Rules.{FirstBadEscapedLine, FirstBadLine, FirstBadTextLine, IsEscapedRuleFile, IsRuleFile, IsTextRuleFile, Rule, Unescapes}
 use Rattle.ac_input.specs.Computed.{best_of, pick_of, walk_after, walk_of}
 
 -- Each occurrence starts where the one before it ended or later, and later than that one started. None is empty at the
@@ -108,12 +108,22 @@ BadLineIsOne =
     ((text : List ℕ) (one other : ℕ) → FirstBadLine text one → FirstBadLine text other → one ≡ other)
     × ((text : List ℕ) (n : ℕ) (rules : List Rule) → IsRuleFile text rules → ¬ FirstBadLine text n)
 
--- A text of plain rules has at most one list of rules, and at most one first bad line, and not both.
+-- a text has at most one list of rules, and at most one first bad line, and not both
+abbrev pub AreOne : (List ℕ → List Rule → Type 0) → (List ℕ → ℕ → Type 0) → Type 0
+AreOne holds bad =
+    ((text : List ℕ) (one other : List Rule) → holds text one → holds text other → one ≡ other)
+    × ((text : List ℕ) (one other : ℕ) → bad text one → bad text other → one ≡ other)
+    × ((text : List ℕ) (n : ℕ) (rules : List Rule) → holds text rules → ¬ bad text n)
+
+-- this holds of plain text
 abbrev pub TextRulesAreOne : Type 0
-TextRulesAreOne =
-    ((text : List ℕ) (one other : List Rule) → IsTextRuleFile text one → IsTextRuleFile text other → one ≡ other)
-    × ((text : List ℕ) (one other : ℕ) → FirstBadTextLine text one → FirstBadTextLine text other → one ≡ other)
-    × ((text : List ℕ) (n : ℕ) (rules : List Rule) → IsTextRuleFile text rules → ¬ FirstBadTextLine text n)
+TextRulesAreOne = AreOne IsTextRuleFile FirstBadTextLine
+
+-- and of text with escapes, whose sides stand for at most one text each
+abbrev pub EscapedRulesAreOne : Type 0
+EscapedRulesAreOne =
+    AreOne IsEscapedRuleFile FirstBadEscapedLine
+    × ((side one other : List ℕ) → Unescapes side one → Unescapes side other → one ≡ other)
 
 -- Two pairings that pair nothing give the same best and the same walks.
 abbrev pub UnpairedSearchAlike : Type 0

@@ -61,22 +61,81 @@ BeginsWithTextRule text rule more =
     (written line : List ℕ) × BeginsWithWritten text written more × IsWrittenAs line written
     × (AreSidesOf line rule × (rule.0 ≢ []) × ¬ Contains rule.1 9)
 
--- the text begins with no line that is a rule
-abbrev pub BeginsWithNoTextRule : List ℕ → Type 0
-BeginsWithNoTextRule text = (rule : Rule) (more : List ℕ) → ¬ BeginsWithTextRule text rule more
-
 -- the text begins with these rules, one after another, and `more` follows the last
 abbrev pub BeginsWithAll : (List ℕ → Rule → List ℕ → Type 0) → List ℕ → List Rule → List ℕ → Type 0
 BeginsWithAll begins text [] more = text ≡ more
 BeginsWithAll begins text (rule ∷ rules) more =
     (rest : List ℕ) × begins text rule rest × BeginsWithAll begins rest rules more
 
+-- ---- whole files of text
+
+-- the text begins with a byte order mark, of UTF-8 or of UTF-16
+abbrev pub HasMark : List ℕ → Type 0
+HasMark text =
+    (more : List ℕ) × ((text ≡ 239 ∷ 187 ∷ 191 ∷ more) ⊎ (text ≡ 255 ∷ 254 ∷ more) ⊎ (text ≡ 254 ∷ 255 ∷ more))
+
+-- the first line has a NUL, as has text in UTF-16
+abbrev pub HasNul : List ℕ → Type 0
+HasNul text = (written more : List ℕ) × BeginsWithWritten text written more × Contains written 0
+
+-- The file is not plain text: it begins with a byte order mark, or has a NUL in its first line.
+abbrev pub IsForeign : List ℕ → Type 0
+IsForeign text = HasMark text ⊎ HasNul text
+
+-- Files of text, by what it means that a text begins with a rule.
+module _ (begins : List ℕ → Rule → List ℕ → Type 0) where
+  -- a whole rule file, and its rules in their order
+  abbrev pub IsFileOf : List ℕ → List Rule → Type 0
+  IsFileOf text rules = ¬ IsForeign text × BeginsWithAll begins text rules []
+
+  -- all lines before line n are rules, counted from 1, and that line is none
+  abbrev pub EndsRulesAt : List ℕ → ℕ → Type 0
+  EndsRulesAt text n =
+      (rules : List Rule) × (more : List ℕ) × BeginsWithAll begins text rules more × (n ≡ length rules + 1)
+      × (more ≢ []) × ((rule : Rule) (rest : List ℕ) → ¬ begins more rule rest)
+
+  -- the number of the first bad line: 1 where the file is not plain text, and otherwise that of the first line that is no
+  -- rule
+  abbrev pub FirstBadLineOf : List ℕ → ℕ → Type 0
+  FirstBadLineOf text n = (IsForeign text × (n ≡ 1)) ⊎ (¬ IsForeign text × EndsRulesAt text n)
+
 -- a whole rule file of plain text, and its rules in their order
 abbrev pub IsTextRuleFile : List ℕ → List Rule → Type 0
-IsTextRuleFile text rules = BeginsWithAll BeginsWithTextRule text rules []
+IsTextRuleFile = IsFileOf BeginsWithTextRule
 
--- the number of the first line of plain text that is no rule, counted from 1; all lines before it are rules
+-- the number of the first bad line of plain text
 abbrev pub FirstBadTextLine : List ℕ → ℕ → Type 0
-FirstBadTextLine text n =
-    (rules : List Rule) × (more : List ℕ) × BeginsWithAll BeginsWithTextRule text rules more × (n ≡ length rules + 1)
-    × (more ≢ []) × BeginsWithNoTextRule more
+FirstBadTextLine = FirstBadLineOf BeginsWithTextRule
+
+-- ---- text with escapes
+
+-- a backslash and this letter stand for the byte: `\t`, `\n`, `\r`, `\\`, `\0`
+abbrev pub IsEscape : ℕ → ℕ → Type 0
+IsEscape letter byte =
+    ((letter ≡ 116) × (byte ≡ 9)) ⊎ ((letter ≡ 110) × (byte ≡ 10)) ⊎ ((letter ≡ 114) × (byte ≡ 13))
+    ⊎ ((letter ≡ 92) × (byte ≡ 92)) ⊎ ((letter ≡ 48) × (byte ≡ 0))
+
+-- A side begins with what stands for this byte, and `rest` follows: the byte itself, unless it is a backslash; or an
+-- escape; or `\x` and two hex digits.
+abbrev pub BeginsWithByte : List ℕ → ℕ → List ℕ → Type 0
+BeginsWithByte side byte rest =
+    ((side ≡ byte ∷ rest) × (byte ≢ 92)) ⊎ ((letter : ℕ) × (side ≡ 92 ∷ letter ∷ rest) × IsEscape letter byte)
+    ⊎ ((high low : ℕ) × (side ≡ 92 ∷ 120 ∷ high ∷ low ∷ rest) × Spells (high ∷ low ∷ []) (byte ∷ []))
+
+-- the side stands for these bytes, one after another
+abbrev pub Unescapes : List ℕ → List ℕ → Type 0
+Unescapes side [] = side ≡ []
+Unescapes side (byte ∷ bytes) = (rest : List ℕ) × BeginsWithByte side byte rest × Unescapes rest bytes
+
+-- the text begins with a line of plain text whose sides stand for those of this rule; the rest follows
+abbrev pub BeginsWithEscapedRule : List ℕ → Rule → List ℕ → Type 0
+BeginsWithEscapedRule text rule more =
+    (written : Rule) × BeginsWithTextRule text written more × Unescapes written.0 rule.0 × Unescapes written.1 rule.1
+
+-- a whole rule file of text with escapes, and its rules in their order
+abbrev pub IsEscapedRuleFile : List ℕ → List Rule → Type 0
+IsEscapedRuleFile = IsFileOf BeginsWithEscapedRule
+
+-- the number of its first bad line
+abbrev pub FirstBadEscapedLine : List ℕ → ℕ → Type 0
+FirstBadEscapedLine = FirstBadLineOf BeginsWithEscapedRule

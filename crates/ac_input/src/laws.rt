@@ -4,7 +4,7 @@
 //! The definitions alone fix the best, the next pick, the walk and the listing of a search, and each can be computed. These
 //! functions do nothing: each states one law as its contract, and checking it proves the law. A caller who needs the law calls the
 //! function, at no cost.
-ghost use Rattle.ac_input.specs.Laws.{PreferenceTellsApart, BestIsOne, PickIsOne, WalkIsOne, WalkIsApart, WalkLiesWithin, WalkOccurs, ListingHasEachOnce, PicksAreListed, ReplacingByItselfChangesNothing, NoRulesChangeNothing, RulesAreOne, BadLineIsOne, TextRulesAreOne, UnpairedSearchAlike, IsInside};
+ghost use Rattle.ac_input.specs.Laws.{PreferenceTellsApart, BestIsOne, PickIsOne, WalkIsOne, WalkIsApart, WalkLiesWithin, WalkOccurs, ListingHasEachOnce, PicksAreListed, ReplacingByItselfChangesNothing, NoRulesChangeNothing, RulesAreOne, BadLineIsOne, TextRulesAreOne, EscapedRulesAreOne, UnpairedSearchAlike, IsInside};
 ghost use Rattle.std.specs.Prelude.{◌≡◌, ◌↔◌, List, Contains};
 ghost use Rattle.ac_input.specs.Occurrence.{Search, Occurrence, Occurs};
 ghost use Rattle.ac_input.specs.Listing.{IsListing};
@@ -101,6 +101,11 @@ pub fn bad_line_is_one()
 /// The same of rules in plain text: a text has one list of rules at most, one first bad line at most, and not both.
 pub fn text_rules_are_one()
     ensures { TextRulesAreOne }
+{}
+
+/// The same of rules in text with escapes, and a side stands for one text at most.
+pub fn escaped_rules_are_one()
+    ensures { EscapedRulesAreOne }
 {}
 
 /// Pairings that pair nothing search alike, whatever their tables.

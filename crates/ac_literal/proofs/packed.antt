@@ -1,5 +1,7 @@
 pub mod BucketLemmas
+pub mod CopyLemmas
 pub mod FindLemmas
+pub mod GramScanLemmas
 pub mod HashLemmas
 pub mod LaneLemmas
 pub mod NextLemmas

@@ -5,6 +5,7 @@ pub use Rattle.ac_input.specs.Dictionary
 pub use Rattle.ac_input.specs.Candidate
 pub use Rattle.ac_input.specs.Best
 pub use Rattle.ac_input.specs.Computed
+pub mod Grams
 pub mod Packed
 pub mod Openings
 pub mod Prefilter

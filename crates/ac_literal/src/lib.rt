@@ -1,9 +1,11 @@
 //! Searches for literals: for a few patterns at once, by one fast pass over the bytes.
 //!
 //! [`openings`] marks the places at which a pattern may begin, for an automaton that waits for one. [`packed`] is a search of its
-//! own, for up to 128 patterns, that needs no automaton. [`prefilter`] finds the only places that an automaton has to look at.
+//! own, for up to 128 patterns, that needs no automaton. [`prefilter`] finds the only places that an automaton has to look at. The
+//! first two look at every few places alone (`grams`) where that serves.
 #![tactic(auto)]
 
+mod grams;
 pub mod openings;
 pub mod packed;
 pub mod prefilter;

@@ -1,48 +1,47 @@
-//! Where a pattern may begin, by its first bytes.
+//! Where a pattern may begin.
 //!
-//! A search that stands in the start waits for a pattern to begin. [`Openings`] finds the next place at which it may: it marks, 32
-//! places at a time, where the first bytes of some pattern may stand, by the tables of `teddy`. These are the first four bytes, or as
-//! many as the shortest pattern has. Each byte and its partner count as one. Where a place is marked, its first bytes are looked up as
-//! a whole, by their fingerprint.
+//! A search that stands in the start waits for a pattern to begin. [`Openings`] finds the next place at which it may, in one of two
+//! ways. [`Fronts`] look at the first bytes of each place, 32 places at a time. [`Grams`] look at every fifth place or so, for eight
+//! bytes that are somewhere in a pattern; they find fewer places in vain where there are many patterns, or few different letters.
 //!
-//! To pass a place costs a fraction of what an automaton takes for a byte; but each mark that is left leads the automaton to some
-//! bytes in vain. The more patterns there are, the more marks there are. For more than [`LIMIT`] patterns there are no openings, nor
-//! for patterns of one byte. They take less than 2 KB of memory, however many patterns there are.
+//! To pass a place costs a fraction of what an automaton takes for a byte; but each place that is found leads the automaton to some
+//! bytes, often in vain. So there are no openings for many patterns that are too short for grams, nor for patterns of one byte.
+//! They take up to 8 KiB of the heap, however many patterns there are.
 mod fingerprints;
+mod fronts;
 
-ghost use Rattle.std.specs.Prelude.{◌≡◌, ℕ, ◌+◌, ◌<◌, ◌≤◌, length, slice_index, take, drop, IfSome};
-ghost use Rattle.std.specs.Int.{bit_at};
-ghost use Rattle.ac_input.specs.Same.{other};
-ghost use Rattle.ac_literal.specs.Openings.Fingerprints.{ArePrinted, IsPrinted};
-ghost use Rattle.ac_literal.specs.Openings.Marks.{HasPartners, HaveOpened};
+ghost use Rattle.std.specs.Prelude.{◌≡◌, ◌≤◌, length, IfOk, IfSome};
+ghost use Rattle.ac_literal.specs.Grams.{HaveWindows};
 ghost use Rattle.ac_literal.specs.Packed.{bytes_of, AreAsLong};
-ghost use Rattle.ac_literal.specs.Packed.Teddy.{LooksBefore, KeepsPatterns};
 
-use crate::openings::fingerprints::Fingerprints;
-use crate::packed::teddy::{LANES, Teddy, lowest, without};
+use crate::grams::choice::{Choice, MOST_PATTERNS};
+use crate::grams::{Grams, SHORTEST};
+use crate::openings::fronts::{Fronts, LIMIT, MOST};
 use crate::prefilter::needles::FewBytes;
 use crate::prefilter::rank::stops_within;
 use ac_input::pairing::Pairing;
+use std::alloc::{AllocError, Global};
 
-/// For how many patterns there are openings, at most.
-const LIMIT: usize = 128;
-
-/// How many bytes an opening has, at least and at most.
+/// How many bytes an opening has, at least; and by grams, at most.
 const LEAST: usize = 2;
 
-pub const MOST: usize = 4;
+const MOST_BY_GRAMS: usize = 16;
 
-/// How many buckets there are.
-const BUCKETS: usize = 8;
+/// How openings are found.
+#[derive(Drop)]
+pub enum Way {
+    /// By the first bytes of each place.
+    Fronts(Fronts),
+    /// By sampled grams.
+    Grams(Grams),
+}
 
 /// Finds the places at which some pattern may begin.
-#[derive(Clone, Copy, Drop)]
+#[derive(Drop)]
 pub struct Openings {
-    teddy: Teddy,
-    prints: Fingerprints,
+    way: Way,
     len: usize,
     ghost wide: { 2 ≤ len },
-    ghost near: { LooksBefore len teddy },
 }
 
 /// How often a byte that begins a pattern may come in a thousand bytes, so that a scan for these bytes is faster.
@@ -62,109 +61,127 @@ fn have_rare_starts(patterns: &[&[u8]], pairing: &Pairing) -> bool {
     }
 }
 
-/// How many bytes all patterns have, up to the most that an opening has.
-fn len_of(patterns: &[&[u8]]) -> usize
-    ensures few { result ≤ MOST }
+/// How many bytes all patterns have, up to a number.
+fn len_of(patterns: &[&[u8]], most: usize) -> usize
+    ensures few { result ≤ most }
     ensures short { AreAsLong result (bytes_of patterns.now) }
 {
-    let mut len = MOST;
+    let mut len = most;
     for pattern in patterns {
         len = len.min(pattern.len());
     }
     len
 }
 
-/// The partners of the first bytes of a pattern.
-fn partners(pattern: &[u8], pairing: &Pairing, len: usize) -> [u8; MOST]
-    requires short { len ≤ length pattern.now }
-    requires few { len ≤ MOST }
-    ensures { (k : ℕ) → k < len
-        → slice_index result k ≡ other pairing.now (slice_index pattern.now k) }
-{
-    let mut bytes = [0; MOST];
-    for at in 0..len {
-        bytes[at] = pairing.other(pattern[at]);
-    }
-    bytes
-}
-
-/// One more pattern, and its partners, in a bucket.
-fn add(teddy: &mut Teddy, pattern: &[u8], pairing: &Pairing, len: usize, bucket: u8)
-    requires bucket { bucket < 8 }
-    requires near { LooksBefore len teddy.old }
-    requires few { len ≤ MOST }
-    requires long { len ≤ length pattern.now }
-    ensures own { HasPartners pairing.now len teddy.new pattern.now bucket }
-    ensures kept { KeepsPatterns teddy.old teddy.new }
-{
-    teddy.add(pattern, bucket);
-    teddy.add(&partners(pattern, pairing, len), bucket);
-}
-
-/// The bucket of a pattern, by its place in the order of their bytes: neighbours share a bucket, so that fewer bytes fit into it.
-fn bucket_of(patterns: &[&[u8]], number: usize) -> u8
-    requires { number < length patterns.now }
-    ensures { result < 8 }
-{
-    let mut before: usize = 0;
-    for other in patterns {
-        if *other < patterns[number] {
-            before += 1;
-        }
-    }
-    let place = before.min(LIMIT) * BUCKETS / patterns.len();
-    place.min(BUCKETS - 1) as u8
-}
-
-/// The buckets of some patterns, told apart by their first `len` bytes.
-fn buckets_of(patterns: &[&[u8]], pairing: &Pairing, len: usize) -> Teddy
-    requires some { 0 < len }
-    requires few { len ≤ MOST }
-    requires short { AreAsLong len (bytes_of patterns.now) }
-    ensures near { LooksBefore len result }
-    ensures all { HaveOpened pairing.now len (bytes_of patterns.now) (length patterns.now) result }
-{
-    let mut teddy = Teddy::empty(len, patterns.len());
-    for number in 0..patterns.len() {
-        let bucket = bucket_of(patterns, number);
-        add(&mut teddy, patterns[number], pairing, len, bucket);
-    }
-    teddy
-}
-
-/// The fingerprints of their first `len` bytes.
-fn prints_of(patterns: &[&[u8]], pairing: &Pairing, len: usize) -> Fingerprints
-    requires wide { 2 ≤ len }
-    requires short { AreAsLong len (bytes_of patterns.now) }
-    ensures { ArePrinted pairing.now len (bytes_of patterns.now) (length patterns.now) result }
-{
-    let mut prints = Fingerprints::new(pairing);
+/// Whether grams find fewer places than the first bytes.
+fn prefer_grams(patterns: &[&[u8]]) -> bool {
+    let mut choice = Choice::new();
     for pattern in patterns {
-        prints.add(&pattern[..len]);
+        choice.add(pattern);
     }
-    prints
+    choice.takes_grams()
+}
+
+/// The grams of the first `len` bytes of some patterns.
+fn grams_of(alloc: Global, patterns: &[&[u8]], len: usize) -> Result<Grams, AllocError>
+    requires long { 9 ≤ len }
+    requires short { AreAsLong len (bytes_of patterns.now) }
+    ensures { IfOk result
+        (λ grams. HaveWindows grams len (bytes_of patterns.now) (length patterns.now)) }
+{
+    let mut grams = Grams::empty(alloc, len)?;
+    for pattern in patterns {
+        grams.add_rarest(&pattern[..len]);
+    }
+    Ok(grams)
 }
 
 impl Openings {
-    ghost use Rattle.ac_literal.specs.Openings.{OpenAll, PassesOpenings};
+    ghost use Rattle.ac_literal.specs.Openings.{AreCopied, AreCopiedIfAny, OpenAll, PassesOpenings};
 
     /// The openings of some patterns; none where they are too many, or too short, or where so rare bytes begin them that a scan for
     /// these is faster.
-    pub fn new(patterns: &[&[u8]], pairing: &Pairing) -> Option<Openings>
+    pub fn new(
+        alloc: Global,
+        patterns: &[&[u8]],
+        pairing: &Pairing,
+    ) -> Result<Option<Openings>, AllocError>
+        ensures { IfOk result (λ made. IfSome made (OpenAll (bytes_of patterns.now) pairing.now)) }
+    {
+        if patterns.is_empty() || patterns.len() > MOST_PATTERNS {
+            return Ok(None);
+        }
+        if have_rare_starts(patterns, pairing) {
+            return Ok(None);
+        }
+        match Openings::by_grams(alloc, patterns, pairing)? {
+            Some(openings) => Ok(Some(openings)),
+            None => Ok(Openings::by_fronts(patterns, pairing)),
+        }
+    }
+
+    /// Openings that are found by grams, where those find fewer places; only where no byte is paired.
+    fn by_grams(
+        alloc: Global,
+        patterns: &[&[u8]],
+        pairing: &Pairing,
+    ) -> Result<Option<Openings>, AllocError>
+        ensures { IfOk result (λ made. IfSome made (OpenAll (bytes_of patterns.now) pairing.now)) }
+    {
+        let len = len_of(patterns, MOST_BY_GRAMS);
+        if len < SHORTEST || !prefer_grams(patterns) {
+            return Ok(None);
+        }
+        if !pairing.is_none() {
+            return Ok(None);
+        }
+        Ok(Some(Openings {
+            way: Way::Grams(grams_of(alloc, patterns, len)?),
+            len,
+        }))
+    }
+
+    /// Openings that are found by first bytes.
+    fn by_fronts(patterns: &[&[u8]], pairing: &Pairing) -> Option<Openings>
         ensures { IfSome result (OpenAll (bytes_of patterns.now) pairing.now) }
     {
-        if patterns.is_empty() || patterns.len() > LIMIT {
-            return None;
-        }
-        let len = len_of(patterns);
-        if len < LEAST || have_rare_starts(patterns, pairing) {
+        let len = len_of(patterns, MOST);
+        if len < LEAST || patterns.len() > LIMIT {
             return None;
         }
         Some(Openings {
-            teddy: buckets_of(patterns, pairing, len),
-            prints: prints_of(patterns, pairing, len),
+            way: Way::Fronts(Fronts::new(patterns, pairing, len)),
             len,
         })
+    }
+
+    /// The same in memory from `alloc`.
+    pub fn clone(&self, alloc: Global) -> Result<Openings, AllocError>
+        ensures { IfOk result (AreCopied self.now) }
+    {
+        let way = match &self.way {
+            Way::Fronts(fronts) => Way::Fronts(*fronts),
+            Way::Grams(grams) => Way::Grams(grams.clone(alloc)?),
+        };
+        Ok(Openings { way, len: self.len })
+    }
+
+    /// The same openings in memory from `alloc`, if there are any.
+    pub fn clone_any(alloc: Global, held: &Option<Openings>) -> Result<Option<Openings>, AllocError>
+        ensures { IfOk result (AreCopiedIfAny held.now) }
+    {
+        match held {
+            Some(openings) => Ok(Some(openings.clone(alloc)?)),
+            None => Ok(None),
+        }
+    }
+
+    /// How many bytes of memory they take, besides themselves.
+    pub fn memory_usage(&self) -> usize {
+        match &self.way {
+            Way::Fronts(_) => 0,
+            Way::Grams(grams) => grams.memory_usage(),
+        }
     }
 
     /// How many bytes an opening has.
@@ -175,25 +192,9 @@ impl Openings {
         self.len
     }
 
-    /// The first place of a block that is marked and whose fingerprint is in the set; 32 where there is none.
-    #[inline]
-    fn first_printed(&self, bytes: &[u8], block: usize, marks: u64) -> usize
-        requires room { block + self.now.len + 31 ≤ length bytes.now }
-        requires few { marks < 4294967296 }
-        ensures within { result ≤ 32 }
-        ensures passed { (k : ℕ) → k < result → bit_at marks k ≡ 1
-            → ¬ IsPrinted self.now.prints (take self.now.len (drop (block + k) bytes.now)) }
-    {
-        let mut left = marks;
-        while left != 0 {
-            let place = lowest(left);
-            let at = block + place;
-            if self.prints.has(&bytes[at..at + self.len]) {
-                return place;
-            }
-            left = without(left, place);
-        }
-        LANES
+    /// Whether few places are found in vain, however many patterns there are.
+    pub fn are_sparse(&self) -> bool {
+        matches!(self.way, Way::Grams(_))
     }
 
     /// How many bytes at the front may be passed: up to the next place at which a pattern may begin, or up to the last ones.
@@ -202,22 +203,9 @@ impl Openings {
         ensures within { result ≤ length bytes.now }
         ensures passed { PassesOpenings self.now bytes.now result }
     {
-        if bytes.len() < self.len {
-            return 0;
+        match &self.way {
+            Way::Fronts(fronts) => fronts.pass(bytes),
+            Way::Grams(grams) => grams.pass(bytes),
         }
-        let to = bytes.len() - self.len + 1;
-        let mut at = 0;
-        while to - at >= LANES {
-            let (block, marks) = self.teddy.next_marks(bytes, at, to, self.len);
-            if marks == 0 {
-                return block;
-            }
-            let place = self.first_printed(bytes, block, marks);
-            if place < LANES {
-                return block + place;
-            }
-            at = block + LANES;
-        }
-        at
     }
 }

@@ -117,6 +117,14 @@ impl Prefilter {
         }
     }
 
+    /// Whether it finds many places in vain with many patterns: packed search that doesn't go by grams.
+    pub fn is_dense(&self) -> bool {
+        match &self.strategy {
+            Strategy::Packed(searcher) => !searcher.is_sparse(),
+            _ => false,
+        }
+    }
+
     /// How many bytes of memory it takes, besides itself.
     pub fn memory_usage(&self) -> usize {
         self.strategy.memory_usage()

@@ -197,7 +197,7 @@ impl Builder {
         let lens = PatternLens::of(alloc, patterns)?;
         let prefilter = self.build_prefilter(alloc, patterns)?;
         let settings = &self.settings;
-        let openings = Openings::new(patterns, &settings.pairing);
+        let openings = Openings::new(alloc, patterns, &settings.pairing)?;
         Ok(NFA::from_parts(
             tables,
             lens,

@@ -311,11 +311,11 @@ impl NFA {
         &self.pairing
     }
 
-    /// Where a pattern may begin, by its first bytes; none where the patterns are many, or one has less than two bytes.
-    pub fn openings(&self) -> Option<Openings>
-        ensures { ∥ IfSome result (AreOpenings (built_as self.now).dictionary) ∥₁ }
+    /// Where a pattern may begin, by its first bytes or by sampled grams; none where the patterns are too many or too short for either.
+    pub fn openings(&self) -> &Option<Openings>
+        ensures { ∥ IfSome result.now (AreOpenings (built_as self.now).dictionary) ∥₁ }
     {
-        self.skips.openings
+        &self.skips.openings
     }
 
     /// A copy of the automaton, in memory from `alloc`.
@@ -325,14 +325,8 @@ impl NFA {
         let prefilter = clone_prefilter(alloc, self.prefilter.as_ref())?;
         let lens = self.lens.clone(alloc)?;
         let tables = self.tables.clone(alloc)?;
-        Ok(NFA::from_parts(
-            tables,
-            lens,
-            prefilter,
-            self.skips.openings,
-            self.pairing,
-            self.kind,
-        ))
+        let openings = Openings::clone_any(alloc, &self.skips.openings)?;
+        Ok(NFA::from_parts(tables, lens, prefilter, openings, self.pairing, self.kind))
     }
 
     /// How many bytes of memory it takes, besides itself.
@@ -340,6 +334,7 @@ impl NFA {
         self.tables
             .memory_usage()
             .saturating_add(self.lens.memory_usage())
+            .saturating_add(self.skips.memory_usage())
             .saturating_add(match &self.prefilter {
                 Some(prefilter) => prefilter.memory_usage(),
                 None => 0,

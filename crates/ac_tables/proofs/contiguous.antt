@@ -11,6 +11,9 @@ pub mod LayLemmas
 pub mod LenLemmas
 pub mod MatchLemmas
 pub mod NameLemmas
+pub mod NearCopyLemmas
+pub mod NearFillLemmas
+pub mod NearLemmas
 pub mod NoteRowLemmas
 pub mod PackedLemmas
 pub mod PassingLemmas

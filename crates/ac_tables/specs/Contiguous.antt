@@ -3,6 +3,8 @@ pub mod Builder
 pub mod ByRows
 pub mod Cut
 pub mod Filled
+pub mod Near
+pub mod NearReads
 pub mod Reads
 pub mod Rows
 pub mod Table

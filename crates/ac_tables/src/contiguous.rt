@@ -6,7 +6,8 @@
 //!
 //! Where they take little memory, there are rows beside the words, as those of a DFA: all failures are followed beforehand. A search
 //! that isn't anchored reads on by them, and is about as fast as by a DFA. How much memory they may take is a setting of the
-//! [builder](Builder::row_memory). They change no result and no number of a state.
+//! [builder](Builder::row_memory). Where rows for all states would take more, states near the start alone have some, since a search
+//! spends most of its time there. Rows change no result and no number of a state.
 //!
 //! The words of a state are, in this order:
 //!
@@ -39,10 +40,12 @@
 //! state at 8.
 mod automaton;
 pub mod builder;
+mod by_near;
 mod by_rows;
 mod copies;
 mod filled;
 mod layout;
+mod near;
 mod places;
 mod reads;
 mod rows;
@@ -59,6 +62,7 @@ ghost use Rattle.ac_noncontiguous.specs.Nfa.{IsHeldFor};
 ghost use Rattle.ac_automaton.specs.Skip.{last_special_of};
 ghost use Rattle.ac_literal.specs.Openings.{AreOpenings};
 ghost use Rattle.ac_automaton.specs.Starters.{SkipsBelow};
+ghost use Rattle.ac_tables.specs.Contiguous.Near.{AreNearRows};
 ghost use Rattle.ac_tables.specs.Contiguous.Table.{AreSomeStates, AreContiguousParts};
 ghost use Rattle.ac_tables.specs.Contiguous.WordReads.{IsIdleAt};
 ghost use Rattle.ac_tables.specs.Source.{ShareClasses};
@@ -82,6 +86,8 @@ pub struct NFA {
     table: Table,
     /// Where each byte leads, all failures followed, if the rows are small enough.
     rows: Option<Rows>,
+    /// The same for the states near the start, if the rows of all states aren't small enough.
+    near: Option<Rows>,
     skips: Skips,
     lens: PatternLens,
     /// The last state at which a search has more to do than to read on.
@@ -95,6 +101,7 @@ pub struct NFA {
     ghost shared: { ∥ ShareClasses table.classes unused ∥₁ },
     ghost within: { ∥ IsWithinLimits (dictionary_of lens pairing kind) ∥₁ },
     ghost stands: { AreSomeStates (dictionary_of lens pairing kind) table rows },
+    ghost near_lead: { ∥ IfSome near (AreNearRows (dictionary_of lens pairing kind) table) ∥₁ },
     ghost begins: { skips.start ≡ table.start },
     ghost idle: { ∥ SkipsBelow (IsIdleAt table) 256 skips.starters ∥₁ },
     ghost special: { max_special ≡ last_special_of prefilter table.start_anchored table.max_match },
@@ -129,6 +136,7 @@ impl NFA {
         NFA {
             table,
             rows,
+            near: None,
             skips,
             lens,
             max_special,

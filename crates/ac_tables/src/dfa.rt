@@ -159,13 +159,7 @@ impl DFA {
         let table = self.table.clone(alloc)?;
         let lens = self.lens.clone(alloc)?;
         let prefilter = clone_prefilter(alloc, self.prefilter.as_ref())?;
-        Ok(DFA::from_parts(
-            table,
-            lens,
-            prefilter,
-            self.skips.openings,
-            self.pairing,
-            self.kind,
-        ))
+        let openings = Openings::clone_any(alloc, &self.skips.openings)?;
+        Ok(DFA::from_parts(table, lens, prefilter, openings, self.pairing, self.kind))
     }
 }

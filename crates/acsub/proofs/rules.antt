@@ -1,3 +1,4 @@
+pub mod EscapedLemmas
 pub mod GrammarLemmas
 pub mod LineLemmas
 pub mod SpellingLemmas

@@ -21,7 +21,7 @@ use Rattle.acsub.specs.declared.args.WordsFault.TheVariants.{Help, Bad, Memory, 
 use Rattle.acsub.specs.Masked.{AnswersMaskIn, mask_of}
 use Rattle.acsub.specs.WordRun.{AnswersWordRunIn}
 use Rattle.acsub.specs.Plan.{plan_of}
-use Rattle.acsub.specs.Rules.File.{grammar_of}
+use Rattle.acsub.specs.Rules.File.{asked_form, grammar_of}
 use Rattle.acsub.specs.Run.{RanIn}
 use Rattle.acsub.specs.Stream.{IsReturnedAs}
 use Rattle.acsub.specs.Tool.{IsFaultOf, exit_of, status_of}
@@ -89,27 +89,27 @@ module _ {R W : Type 0} (remaining : R → Option (List ℕ)) (contents : W → 
   abbrev pub RanAsBy : Option ℕ → Bool → Words → Watched R × Watched W → Watched R × Watched W → List ℕ
       → Result (Unit {0}) Fault → Type 0
   RanAsBy None false asked old new file (Ok done) =
-      RanIn remaining contents old new ((grammar_of asked.text).holds file) (plan_of asked.stream asked.settings)
+      RanIn remaining contents old new ((grammar_of (asked_form asked.text false)).holds file) (plan_of asked.stream asked.settings)
       (Ok done)
   RanAsBy None false asked old new file (Err (faults.Run e)) =
-      RanIn remaining contents old new ((grammar_of asked.text).holds file) (plan_of asked.stream asked.settings) (Err e)
+      RanIn remaining contents old new ((grammar_of (asked_form asked.text false)).holds file) (plan_of asked.stream asked.settings) (Err e)
   RanAsBy None false asked old new file (Err other) = ⊥
   RanAsBy None true asked old new file (Ok done) =
-      AnswersWordRunIn remaining contents old new ((grammar_of asked.text).holds file) asked.settings (Ok done)
+      AnswersWordRunIn remaining contents old new ((grammar_of (asked_form asked.text false)).holds file) asked.settings (Ok done)
   RanAsBy None true asked old new file (Err (faults.Refused refusal)) =
-      AnswersWordRunIn remaining contents old new ((grammar_of asked.text).holds file) asked.settings
+      AnswersWordRunIn remaining contents old new ((grammar_of (asked_form asked.text false)).holds file) asked.settings
       (Err (early.Refused refusal))
   RanAsBy None true asked old new file (Err (faults.Run e)) =
-      AnswersWordRunIn remaining contents old new ((grammar_of asked.text).holds file) asked.settings (Err (early.Run e))
+      AnswersWordRunIn remaining contents old new ((grammar_of (asked_form asked.text false)).holds file) asked.settings (Err (early.Run e))
   RanAsBy None true asked old new file (Err other) = ⊥
   RanAsBy (Some byte) word asked old new file (Ok done) =
-      AnswersMaskIn remaining contents old new ((grammar_of asked.text).holds file) asked.settings
+      AnswersMaskIn remaining contents old new ((grammar_of (asked_form asked.text false)).holds file) asked.settings
       (mask_of byte word) (Ok done)
   RanAsBy (Some byte) word asked old new file (Err (faults.Refused refusal)) =
-      AnswersMaskIn remaining contents old new ((grammar_of asked.text).holds file) asked.settings (mask_of byte word)
+      AnswersMaskIn remaining contents old new ((grammar_of (asked_form asked.text false)).holds file) asked.settings (mask_of byte word)
       (Err (early.Refused refusal))
   RanAsBy (Some byte) word asked old new file (Err (faults.Run e)) =
-      AnswersMaskIn remaining contents old new ((grammar_of asked.text).holds file) asked.settings (mask_of byte word)
+      AnswersMaskIn remaining contents old new ((grammar_of (asked_form asked.text false)).holds file) asked.settings (mask_of byte word)
       (Err (early.Run e))
   RanAsBy (Some byte) word asked old new file (Err other) = ⊥
 
@@ -125,7 +125,7 @@ pub record RanFile {F R W : Type 0} (held : F → Option (List ℕ)) (remaining 
   pub is_file : IsFile held file
   pub ran : RanAsked remaining contents asked old new file answer
   pub fault : (n : ℕ)
-      → (answer ≡ Err (faults.Run (errors.Rule (rule_errors.Line n)))) ↔ (grammar_of asked.text).bad file n
+      → (answer ≡ Err (faults.Run (errors.Rule (rule_errors.Line n)))) ↔ (grammar_of (asked_form asked.text false)).bad file n
 
 module _ {F R W : Type 0} (held : F → Option (List ℕ)) (remaining : R → Option (List ℕ))
     (contents : W → Option (List ℕ)) (old new : Watched R × Watched W) where

@@ -9,7 +9,7 @@ mod arguments;
 
 use crate::args::settings::{Engine, Mode, finds_early};
 use crate::args::{Words, WordsFault, read_words};
-use crate::rules::{RuleError, read_rules};
+use crate::rules::{Form, RuleError, read_rules};
 use ac_input::pairing::PairingError;
 use ac_input::search::MatchKind;
 use std::alloc::{AllocError, Global};
@@ -183,7 +183,10 @@ fn hint_for_file<F: Files>(
         Ok(found) if found.is_dir() => Ok(Some(format!(in alloc; "{path} is a folder")?)),
         Ok(found) if !found.is_file() => hint_of(alloc, Some(form_of(asked.text))),
         Ok(_) => match bytes_of(rt, alloc, path) {
-            Ok(bytes) => hint_of(alloc, reason(alloc, asked.text, bytes.as_slice())),
+            Ok(bytes) => hint_of(
+                alloc,
+                reason(alloc, Form::of(asked.text, false), bytes.as_slice()),
+            ),
             Err(error) => Ok(Some(format!(in alloc; "{path}: {error}")?)),
         },
         Err(error) if path == "-" => Ok(Some(format!(in alloc;
@@ -211,11 +214,15 @@ fn form_of(text: bool) -> &'static str {
 }
 
 /// Why the first bad line of a rule file is no rule.
-fn reason(alloc: Global, text: bool, file: &[u8]) -> Option<&'static str> {
-    match read_rules(alloc, text, file) {
-        Err(RuleError::Line(number)) if text => Some(text_reason(line_at(file, number))),
-        Err(RuleError::Line(number)) => Some(hex_reason(line_at(file, number))),
-        _ => None,
+fn reason(alloc: Global, form: Form, file: &[u8]) -> Option<&'static str> {
+    let Err(RuleError::Line(number)) = read_rules(alloc, form, file) else {
+        return None;
+    };
+    let line = line_at(file, number);
+    match form {
+        Form::Hex => Some(hex_reason(line)),
+        _ if number == 1 => foreign_reason(line).or(Some(text_reason(line))),
+        _ => Some(text_reason(line)),
     }
 }
 
@@ -243,11 +250,29 @@ fn hex_reason(line: &[u8]) -> &'static str {
     }
 }
 
-/// Why a line of plain text is no rule.
+/// Why a file is no plain text, by its first line.
+fn foreign_reason(line: &[u8]) -> Option<&'static str> {
+    match line {
+        [0xEF, 0xBB, 0xBF, ..] => Some(
+            "the file begins with a byte order mark; save it as UTF-8 without one",
+        ),
+        [0xFF, 0xFE, ..] | [0xFE, 0xFF, ..] => Some(
+            "the file is in UTF-16; save it as UTF-8 without a byte order mark",
+        ),
+        _ if line.contains(&0) => Some(
+            "line 1 has a NUL, as has a file in UTF-16; save it as UTF-8, or give a NUL as \\0 with --escapes",
+        ),
+        _ => None,
+    }
+}
+
+/// Why a line of text is no rule. With at most one TAB and some pattern, an escape is wrong.
 fn text_reason(line: &[u8]) -> &'static str {
     match line.first() {
         Some(b'\t') => "the line has no pattern before its TAB",
         Some(b'\n' | b'\r') => "the line is empty; a pattern has a byte at least",
+        _ if line.iter().filter(|byte| **byte == b'\t').count() < 2 =>
+            "a backslash is none of \\t, \\n, \\r, \\\\, \\0 and \\xHH; a backslash itself is \\\\",
         _ if has_lone_return(line) =>
             "the line has a CR and a second TAB; lines end in LF or CR LF, not in CR",
         _ => "the line has a second TAB; a rule is pattern TAB replacement",

@@ -1,4 +1,5 @@
-//! Reads rule files of `acsub`. How a line of hex is read stands here, and how one of plain text in [`text`].
+//! Reads rule files of `acsub`. How a line of hex is read stands here, one of plain text in [`text`], and one with escapes in
+//! [`escapes`].
 //!
 //! In a rule file of hex each line is `pattern TAB replacement LF`, two digits of either case a byte on both sides.
 //! Either side may be empty. Anything else, as CR, a space, an empty line, a third column or a last line without LF,
@@ -9,7 +10,7 @@
 //! where it is out of memory. Each pass looks at each byte a few times and never goes back.
 ghost use Rattle.std.specs.Prelude.{◌≡◌, ◌↔◌, ◌==◌, ◌<◌, ℕ, List, length, Contains, IsTrue, IfNone, IfOk, IfErr, IfSome, MatchResult};
 ghost use Rattle.ac_input.specs.Rules.{Rule};
-ghost use Rattle.acsub.specs.Rules.File.{ReadsRules, grammar_of, hex_rules};
+ghost use Rattle.acsub.specs.Rules.File.{ReadsRules, asked_form, grammar_of, hex_rules};
 ghost use Rattle.acsub.specs.Rules.Lines.{BeginsWithLine, HasCount, IsSpelling, IsSplitAt, SpellsRule, rule_at};
 ghost use Rattle.ac_literal.specs.Packed.{bytes_of};
 ghost use Rattle.acsub.specs.Rules.Sides.{rule_of, rule_patterns, replacements_of};
@@ -21,9 +22,35 @@ use std::error::Error;
 use std::fmt;
 use std::marker::Model;
 
+mod escapes;
 mod text;
 
-use crate::rules::text::first_in_text;
+use crate::rules::escapes::{first_escaped, unescape};
+use crate::rules::text::{first_in_text, is_foreign};
+
+/// How a rule file is written.
+#[derive(Clone, Copy, Debug, PartialEq, Eq)]
+pub enum Form {
+    /// Each byte as two hex digits.
+    Hex,
+    /// As plain text.
+    Text,
+    /// As plain text in which a backslash begins an escape.
+    Escaped,
+}
+
+impl Form {
+    /// The form that is asked for: text, and then with escapes, or hex.
+    pub fn of(text: bool, escapes: bool) -> Form
+        ensures { result ≡ asked_form text escapes }
+    {
+        match (text, escapes) {
+            (true, true) => Form::Escaped,
+            (true, false) => Form::Text,
+            (false, _) => Form::Hex,
+        }
+    }
+}
 
 /// Why bytes were not read as a rule file.
 #[derive(Clone, Copy, Debug, PartialEq, Eq)]
@@ -142,25 +169,28 @@ impl Rules {
     }
 }
 
-/// The rules of a rule file of plain text, or of hex.
+/// The rules of a rule file of this form.
 ///
 /// The work is linear in the bytes. Takes memory for the rules and nothing else, and none where a line is bad.
-pub fn read_rules(alloc: Global, text: bool, bytes: &[u8]) -> Result<Rules, RuleError>
-    ensures { ReadsRules text bytes.now result }
+pub fn read_rules(alloc: Global, form: Form, bytes: &[u8]) -> Result<Rules, RuleError>
+    ensures { ReadsRules form bytes.now result }
 {
-    match count_rules(text, bytes) {
-        Ok(count) => keep_rules(alloc, text, bytes, count),
+    match count_rules(form, bytes) {
+        Ok(count) => keep_rules(alloc, form, bytes, count),
         Err(line) => Err(RuleError::Line(line)),
     }
 }
 
 /// The number of rules, or the number of the first bad line.
-fn count_rules(text: bool, bytes: &[u8]) -> Result<usize, usize>
-    ensures { MatchResult result (HasCount text bytes.now) ((grammar_of text).bad bytes.now) }
+fn count_rules(form: Form, bytes: &[u8]) -> Result<usize, usize>
+    ensures { MatchResult result (HasCount form bytes.now) ((grammar_of form).bad bytes.now) }
 {
+    if refuses(form, bytes) {
+        return Err(1);
+    }
     let mut count = 0;
     let mut rest = bytes;
-    while let Some(line) = first_rule(text, rest) {
+    while let Some(line) = first_rule(form, rest) {
         count += 1;
         rest = line.rest;
     }
@@ -171,16 +201,26 @@ fn count_rules(text: bool, bytes: &[u8]) -> Result<usize, usize>
     }
 }
 
+/// Whether the file holds no rules in this form, whatever its lines.
+fn refuses(form: Form, bytes: &[u8]) -> bool
+    ensures { IsTrue result ↔ (grammar_of form).foreign bytes.now }
+{
+    match form {
+        Form::Hex => false,
+        Form::Text | Form::Escaped => is_foreign(bytes),
+    }
+}
+
 /// The rules of bytes that are known to be a rule file, of which there are `count`.
-fn keep_rules(alloc: Global, text: bool, bytes: &[u8], count: usize) -> Result<Rules, RuleError>
-    requires { HasCount text bytes.now count }
-    ensures rules { IfOk result ((grammar_of text).holds bytes.now) }
+fn keep_rules(alloc: Global, form: Form, bytes: &[u8], count: usize) -> Result<Rules, RuleError>
+    requires { HasCount form bytes.now count }
+    ensures rules { IfOk result ((grammar_of form).holds bytes.now) }
     ensures memory { IfErr result (λ e. e ≡ RuleError.Memory) }
 {
     let mut sides = Vec::with_capacity(alloc, count)?;
     let mut rest = bytes;
-    while let Some(line) = first_rule(text, rest) {
-        sides.push(keep_line(alloc, text, &line)?)?;
+    while let Some(line) = first_rule(form, rest) {
+        sides.push(keep_line(alloc, form, &line)?)?;
         rest = line.rest;
     }
     Ok(Rules { sides })
@@ -195,13 +235,13 @@ struct RuleLine<'a> {
 }
 
 /// The rule that the bytes begin with, as it is written.
-fn first_rule(text: bool, bytes: &[u8]) -> Option<RuleLine<'_>>
-    ensures { BeginsWithLine (grammar_of text) bytes.now result }
+fn first_rule(form: Form, bytes: &[u8]) -> Option<RuleLine<'_>>
+    ensures { BeginsWithLine (grammar_of form) bytes.now result }
 {
-    if text {
-        first_in_text(bytes)
-    } else {
-        first_in_hex(bytes)
+    match form {
+        Form::Hex => first_in_hex(bytes),
+        Form::Text => first_in_text(bytes),
+        Form::Escaped => first_escaped(bytes),
     }
 }
 
@@ -239,27 +279,27 @@ fn is_spelling(text: &[u8]) -> bool
 }
 
 /// Both sides of a line, as bytes of their own.
-fn keep_line(alloc: Global, text: bool, line: &RuleLine<'_>) -> Result<Sides, RuleError>
-    requires { (rule : Rule) × SpellsRule (grammar_of text) line.now rule }
-    ensures sides { IfOk result (λ sides. SpellsRule (grammar_of text) line.now (rule_of sides)) }
+fn keep_line(alloc: Global, form: Form, line: &RuleLine<'_>) -> Result<Sides, RuleError>
+    requires { (rule : Rule) × SpellsRule (grammar_of form) line.now rule }
+    ensures sides { IfOk result (λ sides. SpellsRule (grammar_of form) line.now (rule_of sides)) }
     ensures memory { IfErr result (λ e. e ≡ RuleError.Memory) }
 {
     Ok(Sides {
-        pattern: keep_side(alloc, text, line.pattern)?,
-        replacement: keep_side(alloc, text, line.replacement)?,
+        pattern: keep_side(alloc, form, line.pattern)?,
+        replacement: keep_side(alloc, form, line.replacement)?,
     })
 }
 
-/// The bytes that a side stands for: in plain text those that are written.
-fn keep_side(alloc: Global, text: bool, side: &[u8]) -> Result<Vec<u8>, RuleError>
-    requires { (bytes : List ℕ) × (grammar_of text).spells side.now bytes }
-    ensures side { IfOk result (λ bytes. (grammar_of text).spells side.now bytes.items) }
+/// The bytes that a side stands for.
+fn keep_side(alloc: Global, form: Form, side: &[u8]) -> Result<Vec<u8>, RuleError>
+    requires { (bytes : List ℕ) × (grammar_of form).spells side.now bytes }
+    ensures side { IfOk result (λ bytes. (grammar_of form).spells side.now bytes.items) }
     ensures memory { IfErr result (λ e. e ≡ RuleError.Memory) }
 {
-    if text {
-        Ok(Vec::from_slice(alloc, side)?)
-    } else {
+    match form {
         // The side is known to be hex, so memory is all that can fail.
-        hex::decode(alloc, side).map_err(|_| RuleError::Memory)
+        Form::Hex => hex::decode(alloc, side).map_err(|_| RuleError::Memory),
+        Form::Text => Ok(Vec::from_slice(alloc, side)?),
+        Form::Escaped => Ok(unescape(alloc, side)?),
     }
 }

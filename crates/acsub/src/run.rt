@@ -1,6 +1,6 @@
 //! A run: rules and settings in, an input read to its end, its text written.
 //!
-//! [`run`] reads the rules from a file of hex, and [`run_rules`] takes rules that have been read, from whichever form.
+//! [`run`] reads the rules from a file of hex, [`run_in`] from a file of any form, and [`run_rules`] takes rules that have been read.
 //!
 //! Under the standard kind no later byte can change a match. So a run that replaces or lists such matches, none of them empty,
 //! writes while it reads. Everything that is decided is written before each read; at most as many bytes are held back as the
@@ -33,7 +33,7 @@ use crate::error::RunError;
 use crate::input::read_whole;
 use crate::prepared::{Prepared, prepare};
 use crate::rewrite::{send_list, send_replaced};
-use crate::rules::{RuleError, Rules, read_rules};
+use crate::rules::{Form, RuleError, Rules, read_rules};
 use crate::stream::{stream_text, told};
 use ac_automaton::error::StreamError;
 use ac_automaton::output::Output;
@@ -46,8 +46,8 @@ use std::io::{Read, Write};
 #[derive(Clone, Copy)]
 pub struct Request {
     pub settings: Settings,
-    /// Whether the rule file is of plain text, and not of hex.
-    pub text: bool,
+    /// How the rule file is written.
+    pub form: Form,
     /// Whether the text is asked for while the input is read, under every kind.
     pub stream: bool,
 }
@@ -97,13 +97,13 @@ pub fn run_counted<R: Read, W: Write>(
 {
     let asked = Request {
         settings: *settings,
-        text: false,
+        form: Form::Hex,
         stream: false,
     };
     run_in(alloc, asked, rules, reader, writer, steps)
 }
 
-/// The same, by a rule file of plain text or of hex, and asked to write while it reads, or not.
+/// The same, by a rule file of any form, and asked to write while it reads, or not.
 pub fn run_in<R: Read, W: Write>(
     alloc: Global,
     asked: Request,
@@ -114,12 +114,12 @@ pub fn run_in<R: Read, W: Write>(
 ) -> Result<(), RunError>
     requires { reader.old.ended ≡ false }
     ensures answered { RanIn R.remaining W.contents (reader.old, writer.old) (reader.new, writer.new)
-        ((grammar_of asked.text).holds file.now) (plan_of asked.stream asked.settings) result }
-    ensures fault { (n : ℕ) → (result ≡ Err (Rule (Line n))) ↔ (grammar_of asked.text).bad file.now n }
-    ensures cost { CostsIn ((grammar_of asked.text).holds file.now) (plan_of asked.stream asked.settings)
+        ((grammar_of asked.form).holds file.now) (plan_of asked.stream asked.settings) result }
+    ensures fault { (n : ℕ) → (result ≡ Err (Rule (Line n))) ↔ (grammar_of asked.form).bad file.now n }
+    ensures cost { CostsIn ((grammar_of asked.form).holds file.now) (plan_of asked.stream asked.settings)
         reader.old reader.new steps.old steps.new result }
 {
-    match read_rules(alloc, asked.text, file) {
+    match read_rules(alloc, asked.form, file) {
         Ok(rules) => {
             let settings = &asked.settings;
             run_rules_counted(alloc, settings, asked.stream, &rules, reader, writer, steps)

@@ -9,7 +9,7 @@ ghost use Rattle.std.specs.Prelude.{◌≡◌, ◌↔◌, ℕ, Err, false, map, 
 ghost use Rattle.std.specs.IoError.{error_kind};
 ghost use Rattle.std.specs.Process.{exit_status};
 ghost use Rattle.acsub.specs.Outcome.{AnswersHelp, AnswersTool, Collects, EndsProgram, EndsTool, Finishes, RanAsked, ReadsFile, WritesText};
-ghost use Rattle.acsub.specs.Rules.File.{grammar_of};
+ghost use Rattle.acsub.specs.Rules.File.{asked_form, grammar_of};
 ghost use Rattle.acsub.specs.declared.error.RunError.TheVariants.{Rule};
 ghost use Rattle.acsub.specs.declared.rules.RuleError.TheVariants.{Line};
 ghost use Rattle.acsub.specs.declared.tool.Fault.TheVariants.{Run};
@@ -19,6 +19,7 @@ use crate::args::{Words, WordsFault, read_words};
 use crate::early::{EarlyError, Refusal};
 use crate::error::RunError;
 use crate::mask::{Mask, run_mask_in};
+use crate::rules::Form;
 use crate::run::{Request, run_in};
 use crate::stream::told;
 use crate::word::run_words_in;
@@ -230,11 +231,11 @@ fn serve<R: Read, W: Write>(
     ensures ran { RanAsked R.remaining W.contents asked.now (reader.old, writer.old) (reader.new, writer.new)
         file.now result }
     ensures fault { (n : ℕ) → (result ≡ Err (Run (Rule (Line n))))
-        ↔ (grammar_of asked.now.text).bad file.now n }
+        ↔ (grammar_of (asked_form asked.now.text false)).bad file.now n }
 {
     let wanted = Request {
         settings: asked.settings,
-        text: asked.text,
+        form: Form::of(asked.text, false),
         stream: asked.stream,
     };
     let word = asked.word;

@@ -66,7 +66,7 @@ pub fn run_words_counted<R: Read, W: Write>(
     Ok(told(written)?)
 }
 
-/// The same, by a rule file of plain text or of hex. Which bad line comes first is reported before all else.
+/// The same, by a rule file. Which bad line comes first is reported before all else.
 pub fn run_words_in<R: Read, W: Write>(
     alloc: Global,
     asked: Request,
@@ -76,10 +76,10 @@ pub fn run_words_in<R: Read, W: Write>(
 ) -> Result<(), EarlyError>
     requires { reader.old.ended ≡ false }
     ensures answered { AnswersWordRunIn R.remaining W.contents (reader.old, writer.old) (reader.new, writer.new)
-        ((grammar_of asked.text).holds file.now) asked.settings result }
-    ensures fault { (n : ℕ) → (result ≡ Err (Run (Rule (Line n)))) ↔ (grammar_of asked.text).bad file.now n }
+        ((grammar_of asked.form).holds file.now) asked.settings result }
+    ensures fault { (n : ℕ) → (result ≡ Err (Run (Rule (Line n)))) ↔ (grammar_of asked.form).bad file.now n }
 {
-    match read_rules(alloc, asked.text, file) {
+    match read_rules(alloc, asked.form, file) {
         Ok(rules) => run_words(alloc, &asked.settings, &rules, reader, writer),
         Err(error) => Err(EarlyError::Run(unread(error))),
     }

@@ -11,6 +11,8 @@ pub struct Long {
     letters: &'static [u8],
     patterns: usize,
     pattern_len: usize,
+    /// Whether there are patterns of one letter more, too: under a leftmost kind a match may grow into one of these.
+    longer: bool,
     /// Whether there is an empty pattern, too. Then nothing is read ahead, and a stream is refused.
     pub empty: bool,
     from: &'static [u8],
@@ -23,6 +25,7 @@ pub const LONG: &[Long] = &[
         letters: b"abcdefghij",
         patterns: 150,
         pattern_len: 3,
+        longer: false,
         empty: false,
         from: b"abcdefghij  ",
         text_lens: &[1023, 1024, 1025, 4095, 4096, 4097, 8193, 20000],
@@ -32,8 +35,19 @@ pub const LONG: &[Long] = &[
         letters: b"abcdefghijkl",
         patterns: 144,
         pattern_len: 2,
+        longer: false,
         empty: false,
         from: b"abcdefghijkl ",
+        text_lens: &[9000],
+    },
+    // patterns of two letters and of three
+    Long {
+        letters: b"abcdefghijkl",
+        patterns: 90,
+        pattern_len: 2,
+        longer: true,
+        empty: false,
+        from: b"abcdefghijkl    ",
         text_lens: &[9000],
     },
     // each letter is a pattern
@@ -41,6 +55,7 @@ pub const LONG: &[Long] = &[
         letters: b"abcdefghij",
         patterns: 20,
         pattern_len: 1,
+        longer: false,
         empty: false,
         from: b"abcdefghij\n.,;",
         text_lens: &[9000],
@@ -50,6 +65,7 @@ pub const LONG: &[Long] = &[
         letters: b"abcdefgh",
         patterns: 150,
         pattern_len: 4,
+        longer: false,
         empty: false,
         from: b"abcdefgh",
         text_lens: &[9000],
@@ -59,6 +75,7 @@ pub const LONG: &[Long] = &[
         letters: b"ab",
         patterns: 140,
         pattern_len: 9,
+        longer: false,
         empty: false,
         from: b"abababababababab-",
         text_lens: &[9000],
@@ -68,6 +85,7 @@ pub const LONG: &[Long] = &[
         letters: b"abcdefghij",
         patterns: 120,
         pattern_len: 3,
+        longer: false,
         empty: true,
         from: b"abcdefghij  ",
         text_lens: &[3000],
@@ -88,6 +106,11 @@ impl Long {
         letters: &'l [u8],
     ) -> Result<Vec<&'l [u8]>, AllocError> {
         let mut patterns: Vec<&[u8]> = letters.chunks(self.pattern_len.max(1)).collect(alloc)?;
+        if self.longer {
+            for pattern in letters.chunks(self.pattern_len.saturating_add(1)) {
+                patterns.push(pattern)?;
+            }
+        }
         if self.empty {
             patterns.push(b"")?;
         }

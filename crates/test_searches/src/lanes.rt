@@ -4,16 +4,16 @@ use ac_input::search::MatchKind;
 use std::alloc::Global;
 use std::process::Abort;
 use std::test::Fail;
-use test_rows::drawn::Drawn;
+use test_rows::drawn::{Drawn, KINDS};
 use test_rows::engines::Asked;
 use test_rows::engines::Letters::Cased;
 use test_rows::lanes::{LONG, Long};
 
-/// Compares the matches of each text.
-fn is_alike<T: Abort>(rt: &T, alloc: Global, row: &Long) -> Result<(), Fail> {
+/// Compares the matches of each text under a kind.
+fn is_alike<T: Abort>(rt: &T, alloc: Global, row: &Long, kind: MatchKind) -> Result<(), Fail> {
     let letters = row.letters(alloc)?;
     let patterns = row.patterns(alloc, &letters)?;
-    let asked = Asked::of(&patterns, MatchKind::Standard, Cased);
+    let asked = Asked::of(&patterns, kind, Cased);
     for len in row.text_lens {
         let text = row.text(alloc, *len)?;
         walks_are_alike(rt, alloc, Drawn { asked, text: &text })?;
@@ -24,7 +24,9 @@ fn is_alike<T: Abort>(rt: &T, alloc: Global, row: &Long) -> Result<(), Fail> {
 #[test]
 fn lanes_change_no_match(rt: HostRuntime) -> Result<(), Fail> {
     for row in LONG {
-        is_alike(&rt, rt.alloc(), row)?;
+        for kind in KINDS {
+            is_alike(&rt, rt.alloc(), row, kind)?;
+        }
     }
     Ok(())
 }

@@ -155,7 +155,8 @@ impl AhoCorasick {
 
     /// The matches one after another; no two of them overlap.
     ///
-    /// The first is found without reading on; further ones are found some at a time.
+    /// The first is found without reading on; further ones are found some at a time. Over fewer than 512 bytes each is found alone, and
+    /// the iterator takes no memory.
     pub fn find_iter<'a, 'h, I: Into<Input<'h>>>(&'a self, input: I) -> FindIter<'a, 'h> {
         supported(self.try_find_iter(input))
     }

@@ -81,15 +81,21 @@ impl Handle {
         }
     }
 
+    #[inline]
     pub(crate) fn find(&self, haystack: &[u8], span: sys::dado_span) -> Result<Option<sys::dado_match>, sys::dado_status> {
         let mut found = sys::dado_match::default();
         // SAFETY: the automaton is lent, and so is the haystack.
         let status = unsafe { sys::dado_find_in(self.0.as_ptr(), haystack.as_ptr(), haystack.len(), span, &mut found) };
-        match status {
-            sys::DADO_OK => Ok(Some(found)),
-            sys::DADO_NONE => Ok(None),
-            other => Err(other),
-        }
+        one(status, found)
+    }
+
+    /// The next match of a walk, if there is one.
+    #[inline]
+    pub(crate) fn next(&self, haystack: &[u8], cursor: &mut sys::dado_cursor) -> Result<Option<sys::dado_match>, sys::dado_status> {
+        let mut found = sys::dado_match::default();
+        // SAFETY: the automaton, the haystack and the cursor are lent.
+        let status = unsafe { sys::dado_next(self.0.as_ptr(), haystack.as_ptr(), haystack.len(), cursor, &mut found) };
+        one(status, found)
     }
 
     /// The next matches of a walk, as many as there is room for; how many there are.
@@ -383,6 +389,14 @@ impl Masker {
 /// The bytes where the library reads them.
 fn lent(bytes: &[u8]) -> sys::dado_bytes {
     sys::dado_bytes { at: bytes.as_ptr(), len: bytes.len() }
+}
+
+fn one(status: sys::dado_status, found: sys::dado_match) -> Result<Option<sys::dado_match>, sys::dado_status> {
+    match status {
+        sys::DADO_OK => Ok(Some(found)),
+        sys::DADO_NONE => Ok(None),
+        other => Err(other),
+    }
 }
 
 fn counted(status: sys::dado_status, count: usize) -> Result<usize, sys::dado_status> {

@@ -11,6 +11,9 @@ use crate::{AhoCorasick, Input, Match, PatternID};
 /// How many matches the library is asked for at once, at most.
 const MOST_AT_ONCE: usize = 256;
 
+/// A walk with fewer bytes before it asks for one match at a time, and takes no memory.
+const FEW: usize = 512;
+
 /// Matches that were found and not yet given.
 #[derive(Debug, Default)]
 pub(crate) struct Batch {
@@ -24,7 +27,7 @@ impl Batch {
     /// The next match. Where none is left, further ones are found: one at first, and then four times as many as before.
     #[inline]
     pub(crate) fn next(&mut self, some: impl FnOnce(&mut [sys::dado_match]) -> usize) -> Option<sys::dado_match> {
-        if self.given == self.count {
+        if self.is_given() {
             if self.ended {
                 return None;
             }
@@ -41,6 +44,12 @@ impl Batch {
         self.count = some(&mut self.room);
         self.given = 0;
         self.ended = self.count < self.room.len();
+    }
+
+    /// Whether all that was found was given.
+    #[inline]
+    fn is_given(&self) -> bool {
+        self.given == self.count
     }
 
     /// Nothing was found that wasn't given, and a walk over more may find something.
@@ -82,6 +91,7 @@ pub struct FindIter<'a, 'h> {
 }
 
 impl<'a, 'h> FindIter<'a, 'h> {
+    #[inline]
     pub(crate) fn new(ac: &'a AhoCorasick, input: &Input<'h>) -> FindIter<'a, 'h> {
         FindIter { handle: ac.handle(), haystack: input.bytes(), cursor: cursor_of(input), batch: Batch::default() }
     }
@@ -93,6 +103,9 @@ impl Iterator for FindIter<'_, '_> {
     #[inline]
     fn next(&mut self) -> Option<Match> {
         let FindIter { handle, haystack, cursor, batch } = self;
+        if batch.is_given() && cursor.end.saturating_sub(cursor.start) < FEW {
+            return unfailing(handle.next(haystack, cursor)).map(found);
+        }
         batch.next(|out| unfailing(handle.some(haystack, cursor, out))).map(found)
     }
 }

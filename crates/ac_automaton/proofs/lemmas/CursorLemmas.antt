@@ -289,19 +289,25 @@ cursor-read {Reaches} {s} {cursor} sid taken is fits leads =
           (leads (read_to (walked s cursor) cursor.at) is.reads);
     }
 
--- what the cursor met on its way, and what reading on cost
-pub cursor-read_on : (b : Built) (Reaches : Anchored → List ℕ → StateID → Type 0) (anchored : Anchored)
-    (matches : StateID → List ℕ) (starts special : StateID → Bool) {s : Search} {cursor : Cursor} (sid : StateID)
-    (taken : ℕ) (x y : Steps) → IsCursor (Reaches anchored) s cursor → 0 < taken → taken ≤ s.end - cursor.at
-    → ((text : List ℕ) (state : StateID) → Reaches anchored text state
-    → Tells b.dictionary anchored text (matches state))
-    → ((text : List ℕ) (state : StateID) → Reaches anchored text state
-    → (IsTrue (special state) ↔ IsSpecial b (matches state) (starts state) anchored text))
-    → PassesPlain (Reaches anchored) special cursor.sid (slice_range s.haystack cursor.at s.end) taken
+-- a part of a haystack, from a part that ends later
+part-alone : (haystack : List ℕ) (at end n : ℕ) → n ≤ end - at
+    → take n (slice_range haystack at end) ≡ slice_range haystack at (at + n)
+part-alone haystack at end n fits =
+    let one : take n (take (end - at) (drop at haystack)) ≡ take n (drop at haystack) =
+    take-take n (end - at) (drop at haystack) fits in
+    let size : n ≡ at + n - at = omega arith in
+    one ∙ ap (λ k. take k (drop at haystack)) size
+
+-- what reading on cost a cursor that stands in a search up to a place
+pub cursor-looks : (b : Built) (Reaches : Anchored → List ℕ → StateID → Type 0) (anchored : Anchored) {s : Search}
+    {cursor : Cursor} (taken : ℕ) (x y : Steps) → IsCursor (Reaches anchored) s cursor → taken ≤ s.end - cursor.at
     → IsReadCost b Reaches anchored cursor.sid (take taken (slice_range s.haystack cursor.at s.end)) x y
-    → HasReadOn b anchored s cursor (record { sid = sid; from = cursor.from; at = cursor.at + taken }) x y
-cursor-read_on b Reaches anchored matches starts special {s} {cursor} sid taken x y is some fits tells stops plain cost
-    =
+    → (live live_after : Option ℕ)
+    → IsLive b.dictionary (is_anchored anchored) (read_to (walked s cursor) cursor.at) live
+    → IsLive b.dictionary (is_anchored anchored) (read_to (walked s cursor) (cursor.at + taken)) live_after
+    → IsLookups b.deterministic (cursor.at + taken - cursor.at) (live_len (read_to (walked s cursor) cursor.at) live)
+    (live_len (read_to (walked s cursor) (cursor.at + taken)) live_after) x y
+cursor-looks b Reaches anchored {s} {cursor} taken x y is fits cost p q g k =
     let m = b.dictionary in
     let h = s.haystack in
     let bytes = slice_range h cursor.at s.end in
@@ -315,6 +321,31 @@ cursor-read_on b Reaches anchored matches starts special {s} {cursor} sid taken 
     part-alone h cursor.at s.end taken fits in
     let long : length (take taken bytes) ≡ cursor.at + taken - cursor.at = ap length same
     ∙ slice_range-length h cursor.at (omega arith) (omega arith) in
+    let after : IsLive m (is_anchored anchored) (slice_range h cursor.from cursor.at ++ take taken bytes) q =
+    subst (λ l. IsLive m (is_anchored anchored) l q) (sym joined) k in
+    let done = cost (slice_range h cursor.from cursor.at) p q here g after in
+    subst (λ n. IsLookups b.deterministic n (live_len (slice_range h cursor.from cursor.at) p)
+    (live_len (slice_range h cursor.from (cursor.at + taken)) q) x y) long
+    (subst (λ l. IsLookups b.deterministic (length (take taken bytes))
+    (live_len (slice_range h cursor.from cursor.at) p) (live_len l q) x y) joined done)
+
+-- what the cursor met on its way, and what reading on cost
+pub cursor-read_on : (b : Built) (Reaches : Anchored → List ℕ → StateID → Type 0) (anchored : Anchored)
+    (matches : StateID → List ℕ) (starts special : StateID → Bool) {s : Search} {cursor : Cursor} (sid : StateID)
+    (taken : ℕ) (x y : Steps) → IsCursor (Reaches anchored) s cursor → 0 < taken → taken ≤ s.end - cursor.at
+    → ((text : List ℕ) (state : StateID) → Reaches anchored text state
+    → Tells b.dictionary anchored text (matches state))
+    → ((text : List ℕ) (state : StateID) → Reaches anchored text state
+    → (IsTrue (special state) ↔ IsSpecial b (matches state) (starts state) anchored text))
+    → PassesPlain (Reaches anchored) special cursor.sid (slice_range s.haystack cursor.at s.end) taken
+    → IsReadCost b Reaches anchored cursor.sid (take taken (slice_range s.haystack cursor.at s.end)) x y
+    → HasReadOn b anchored s cursor (record { sid = sid; from = cursor.from; at = cursor.at + taken }) x y
+cursor-read_on b Reaches anchored matches starts special {s} {cursor} sid taken x y is some fits tells stops plain cost
+    =
+    let h = s.haystack in
+    let bytes = slice_range h cursor.at s.end in
+    let here = is.reads in
+    let ordered = is.ordered in
     record {
       further = omega arith;
       quiet = λ at lt le.
@@ -327,20 +358,5 @@ cursor-read_on b Reaches anchored matches starts special {s} {cursor} sid taken 
           subst (λ l. Reaches anchored l mid.0) text (mid.1 (slice_range h cursor.from cursor.at) here) in
           plain-quiet b anchored (slice_range h cursor.from at) (matches mid.0) (starts mid.0) (special mid.0)
           (tells _ mid.0 reads) (stops _ mid.0 reads) mid.2;
-      lookups = λ p q g k.
-          let after : IsLive m (is_anchored anchored) (slice_range h cursor.from cursor.at ++ take taken bytes) q =
-          subst (λ l. IsLive m (is_anchored anchored) l q) (sym joined) k in
-          let done = cost (slice_range h cursor.from cursor.at) p q here g after in
-          subst (λ n. IsLookups b.deterministic n (live_len (slice_range h cursor.from cursor.at) p)
-          (live_len (slice_range h cursor.from (cursor.at + taken)) q) x y) long
-          (subst (λ l. IsLookups b.deterministic (length (take taken bytes))
-          (live_len (slice_range h cursor.from cursor.at) p) (live_len l q) x y) joined done);
+      lookups = cursor-looks b Reaches anchored taken x y is fits cost;
     }
-  where
-    part-alone : (haystack : List ℕ) (at end n : ℕ) → n ≤ end - at
-        → take n (slice_range haystack at end) ≡ slice_range haystack at (at + n)
-    part-alone haystack at end n fits2 =
-        let one : take n (take (end - at) (drop at haystack)) ≡ take n (drop at haystack) =
-        take-take n (end - at) (drop at haystack) fits2 in
-        let size : n ≡ at + n - at = omega arith in
-        one ∙ ap (λ k. take k (drop at haystack)) size

@@ -4,7 +4,6 @@ use Rattle.std.proofs.Common.{◌≡◌, inl, inr, ⊎_elim, ℕ, ◌+◌, ◌-�
 use Rattle.std.specs.Coded.{le_prop}
 use Rattle.std.specs.Prelude.{slice_index, IfSome}
 use Rattle.std.proofs.Math.Logic.{∥∥₁_elim}
-use Rattle.std.proofs.Props.{props}
 use Rattle.std.proofs.lemmas.Bool.{cases_lt}
 use Rattle.std.proofs.lemmas.List.{append_assoc, get_or-drop, length-take-le}
 use Rattle.ac_input.specs.Number.{StateID}
@@ -258,15 +257,10 @@ opened : {m : Dictionary} {held : Option Openings} {openings : Openings} → hel
 opened {m} {openings} is h =
     record {
       short = λ n p pattern. ∥∥₁_elim there le_prop (λ w. w.short n p pattern);
-      marks = λ text at opens. record {
-        left = λ none. ∥∥₁_elim there (λ x y. absurd x) (λ w. (w.marks text at opens).left none);
-        printed = ∥∥₁_elim there (equal-prop _ _) (λ w. (w.marks text at opens).printed);
-      };
+      marks = λ text at opens cannot.
+          ∥∥₁_elim there (λ x y. absurd x) (λ w. w.marks text at opens cannot);
     }
   where
-    equal-prop : (a b : ℕ) → IsProp (a ≡ b)
-    equal-prop a b = hlevel props
-
     there : ∥ AreOpenings m openings ∥₁
     there = subst (λ o. ∥ IfSome o (AreOpenings m) ∥₁) is h
 

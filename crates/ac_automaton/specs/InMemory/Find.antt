@@ -7,6 +7,7 @@ use Rattle.ac_input.specs.Number.{StateID}
 use Rattle.ac_input.specs.declared.search.Anchored.{Anchored}
 use Rattle.ac_input.specs.declared.search.Anchored.TheVariants.{No, Yes}
 use Rattle.ac_input.specs.declared.search.MatchKind.{MatchKind}
+use Rattle.ac_input.specs.declared.search.MatchKind.TheVariants.{Standard}
 use Rattle.ac_input.specs.declared.steps.Steps.{Steps}
 use Rattle.ac_input.specs.Best.{IsBest}
 use Rattle.ac_input.specs.Candidate.{Filter}
@@ -114,6 +115,22 @@ abbrev pub IsUsable : Built → (StateID → List ℕ) → Anchored → StateID 
 IsUsable b matches anchored start (Some p) =
     (p.now.dictionary ≡ b.dictionary) × (anchored ≡ No) × (matches start ≡ []) × (b.prefilter ≡ Some p.now)
 IsUsable b matches anchored start None = (anchored ≡ Yes) ⊎ (matches start ≢ []) ⊎ (b.prefilter ≡ None)
+
+-- A find of fewer bytes runs no prefilter.
+abbrev pub least_filtered : ℕ
+least_filtered = 64
+
+-- an input of so few bytes that a find of it runs no prefilter
+abbrev pub IsShort : Asked → Type 0
+IsShort asked = asked.span.end - asked.span.start < least_filtered
+
+-- A search is over at the first state that matches, and there is none before a byte is read: it isn't anchored, the first match wins, the
+-- start doesn't match, and there are bytes.
+pub record EndsAtFirst {S : Type 0} (A : Ghosts S) (automaton : S) (asked : Asked) (start : StateID) : Type 0 where
+  pub free : asked.anchored ≡ No
+  pub first : kind_asked (A.built automaton) asked ≡ Standard
+  pub some : asked.span.start < asked.span.end
+  pub quiet : ¬ (A.matches automaton start ≢ [])
 
 -- If a search is back at a start where no pattern matches, none of the bytes read is live.
 abbrev pub BackIsEmpty : {S : Type 0} → Ghosts S → S → StateID → Bool → Type 0

@@ -4,7 +4,7 @@
 //! it. Under a leftmost kind a later match is better than an earlier one, since the automaton stores no others. So the walk keeps
 //! the last one, and ends where no more can come.
 //!
-//! Without a prefilter a search is one walk over the span. With one, the prefilter runs first, and the walk begins at its
+//! Without a prefilter, and over few bytes, a search is one walk over the span. Else the prefilter runs first, and the walk begins at its
 //! candidate: bytes that it skips cost no look at a state. When the walk is back at the start of the automaton, nothing that was
 //! read can grow into a match any more, and the prefilter runs again from there. Each walk ends further on than it began.
 //!
@@ -14,15 +14,17 @@
 //! A prefilter may return the match itself. It is the best of the automaton's kind, so an earliest search, which stops at the
 //! first end, uses only its place and walks from there.
 //!
-//! A walk stands on `cursor`, which is its place and state. `ahead` is the same search by what was read ahead.
-ghost use Rattle.std.specs.Prelude.{◌≡◌, ◌≢◌, ◌↔◌, ℕ, ◌<◌, ◌≤◌, List, [], IfSome, IsTrue, Some};
+//! A walk stands on `cursor`, which is its place and state. `plain` is the search without a prefilter, and `ahead` is the same by what was
+//! read ahead.
+ghost use Rattle.std.specs.Prelude.{◌≡◌, ◌≢◌, ◌↔◌, ℕ, ◌<◌, ◌≤◌, List, [], IfSome, IsTrue, None, Some};
 ghost use Rattle.ac_automaton.specs.Automaton.{Finds, CostsFind, IsFindCost, IsFound, IsState, kind_asked};
-ghost use Rattle.ac_automaton.specs.InMemory.Find.Cursor.{IsFirstAt, IsReachedWithin, IsTaken, IsWholeTaken, ReadsFurther, StandsIn};
-ghost use Rattle.ac_automaton.specs.InMemory.Find.{BackIsEmpty, CandidateCounts, CandidateEnds, IsCandidateCost, IsSearchCost, IsUsable, IsWalkCost, SearchCounts, WalkLooks, WalkSays};
+ghost use Rattle.ac_automaton.specs.InMemory.Find.Cursor.{HasNoneYet, IsFirstAt, IsReachedWithin, IsTaken, IsWholeTaken, ReadsFurther, StandsIn};
+ghost use Rattle.ac_automaton.specs.InMemory.Find.{BackIsEmpty, CandidateCounts, CandidateEnds, IsCandidateCost, IsSearchCost, IsShort, IsUsable, IsWalkCost, SearchCounts, WalkLooks, WalkSays};
 ghost use Rattle.ac_automaton.specs.InMemory.Items.{FindsWithin};
 
 pub(crate) mod ahead;
 pub(crate) mod cursor;
+pub(crate) mod plain;
 
 use crate::automaton::Automaton;
 use crate::error::MatchError;
@@ -35,6 +37,9 @@ use ac_literal::prefilter::Prefilter;
 
 /// How many bytes a prefilter has to skip to be worth its call.
 const COST: usize = 64;
+
+/// A search of fewer bytes runs no prefilter.
+const FEW: usize = 64;
 
 /// The first of the patterns that match at a state, where the search isn't anchored. It ends at the place.
 pub(crate) fn first_match<A: Automaton>(automaton: &A, sid: StateID, at: usize) -> Match
@@ -84,7 +89,7 @@ fn match_at<A: Automaton>(automaton: &A, input: &Input<'_>, cursor: &Cursor) -> 
 }
 
 /// Whether the first match that is found is the result.
-fn takes_first<A: Automaton>(automaton: &A, input: &Input<'_>) -> bool
+pub(crate) fn takes_first<A: Automaton>(automaton: &A, input: &Input<'_>) -> bool
     ensures { IsTrue result ↔ (kind_asked (A.built automaton.now) input.now ≡ MatchKind.Standard) }
 {
     match automaton.match_kind().asked(input.get_earliest()) {
@@ -105,28 +110,30 @@ pub(crate) fn is_back<A: Automaton>(automaton: &A, input: &Input<'_>, sid: State
     }
 }
 
-/// Reads on to the next special state, or to the end of the span. Under the standard kind a start is none up to a place.
+/// Reads on to the next special state, or to the end of the span. Where no match was met, a start is none up to a place.
 fn read_past_starts<A: Automaton>(
     automaton: &A,
     input: &Input<'_>,
     cursor: Cursor,
+    none_yet: bool,
     until: usize,
     steps: &mut Steps,
 ) -> Cursor
     requires stands { StandsIn (A.built automaton.now) (A.Reaches automaton.now) input.now cursor }
+    requires none { IsTrue none_yet → input.now.anchored ≡ Anchored.No → HasNoneYet (A.built automaton.now) input.now cursor }
     requires open { cursor.at < input.now.span.end }
     ensures stands { StandsIn (A.built automaton.now) (A.Reaches automaton.now) input.now result }
     ensures from { result.from ≡ cursor.from }
     ensures on { ReadsFurther (A.built automaton.now) input.now cursor result steps.old steps.new }
 {
     let is_free = input.get_anchored() == Anchored::No;
-    if cursor.at < until && is_free && automaton.match_kind() == MatchKind::Standard {
+    if cursor.at < until && is_free && none_yet {
         return read_to_match(automaton, input, cursor, until, steps);
     }
     read_on(automaton, input, cursor, steps)
 }
 
-/// Walks from the start state over the rest of the span, from a place on. Under the standard kind it doesn't stop at a start
+/// Walks from the start state over the rest of the span, from a place on. As long as it has met no match, it doesn't stop at a start
 /// before `until`.
 fn walk<A: Automaton>(
     automaton: &A,
@@ -161,7 +168,8 @@ fn walk<A: Automaton>(
         if best.is_none() && cursor.at > at && is_back(automaton, input, cursor.sid) {
             return End::Idle(cursor.at);
         }
-        cursor = read_past_starts(automaton, input, cursor, until, steps);
+        let none_yet = best.is_none();
+        cursor = read_past_starts(automaton, input, cursor, none_yet, until, steps);
     }
 }
 
@@ -245,7 +253,7 @@ fn search_from_candidate<A: Automaton>(
     ensures counts { SearchCounts (A.built automaton.now) input.now at result steps.old steps.new }
 {
     let Some(prefilter) = prefilter else {
-        return walk(automaton, input, start, at, at, steps);
+        return walk(automaton, input, start, at, input.end(), steps);
     };
     if automaton.match_kind() == MatchKind::Standard {
         if let Some(until) = gain.leaves(at) {
@@ -262,7 +270,7 @@ fn search_from_candidate<A: Automaton>(
 }
 
 /// The match of the span, if it has one.
-fn search<A: Automaton>(
+pub(crate) fn search<A: Automaton>(
     automaton: &A,
     prefilter: Option<&Prefilter>,
     input: &Input<'_>,
@@ -287,6 +295,24 @@ fn search<A: Automaton>(
     }
 }
 
+/// The prefilter that a search of the input may use: there is none for few bytes.
+fn prefilter_for<'a, A: Automaton>(
+    automaton: &'a A,
+    input: &Input<'_>,
+    start: StateID,
+) -> Option<&'a Prefilter>
+    requires starts { A.Reaches automaton.now input.now.anchored [] start }
+    requires ordered { input.now.span.start ≤ input.now.span.end }
+    ensures usable { IfSome result (λ p. IsUsable (A.built automaton.now) (A.matches automaton.now)
+        input.now.anchored start (Some p)) }
+    ensures few { IsShort input.now → result ≡ None }
+{
+    if input.end() - input.start() < FEW {
+        return None;
+    }
+    usable_prefilter(automaton, input.get_anchored(), start)
+}
+
 /// The match of the input, if it has one; counts what it does.
 ///
 /// Returns an error if the automaton has no start for the input's anchoring, even where the search is over before it begins.
@@ -299,12 +325,13 @@ pub fn find<A: Automaton>(
     ensures within { FindsWithin (A.built automaton.now).dictionary input.now result }
     ensures cost { CostsFind (A.built automaton.now) input.now steps.old steps.new result }
 {
-    let anchored = input.get_anchored();
-    let start = automaton.start_state(anchored)?;
+    let start = automaton.start_state(input.get_anchored())?;
     // as `is_done`, but `end` says also that the span ends within the haystack
     if input.start() > input.end() {
         return Ok(None);
     }
-    let prefilter = usable_prefilter(automaton, anchored, start);
-    Ok(search(automaton, prefilter, input, start, steps))
+    if let Some(prefilter) = prefilter_for(automaton, input, start) {
+        return Ok(search(automaton, Some(prefilter), input, start, steps));
+    }
+    Ok(plain::find(automaton, input, start, steps))
 }

@@ -31,6 +31,10 @@ Contains-between {b} front after = Contains-append_right front (b ∷ after) b (
 
 -- ---- rules one after another
 
+-- a text begins with no rule
+abbrev pub BeginsWithNone : (List ℕ → Rule → List ℕ → Type 0) → List ℕ → Type 0
+BeginsWithNone begins text = (rule : Rule) (more : List ℕ) → ¬ begins text rule more
+
 module _ (begins : List ℕ → Rule → List ℕ → Type 0) where
   -- one more rule at the end
   pub all-push : (text : List ℕ) (rules : List Rule) {more : List ℕ} {rule : Rule} {rest : List ℕ}
@@ -52,9 +56,7 @@ module _ (begins : List ℕ → Rule → List ℕ → Type 0) where
   pub all-one_until : ((text : List ℕ) (one other : Rule) (m n : List ℕ) → begins text one m → begins text other n
       → (one ≡ other) × (m ≡ n))
       → (text : List ℕ) (one other : List Rule) {m n : List ℕ} → BeginsWithAll begins text one m
-      → BeginsWithAll begins text other n
-      → ((rule : Rule) (rest : List ℕ) → ¬ begins m rule rest) → ((rule : Rule) (rest : List ℕ) → ¬ begins n rule rest)
-      → (one ≡ other) × (m ≡ n)
+      → BeginsWithAll begins text other n → BeginsWithNone begins m → BeginsWithNone begins n → (one ≡ other) × (m ≡ n)
   all-one_until once text [] [] p q x y = (refl, sym p ∙ q)
   all-one_until once text [] (s ∷ other) p q x y = absurd (x s q.0 (rw p at q.1))
   all-one_until once text (r ∷ one) [] p q x y = absurd (y r p.0 (rw q at p.1))

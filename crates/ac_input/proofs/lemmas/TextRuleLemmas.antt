@@ -1,8 +1,8 @@
--- Laws of the grammar of a rule file in plain text.
-use Rattle.std.proofs.Common.{◌≡◌, ◌≢◌, inl, inr, ℕ, ◌+◌, ◌<◌, List, [], ◌∷◌, ◌++◌, length, Contains, refl, sym, ap, ◌∙◌, subst, length-append, arith}
+-- Laws of a line of plain text.
+use Rattle.std.proofs.Common.{◌≡◌, ◌≢◌, inl, inr, ℕ, ◌<◌, List, [], ◌∷◌, ◌++◌, length, Contains, refl, sym, ap, ◌∙◌, subst, length-append, arith}
 use Rattle.std.proofs.lemmas.List.{nil_from_length}
-use Rattle.ac_input.specs.Rules.{AreSidesOf, BeginsWithAll, BeginsWithNoTextRule, BeginsWithTextRule, BeginsWithWritten, FirstBadTextLine, IsTextRuleFile, IsWrittenAs, Rule}
-use Rattle.ac_input.proofs.lemmas.RuleOrderLemmas.{Contains-between, Without-from_missing, all-one_until, split_one}
+use Rattle.ac_input.specs.Rules.{AreSidesOf, BeginsWithTextRule, BeginsWithWritten, IsWrittenAs, Rule}
+use Rattle.ac_input.proofs.lemmas.RuleOrderLemmas.{BeginsWithNone, Contains-between, Without-from_missing, split_one}
 
 -- ---- one rule
 
@@ -63,10 +63,10 @@ pub BeginsWithTextRule-one : (text : List ℕ) (one other : Rule) (m n : List �
 BeginsWithTextRule-one text one other m n p q = first_one p.2 p.3 p.4.0 q.2 q.3 q.4.0
 
 -- a text whose first line has sides that are no rule begins with none
-pub BeginsWithNoTextRule-from_sides : {text written line more : List ℕ} {sides : Rule}
+pub BeginsWithNone-from_sides : {text written line more : List ℕ} {sides : Rule}
     → BeginsWithWritten text written more → IsWrittenAs line written → AreSidesOf line sides
-    → ¬ ((sides.0 ≢ []) × ¬ Contains sides.1 9) → BeginsWithNoTextRule text
-BeginsWithNoTextRule-from_sides p q r none rule rest begins =
+    → ¬ ((sides.0 ≢ []) × ¬ Contains sides.1 9) → BeginsWithNone BeginsWithTextRule text
+BeginsWithNone-from_sides p q r none rule rest begins =
     let same = first_one begins.2 begins.3 begins.4.0 p q r in
     none (subst (λ s. (s.0 ≢ []) × ¬ Contains s.1 9) same.0 (begins.4.1, begins.4.2))
 
@@ -84,39 +84,3 @@ BeginsWithTextRule-length (written, line, (feed, inr e), inl cr, is) =
     omega (arith, ap length e.0, ap length e.1, simp length-append at (ap length cr))
 BeginsWithTextRule-length (written, line, (feed, inr e), inr whole, is) =
     omega (arith, ap length e.0, ap length e.1, ap length whole.0, line_filled is)
-
--- the empty text begins with no rule
-pub BeginsWithNoTextRule-nil : BeginsWithNoTextRule []
-BeginsWithNoTextRule-nil rule rest p = let short = BeginsWithTextRule-length p in omega (arith, short)
-
--- ---- whole files
-
--- a text is a rule file in at most one way
-pub IsTextRuleFile-one : (text : List ℕ) (one other : List Rule) → IsTextRuleFile text one → IsTextRuleFile text other
-    → one ≡ other
-IsTextRuleFile-one text one other p q =
-    (all-one_until BeginsWithTextRule BeginsWithTextRule-one text one other p q BeginsWithNoTextRule-nil
-    BeginsWithNoTextRule-nil).0
-
--- a text has at most one first bad line
-pub FirstBadTextLine-one : (text : List ℕ) (one other : ℕ) → FirstBadTextLine text one → FirstBadTextLine text other
-    → one ≡ other
-FirstBadTextLine-one text one other p q =
-    let same = all-one_until BeginsWithTextRule BeginsWithTextRule-one text p.0 q.0 p.2 q.2 p.5 q.5 in
-    p.3 ∙ ap (λ rules. length rules + 1) same.0 ∙ sym q.3
-
--- a rule file has no bad line
-pub FirstBadTextLine-none : (text : List ℕ) (n : ℕ) (rules : List Rule) → IsTextRuleFile text rules
-    → ¬ FirstBadTextLine text n
-FirstBadTextLine-none text n rules p q =
-    let same =
-    all-one_until BeginsWithTextRule BeginsWithTextRule-one text rules q.0 p q.2 BeginsWithNoTextRule-nil q.5 in
-    q.4 (sym same.1)
-
--- in a rule file, rules up to a rest that begins with none are all its rules
-pub IsTextRuleFile-from_none : (text : List ℕ) (all rules : List Rule) (more : List ℕ) → IsTextRuleFile text all
-    → BeginsWithAll BeginsWithTextRule text rules more → BeginsWithNoTextRule more → IsTextRuleFile text rules
-IsTextRuleFile-from_none text all rules more p q none =
-    let same =
-    all-one_until BeginsWithTextRule BeginsWithTextRule-one text all rules p q BeginsWithNoTextRule-nil none in
-    subst (λ rs. IsTextRuleFile text rs) same.0 p

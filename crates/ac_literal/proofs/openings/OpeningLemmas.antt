@@ -3,24 +3,27 @@ use Rattle.std.proofs.Common.{◌≡◌, ◌≢◌, ⊎_elim, ℕ, zero, suc, �
 use Rattle.std.specs.Int.{bit_at}
 use Rattle.std.specs.Borrow.{Bor}
 use Rattle.std.proofs.lemmas.Bool.{cases_eq, cases_lt, and_parts}
-use Rattle.std.proofs.lemmas.List.{get_or-drop, get_or-map}
+use Rattle.std.proofs.lemmas.List.{get_or-drop, get_or-map, length-map}
 use Rattle.std.proofs.lemmas.Option.{get_or_from_slice_get, slice_get_within}
 use Rattle.ac_input.specs.declared.search.MatchKind.{MatchKind}
-use Rattle.ac_input.specs.Dictionary.{Dictionary, dictionary_of, IsPattern}
+use Rattle.ac_input.specs.Dictionary.{dictionary_of, IsPattern}
 use Rattle.ac_input.specs.Opening.{IsOpening}
-use Rattle.ac_input.specs.Same.{other, same, same_text}
-use Rattle.ac_literal.specs.declared.openings.Openings.{Openings}
+use Rattle.ac_input.specs.Same.{other, same, same_text, IsUnpaired}
+use Rattle.ac_literal.specs.declared.openings.fronts.Fronts.{Fronts}
+use Rattle.ac_literal.specs.declared.grams.Grams.{Grams}
+use Rattle.ac_literal.specs.Grams.{HaveWindows, MayStart}
 use Rattle.ac_literal.specs.declared.packed.teddy.Probe.{Probe}
 use Rattle.ac_literal.specs.declared.packed.teddy.Teddy.{Teddy}
 use Rattle.ac_literal.specs.declared.openings.fingerprints.Fingerprints.{Fingerprints}
 use Rattle.ac_literal.specs.Openings.Fingerprints.{print_of, IsPrinted, KeepsPrints, ArePrinted}
 use Rattle.ac_literal.specs.Openings.Marks.{HasPartners, HaveOpened}
-use Rattle.ac_literal.specs.Openings.{MayOpen, AreOpenings}
+use Rattle.ac_literal.specs.Openings.Fronts.{MayOpen}
 use Rattle.ac_literal.specs.Packed.{bytes_of, AreAsLong}
 use Rattle.ac_literal.specs.Packed.Teddy.{HasBucket, KeepsBuckets, KeepsPatterns, LooksBefore, HasPattern, IsNextMarks, low_at, marked_at}
 use Rattle.ac_literal.proofs.openings.FingerprintLemmas.{same-print}
 use Rattle.ac_literal.proofs.packed.TeddyLemmas.{all-leave, keeps-pattern}
-use Rattle.ac_input.proofs.lemmas.SameLemmas.{same-cases}
+use Rattle.ac_input.proofs.lemmas.SameLemmas.{same-cases, same-unpaired}
+use Rattle.ac_literal.proofs.grams.GramLemmas.{bytes-begin}
 
 -- ---- bytes that are the same
 
@@ -128,6 +131,23 @@ opening-printed patterns {pairing} kind len f text at are h =
     (same-print pairing (take len (get_or patterns h.0 [])) (take len (drop at text)) same) in
     subst (λ k. bit_at (get_or f.bits (k / 8) 0) (k % 8) ≡ 1) print (are.1 h.0 within)
 
+-- where a pattern opens whose bytes aren't paired, it may begin by its grams
+pub opening-begins : (patterns : List (List ℕ)) (pairing : List ℕ) (kind : MatchKind) (len : ℕ) {g : Grams}
+    (text : List ℕ) (at : ℕ) → IsUnpaired pairing → AreAsLong len patterns → HaveWindows g len patterns (length patterns)
+    → IsOpening (dictionary_of patterns pairing kind) len text at → MayStart g text at
+opening-begins patterns pairing kind len text at unpaired long all h =
+    let within = slice_get_within patterns h.0 h.1 h.2 in
+    let pattern : get_or patterns h.0 [] ≡ h.1 = get_or_from_slice_get patterns h.0 h.1 [] h.2 in
+    let front = take len (get_or patterns h.0 []) in
+    let same : IsTrue (same_text pairing front (take len (drop at text))) =
+    subst (λ xs. IsTrue (same_text pairing (take len xs) (take len (drop at text)))) (sym pattern) h.3 in
+    let size : length front ≡ len = length-take-le len (get_or patterns h.0 []) (long h.0 within) in
+    bytes-begin front text at
+    (λ k inside.
+    sym (get_or-drop at text k 0) ∙ sym (get_or-take len (drop at text) k 0 (omega (arith, inside, size)))
+    ∙ sym (same-unpaired pairing unpaired _ _ (same_text-byte pairing front (take len (drop at text)) k inside same)))
+    (all h.0 within)
+
 -- ---- buckets, while patterns come
 
 -- what two steps keep, both together keep
@@ -168,16 +188,10 @@ none-shorter patterns pairing kind len long n p is =
 
 -- ---- what is passed
 
--- no pattern opens at places that are passed
-pub passed-none : {openings : Openings} {text : List ℕ} {count : ℕ}
-    → ((place : ℕ) → place < count → ¬ MayOpen openings text place) → (m : Dictionary) → AreOpenings m openings
-    → ((at : ℕ) → at < count → ¬ IsOpening m openings.len text at)
-passed-none {text} none m are at within opens = none at within (are.marks text at opens)
-
-module _ {o : Openings} {text : List ℕ} {from to block marks : ℕ} (next : IsNextMarks o.teddy text from to block marks)
-    (before : (place : ℕ) → place < from → ¬ MayOpen o text place) where
+module _ {f : Fronts} {text : List ℕ} {from to block marks : ℕ} (next : IsNextMarks f.teddy text from to block marks)
+    (before : (place : ℕ) → place < from → ¬ MayOpen f text place) where
   -- no place before the next block with a mark may open
-  pub block-before : (place : ℕ) → place < block → ¬ MayOpen o text place
+  pub block-before : (place : ℕ) → place < block → ¬ MayOpen f text place
   block-before place within is = elim (cases_lt place from) [
     | inl early ↦ before place early is
     | inr late ↦ is.left (next.passed place (omega (arith, late)) within)
@@ -185,14 +199,14 @@ module _ {o : Openings} {text : List ℕ} {from to block marks : ℕ} (next : Is
 
   -- within the block, no place may open before the first mark whose fingerprint is in the set
   pub block-passed : {count : ℕ} → count ≤ 32 → marks ≢ 0
-      → ((k : ℕ) → k < count → bit_at marks k ≡ 1 → ¬ IsPrinted o.prints (take o.len (drop (block + k) text)))
-      → (place : ℕ) → place < block + count → ¬ MayOpen o text place
+      → ((k : ℕ) → k < count → bit_at marks k ≡ 1 → ¬ IsPrinted f.prints (take f.len (drop (block + k) text)))
+      → (place : ℕ) → place < block + count → ¬ MayOpen f text place
   block-passed few some unprinted place within is = elim (cases_lt place block) [
     | inl early ↦ block-before place early is
     | inr late ↦
         let k : ℕ = place - block in
         let here : place ≡ block + k = omega (arith, late) in
-        let there : MayOpen o text (block + k) = subst (MayOpen o text) here is in
+        let there : MayOpen f text (block + k) = subst (MayOpen f text) here is in
         unprinted k (omega (arith, late, within)) (next.set some k (omega (arith, late, within, few)) there.left)
         there.printed
   ]
@@ -205,6 +219,19 @@ pub pattern-lent : (patterns : List (Bor (List ℕ))) (d : Bor (List ℕ)) (numb
 pattern-lent [] d number within = absurd (omega (arith, within))
 pattern-lent (p ∷ ps) d zero within = refl
 pattern-lent (p ∷ ps) d (suc number) within = pattern-lent ps d number (omega (arith, within))
+
+-- what stands where no pattern is lent
+abbrev pub nothing_lent : Bor (List ℕ)
+nothing_lent = record { ref_ptr = (0, 0); now = [] }
+
+-- the front of a pattern, as it is lent, has `len` bytes if no pattern has fewer
+pub front-lent : (patterns : List (Bor (List ℕ))) (len number : ℕ) → AreAsLong len (bytes_of patterns)
+    → number < length patterns → length (take len (get_or patterns number nothing_lent).now) ≡ len
+front-lent patterns len number short within =
+    let count = length-map patterns (λ (p : Bor (List ℕ)). p.now) in
+    let long = short number (omega (arith, count, within)) in
+    let same = ap length (pattern-lent patterns nothing_lent number within) in
+    length-take-le len (get_or patterns number nothing_lent).now (omega (arith, long, same))
 
 -- a length that no pattern so far, and not the next one, falls below
 pub short-more : (patterns : List (List ℕ)) {count len less : ℕ}

@@ -332,6 +332,11 @@ impl Searcher {
         0
     }
 
+    /// Whether it finds few places in vain, however many patterns there are.
+    pub(crate) fn is_sparse(&self) -> bool {
+        self.scanner.is_sparse()
+    }
+
     /// How many bytes of memory it takes, besides itself.
     pub fn memory_usage(&self) -> usize {
         self.patterns

@@ -5,6 +5,9 @@
 //! the bytes there, from the first to the last; the first place at which a pattern lies has the match. The rest after the last
 //! whole block is searched by the rolling hash.
 //!
+//! Where grams find fewer places than marks (`grams`), they take the place of marks: with many patterns, or patterns of few
+//! different letters. The hash then searches the few places from which a pattern reaches the gram.
+//!
 //! Where much of the text is marked, checking each mark costs more than rolling a hash over all places. So after a block that has
 //! more than 8 marks the hash alone searches the next 64 places, and then marks are tried again. If they are too many again, the
 //! next stretch is twice as long, up to 4096 places. In text that is marked everywhere, one block of marks comes for every 4096
@@ -12,18 +15,22 @@
 //! pattern, too, the hash takes over after more than 8 searches in a row that found a match on the first two places: starting a
 //! search for a needle costs more than checking some places by the hash. An iterator remembers its pace from match to match, so
 //! that many short searches don't each try anew.
-ghost use Rattle.std.specs.Prelude.{◌≡◌, ◌+◌, ◌<◌, ◌≤◌, length, IfOk};
-ghost use Rattle.ac_literal.specs.Packed.{AreServed, in_span, search_kind};
+ghost use Rattle.std.specs.Prelude.{◌≡◌, ◌+◌, ◌<◌, ◌≤◌, length, IfOk, IfSome};
+ghost use Rattle.ac_literal.specs.Grams.{AreCopiedGrams, HaveWindows};
+ghost use Rattle.ac_literal.specs.Packed.{AreAsLong, AreServed, in_span, search_kind};
 ghost use Rattle.ac_literal.specs.Packed.RabinKarp.{NoneBefore, IsMatchBefore};
 ghost use Rattle.ac_literal.specs.Packed.Teddy.{HasMarks};
 ghost use Rattle.ac_literal.specs.Packed.Scanner.{IsScanner, IsScannerOf, IsSameScanner};
 ghost use Rattle.ac_input.specs.Best.{IsBest};
 
+use crate::grams::choice::Choice;
+use crate::grams::{Grams, SHORTEST};
 use crate::packed::api::MatchKind;
 use crate::packed::needle::{clone_needle, find_needle, only_needle};
 use crate::packed::pattern::Patterns;
 use crate::packed::rabinkarp::RabinKarp;
 use crate::packed::teddy::{LANES, Teddy, lowest, without};
+use ac_input::primitives::PatternID;
 use ac_input::search::{Match, Span};
 use memchr::memmem;
 use std::alloc::{AllocError, Global};
@@ -35,6 +42,9 @@ const FEW: u32 = 8;
 const NEAR: usize = 2;
 
 const MANY: u32 = 8;
+
+/// How near a gram may stand for grams to be worth it.
+const NEAR_GRAM: usize = 16;
 
 /// For how many places the hash searches alone when marks aren't worth it, at first and at most.
 const SHORT: usize = 64;
@@ -97,6 +107,47 @@ pub struct Scanner {
     teddy: Teddy,
     /// The only pattern, where there is one alone.
     only: Option<memmem::Finder<'static>>,
+    /// The grams of the patterns, where those find fewer places than marks.
+    grams: Option<Grams>,
+}
+
+/// Whether grams find fewer places than marks.
+fn prefers_grams(patterns: &Patterns) -> bool
+    requires { AreServed patterns.now }
+{
+    let mut choice = Choice::new();
+    for number in 0..patterns.len() {
+        choice.add(patterns.get(PatternID::must(number)));
+    }
+    choice.takes_grams()
+}
+
+/// The grams of the first `len` bytes of some patterns; none where those are too few, or marks find fewer places.
+fn grams_of(alloc: Global, patterns: &Patterns, len: usize) -> Result<Option<Grams>, AllocError>
+    requires served { AreServed patterns.now }
+    requires short { AreAsLong len patterns.now }
+    ensures { IfOk result (λ made. IfSome made
+        (λ grams. HaveWindows grams len patterns.now (length patterns.now))) }
+{
+    if len < SHORTEST || !prefers_grams(patterns) {
+        return Ok(None);
+    }
+    let mut grams = Grams::empty(alloc, len)?;
+    for number in 0..patterns.len() {
+        let pattern = patterns.get(PatternID::must(number));
+        grams.add_rarest(&pattern[..len]);
+    }
+    Ok(Some(grams))
+}
+
+/// The same grams in memory from `alloc`.
+fn clone_grams(alloc: Global, held: &Option<Grams>) -> Result<Option<Grams>, AllocError>
+    ensures { IfOk result (AreCopiedGrams held.now) }
+{
+    match held {
+        Some(grams) => Ok(Some(grams.clone(alloc)?)),
+        None => Ok(None),
+    }
 }
 
 impl Scanner {
@@ -108,7 +159,13 @@ impl Scanner {
         let table = RabinKarp::new(alloc, kind, patterns)?;
         let teddy = Teddy::new(patterns, table.hash_len());
         let only = only_needle(alloc, patterns)?;
-        Ok(Scanner { table, teddy, only })
+        let grams = grams_of(alloc, patterns, table.hash_len())?;
+        Ok(Scanner {
+            table,
+            teddy,
+            only,
+            grams,
+        })
     }
 
     /// The same in memory from `alloc`.
@@ -119,6 +176,7 @@ impl Scanner {
             table: self.table.clone(alloc)?,
             teddy: self.teddy,
             only: clone_needle(&self.only, alloc)?,
+            grams: clone_grams(alloc, &self.grams)?,
         })
     }
 
@@ -129,13 +187,25 @@ impl Scanner {
         self.table.match_kind()
     }
 
+    /// Whether it goes by grams, which find few places in vain.
+    pub fn is_sparse(&self) -> bool {
+        self.grams.is_some()
+    }
+
     /// How many bytes of memory it takes, besides itself.
     pub fn memory_usage(&self) -> usize {
         let needle = match &self.only {
             Some(needle) => needle.needle().len(),
             None => 0,
         };
-        self.table.memory_usage().saturating_add(needle)
+        let grams = match &self.grams {
+            Some(grams) => grams.memory_usage(),
+            None => 0,
+        };
+        self.table
+            .memory_usage()
+            .saturating_add(needle)
+            .saturating_add(grams)
     }
 
     /// The match of the kind, if it begins in the block at `at`, where none begins before it.
@@ -166,6 +236,41 @@ impl Scanner {
             left = without(left, place);
         }
         None
+    }
+
+    /// The match of the kind, if it begins where the next gram stands, and the place after the last one at which it may. None
+    /// begins before `at`.
+    fn find_by_grams(
+        &self,
+        grams: &Grams,
+        patterns: &Patterns,
+        haystack: &[u8],
+        span: Span,
+        at: usize,
+        pace: &mut Pace,
+    ) -> (usize, Option<Match>)
+        requires scanner { IsScanner patterns.now self.now }
+        requires windows { HaveWindows grams.now self.now.table.hash_len patterns.now
+            (length patterns.now) }
+        requires start { span.start ≤ at }
+        requires end { at + self.now.table.hash_len ≤ span.end }
+        requires within { span.end ≤ length haystack.now }
+        requires none { NoneBefore (in_span patterns.now haystack.now span) at }
+        ensures more { at < result.0 }
+        ensures end { result.0 + self.now.table.hash_len ≤ span.end + 1 }
+        ensures found { IsMatchBefore self.now.table.kind patterns.now haystack.now span result.0 result.1 }
+    {
+        let to = span.end - self.table.hash_len() + 1;
+        let passed = grams.pass(&haystack[at..span.end]);
+        if passed < NEAR_GRAM {
+            pace.slow(at);
+        }
+        let from = to.min(at + passed);
+        let next = to.min(from.saturating_add(grams.most()).saturating_add(1));
+        let found = self
+            .table
+            .find_between(patterns, haystack, span, from, next);
+        (next, found)
     }
 
     /// The match of the kind, if it begins in the next part, and the end of that part. None begins before `at`.
@@ -202,6 +307,9 @@ impl Scanner {
             let found = find_needle(needle, haystack, rest);
             pace.met(at, &found);
             return (to, found);
+        }
+        if let Some(grams) = &self.grams {
+            return self.find_by_grams(grams, patterns, haystack, span, at, pace);
         }
         let (block, marks) = self.teddy.next_marks(haystack, at, to, len);
         if marks == 0 {

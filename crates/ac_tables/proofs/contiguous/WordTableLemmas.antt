@@ -148,13 +148,11 @@ words-copied m old new names parts same h = record {
   past = h.past;
 }
 
--- the states of a table's copy are those of the table
-pub states-copied : (m : Dictionary) (old new : Table) (old_rows new_rows : Option Rows) → IsCopiedTable old new
-    → AreSameIfAny old_rows new_rows → AreSomeStates m old old_rows → AreSomeStates m new new_rows
-states-copied m old new old_rows new_rows same same_rows some = ∥∥₁_map some (λ w.
-    let names = w.0 in
-    let parts = w.1 in
-    let words = words-copied m old new names parts same.words w.2 in
+-- the states of a table's copy are those of the table, by the same naming
+pub names-copied : (m : Dictionary) (old new : Table) (names : Naming) (parts : ℕ → StateParts) → IsCopiedTable old new
+    → AreStates m old names parts → AreStates m new names parts
+names-copied m old new names parts same h =
+    let words = words-copied m old new names parts same.words h in
     let copied : record old { words = new.words } ≡ new = λ i. record old {
       words = new.words;
       classes = sym same.classes i;
@@ -162,10 +160,18 @@ states-copied m old new old_rows new_rows same same_rows some = ∥∥₁_map so
       start = sym same.start i;
       start_anchored = sym same.start_anchored i;
       max_match = sym same.max_match i;
-    } in (
+    } in
+    subst (λ t. AreStates m t names parts) copied words
+
+-- the states of a table's copy are those of the table
+pub states-copied : (m : Dictionary) (old new : Table) (old_rows new_rows : Option Rows) → IsCopiedTable old new
+    → AreSameIfAny old_rows new_rows → AreSomeStates m old old_rows → AreSomeStates m new new_rows
+states-copied m old new old_rows new_rows same same_rows some = ∥∥₁_map some (λ w.
+    let names = w.0 in
+    let parts = w.1 in (
       names,
       parts,
-      subst (λ t. AreStates m t names parts) copied words,
+      names-copied m old new names parts same w.2,
       rows-copied m new.classes names old_rows new_rows same_rows
           (subst (λ x. AreRowsIfAny m x names old_rows) (sym same.classes) w.3),
     ))

@@ -50,6 +50,7 @@ pub record IsLaidOf (from : Noncontiguous) (dense_depth row_memory : ℕ) (class
   pub stands : AreSomeStates (dictionary from) laid.table laid.rows
   pub rows : AreRowsWithin from dense_depth classes row_memory laid.rows
   pub within : ∥ IsWithinLimits (dictionary from) ∥₁
+  pub classed : laid.table.classes ≡ classes
 
 -- ---- from patterns
 

@@ -1,6 +1,7 @@
 //! Searching with the contiguous automaton.
 //!
-//! Where there are rows, a search that isn't anchored reads on by them: a look-up is the byte's class, an addition and a load.
+//! Where there are rows, a search that isn't anchored reads on by them: a look-up is the byte's class, an addition and a load. Where
+//! only the states near the start have some, it reads the words of the others.
 //!
 //! Else a look-up loads the kind of the state and the class of the byte, and then one word, or some more where the classes are packed.
 //! Where no transition has the byte, the failures are followed, out of the loop. One comparison tells all states at which there is more
@@ -12,6 +13,7 @@ ghost use Rattle.ac_automaton.specs.Automaton.{IsReached};
 ghost use Rattle.ac_automaton.specs.Named.{nowhere};
 ghost use Rattle.ac_automaton.specs.Look.{ReadsTo};
 ghost use Rattle.ac_input.specs.Input.{is_anchored};
+ghost use Rattle.ac_input.specs.declared.search.Anchored.TheVariants.{No};
 ghost use Rattle.ac_tables.specs.Contiguous.Reads.{contiguous_built_as, IsContiguousRead, IsMet, LooksUp};
 ghost use Rattle.ac_tables.specs.Contiguous.WordReads.{ByteLeadsTo, IsStateAt};
 ghost use Rattle.ac_tables.specs.Contiguous.Words.{StateParts};
@@ -60,7 +62,13 @@ impl NFA {
 
     /// The state after one more byte, where the search began with this anchoring; and counts the states that it looks at.
     #[inline]
-    fn next(&self, anchored: Anchored, sid: StateID, byte: u8, steps: &mut Steps) -> StateID
+    pub(super) fn next(
+        &self,
+        anchored: Anchored,
+        sid: StateID,
+        byte: u8,
+        steps: &mut Steps,
+    ) -> StateID
         requires { IsMet self.now (is_anchored anchored) sid }
         ensures { LooksUp self.now (is_anchored anchored) 0 sid byte result steps.old steps.new }
     {
@@ -72,6 +80,19 @@ impl NFA {
         match anchored {
             Anchored::No => self.follow(sid, byte, steps),
             Anchored::Yes => StateID::ZERO,
+        }
+    }
+
+    /// Reads on to the first state between two numbers, these included, or to the last byte, where not all states have rows.
+    #[inline(always)]
+    fn read_free(&self, sid: StateID, bytes: &[u8], to: Between, steps: &mut Steps) -> Advance
+        requires { IsReached (IsContiguousRead self.now No) sid }
+        ensures { ReadsTo (contiguous_built_as self.now) (IsContiguousRead self.now) No to sid
+            bytes.now result steps.old steps.new }
+    {
+        match &self.near {
+            Some(near) => self.read_near(near, sid, bytes, to, steps),
+            None => self.read_words(Anchored::No, sid, bytes, to, steps),
         }
     }
 
@@ -134,7 +155,7 @@ impl LookUp for NFA {
         match anchored {
             Anchored::No => match &self.rows {
                 Some(rows) => self.read_rows(rows, sid, bytes, to, steps),
-                None => self.read_words(anchored, sid, bytes, to, steps),
+                None => self.read_free(sid, bytes, to, steps),
             },
             Anchored::Yes => self.read_words(anchored, sid, bytes, to, steps),
         }
@@ -285,8 +306,13 @@ impl Automaton for NFA {
         self.table
             .memory_usage()
             .saturating_add(self.lens.memory_usage())
+            .saturating_add(self.skips.memory_usage())
             .saturating_add(match &self.rows {
                 Some(rows) => rows.memory_usage(),
+                None => 0,
+            })
+            .saturating_add(match &self.near {
+                Some(near) => near.memory_usage(),
                 None => 0,
             })
             .saturating_add(match &self.prefilter {

@@ -23,6 +23,7 @@ use ac_automaton::skip::clone_prefilter;
 use ac_input::alphabet::ByteClasses;
 use ac_input::pairing::Pairing;
 use ac_input::search::MatchKind;
+use ac_literal::openings::Openings;
 use ac_noncontiguous::error::BuildError;
 use ac_noncontiguous::nfa;
 pub use ac_noncontiguous::settings::ROW_MEMORY;
@@ -32,6 +33,9 @@ use std::marker::Model;
 
 /// To which depth states are dense where nothing else is set: the starts, and those of one byte.
 const DENSE_DEPTH: usize = 2;
+
+/// Which part of the memory for rows those of the states near the start may take, where rows for all states would take too much.
+const NEAR_PART: usize = 2;
 
 /// The words of an automaton, and its rows, if there are any.
 #[derive(Drop)]
@@ -193,9 +197,9 @@ impl Builder {
     /// Sets how many bytes of memory rows may take. At first it is [`ROW_MEMORY`], 16 MiB; 0 is for none.
     ///
     /// It changes no result. With rows an unanchored search looks at one state for a byte, as a DFA does, and is about as fast. There
-    /// are rows exactly if they take no more than this, and have at most 2147483646 entries. They take four bytes for each state, for
-    /// each state and each class of bytes, rounded up to a power of two of classes, and for every four words. They are made for all
-    /// states or for none.
+    /// are rows for all states exactly if they take no more than this, and have at most 2147483646 entries. They take four bytes for
+    /// each state, for each state and each class of bytes, rounded up to a power of two of classes, and for every four words. Else
+    /// the states near the start have rows, in half of this memory at most: a search looks at one state for a byte there.
     pub fn row_memory(&mut self, bytes: usize) -> &mut Builder
         ensures same { result.ghost_name ≡ self.entry.ghost_name }
         ensures value { result.now ≡ record self.old { row_memory = bytes } }
@@ -229,11 +233,13 @@ impl Builder {
         let laid = lay(alloc, nfa, dense_depth, settings.row_memory, classes)?;
         let lens = nfa.pattern_lens().clone(alloc)?;
         let prefilter = clone_prefilter(alloc, nfa.prefilter())?;
-        let openings = nfa.openings();
+        let openings = Openings::clone_any(alloc, nfa.openings())?;
         let kind = nfa.match_kind();
-        Ok(NFA::from_parts(
+        let mut made = NFA::from_parts(
             laid.table, laid.rows, lens, prefilter, openings, pairing, kind,
-        ))
+        );
+        made.add_near(alloc, settings.row_memory / NEAR_PART)?;
+        Ok(made)
     }
 
     /// Builds the automaton of the patterns, which are numbered from 0 in this order.

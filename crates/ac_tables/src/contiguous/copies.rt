@@ -8,6 +8,7 @@ use crate::contiguous::NFA;
 use crate::contiguous::rows::Rows;
 use crate::contiguous::table::Table;
 use ac_automaton::skip::clone_prefilter;
+use ac_literal::openings::Openings;
 use std::alloc::{AllocError, Global};
 
 /// A copy of the table.
@@ -42,15 +43,19 @@ impl NFA {
         let prefilter = clone_prefilter(alloc, self.prefilter.as_ref())?;
         let lens = self.lens.clone(alloc)?;
         let table = clone_table(alloc, &self.table)?;
+        let openings = Openings::clone_any(alloc, &self.skips.openings)?;
         let rows = clone_rows(alloc, &self.rows)?;
-        Ok(NFA::from_parts(
+        let near = clone_rows(alloc, &self.near)?;
+        let mut copy = NFA::from_parts(
             table,
             rows,
             lens,
             prefilter,
-            self.skips.openings,
+            openings,
             self.pairing,
             self.kind,
-        ))
+        );
+        copy.set_near(near);
+        Ok(copy)
     }
 }

@@ -17,7 +17,7 @@ use ac_input::primitives::StateID;
 use std::alloc::{AllocError, Global};
 
 /// How many words share an entry of the index. No more than two states begin within them.
-const BLOCK: usize = 4;
+pub(super) const BLOCK: usize = 4;
 
 /// How many bytes an entry takes, of a row, of the places or of the index.
 pub(super) const ENTRY: usize = 4;
@@ -86,7 +86,7 @@ impl Rows {
 
     /// How many entries a row has.
     #[inline]
-    fn stride(&self) -> usize
+    pub(super) fn stride(&self) -> usize
         ensures { result ≡ row_len self.now }
     {
         1 << self.stride2

@@ -248,6 +248,7 @@ impl Automaton for DFA {
         self.table
             .memory_usage()
             .saturating_add(self.lens.memory_usage())
+            .saturating_add(self.skips.memory_usage())
             .saturating_add(match &self.prefilter {
                 Some(prefilter) => prefilter.memory_usage(),
                 None => 0,

@@ -20,6 +20,7 @@ use ac_automaton::automaton::Automaton;
 use ac_automaton::skip::clone_prefilter;
 use ac_input::pairing::Pairing;
 use ac_input::search::{Anchored, MatchKind, StartKind};
+use ac_literal::openings::Openings;
 use ac_noncontiguous::error::BuildError;
 use ac_noncontiguous::nfa::NFA;
 use ac_noncontiguous::settings::{Settings, case_pairing};
@@ -194,7 +195,7 @@ impl Builder {
         let table = Table::of(alloc, nfa, settings.start_kind, settings.byte_classes)?;
         let lens = nfa.pattern_lens().clone(alloc)?;
         let prefilter = clone_prefilter(alloc, nfa.prefilter())?;
-        let openings = nfa.openings();
+        let openings = Openings::clone_any(alloc, nfa.openings())?;
         Ok(DFA::from_parts(
             table,
             lens,

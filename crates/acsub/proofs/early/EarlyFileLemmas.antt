@@ -1,5 +1,5 @@
--- A run that always writes while it reads, by a rule file in either form: its result follows from that of a run by its rules.
-use Rattle.std.proofs.Common.{◌≡◌, ◌↔◌, ℕ, Bool, List, Result, Ok, Err, refl, ap, subst}
+-- A run that always writes while it reads, by a rule file in any form: its result follows from that of a run by its rules.
+use Rattle.std.proofs.Common.{◌≡◌, ◌↔◌, ℕ, List, Result, Ok, Err, refl, ap, subst}
 use Rattle.ac_input.specs.Rules.{Rule}
 use Rattle.ac_automaton.specs.declared.error.StreamError.{StreamError}
 use Rattle.ac_automaton.specs.declared.stream.devices.watched.Watched.{Watched}
@@ -10,17 +10,18 @@ use Rattle.acsub.specs.declared.early.EarlyError.{EarlyError}
 use Rattle.acsub.specs.declared.early.EarlyError.TheVariants as early
 use Rattle.acsub.specs.declared.error.RunError.{RunError}
 use Rattle.acsub.specs.declared.error.RunError.TheVariants as errors
+use Rattle.acsub.specs.declared.rules.Form.{Form}
 use Rattle.acsub.specs.declared.rules.RuleError.{RuleError}
 use Rattle.acsub.specs.declared.rules.RuleError.TheVariants as rule_errors
 use Rattle.acsub.proofs.rules.GrammarLemmas.{bad_none}
 use Rattle.acsub.proofs.run.FileLemmas.{unread_line}
 
-module _ {R W : Type 0} (text : Bool) (file : List ℕ) (old new : Watched R × Watched W) (demand : List Rule → Demand)
+module _ {R W : Type 0} (form : Form) (file : List ℕ) (old new : Watched R × Watched W) (demand : List Rule → Demand)
     (writes : List Rule → Result (Unit {0}) StreamError → Type 0) (rules : List Rule)
-    (grammar : (grammar_of text).holds file rules) where
+    (grammar : (grammar_of form).holds file rules) where
   -- what the run by the rules did, the run by the file did
   pub early-in : (result : Result (Unit {0}) EarlyError) → AnswersEarly old new (demand rules) (writes rules) result
-      → AnswersEarlyIn old new ((grammar_of text).holds file) (λ rules. AnswersEarly old new (demand rules) (writes rules))
+      → AnswersEarlyIn old new ((grammar_of form).holds file) (λ rules. AnswersEarly old new (demand rules) (writes rules))
       result
   early-in (Ok done) answers = (rules, grammar, answers)
   early-in (Err (early.Refused refusal)) answers = (rules, grammar, answers)
@@ -36,32 +37,32 @@ module _ {R W : Type 0} (text : Bool) (file : List ℕ) (old new : Watched R × 
   -- a run by rules reports no bad line, and their file has none
   pub early-no_bad_line : (result : Result (Unit {0}) EarlyError)
       → AnswersEarly old new (demand rules) (writes rules) result → (n : ℕ)
-      → (result ≡ Err (early.Run (errors.Rule (rule_errors.Line n)))) ↔ (grammar_of text).bad file n
+      → (result ≡ Err (early.Run (errors.Rule (rule_errors.Line n)))) ↔ (grammar_of form).bad file n
   early-no_bad_line result answers n = (
     λ is. absurd (subst (AnswersEarly old new (demand rules) (writes rules)) is answers),
-    λ bad. absurd (bad_none text file n rules grammar bad),
+    λ bad. absurd (bad_none form file n rules grammar bad),
   )
 
 -- ---- a rule file whose rules could not be read
 
-module _ (text : Bool) (file : List ℕ) (why : RuleError) (read : ReadsRules text file (Err why)) where
+module _ (form : Form) (file : List ℕ) (why : RuleError) (read : ReadsRules form file (Err why)) where
   -- neither device was touched
   pub early-unread : {R W : Type 0} (old : Watched R × Watched W)
       (answers : List Rule → Result (Unit {0}) EarlyError → Type 0)
-      → AnswersEarlyIn old old ((grammar_of text).holds file) answers (Err (early.Run (not_read why)))
+      → AnswersEarlyIn old old ((grammar_of form).holds file) answers (Err (early.Run (not_read why)))
   early-unread old answers = go why read
     where
-      go : (e : RuleError) → ReadsRules text file (Err e)
-          → AnswersEarlyIn old old ((grammar_of text).holds file) answers (Err (early.Run (not_read e)))
+      go : (e : RuleError) → ReadsRules form file (Err e)
+          → AnswersEarlyIn old old ((grammar_of form).holds file) answers (Err (early.Run (not_read e)))
       go (rule_errors.Line n) h = refl
       go rule_errors.Memory h = let had = h.memory refl in (had.0, had.1, refl)
 
   -- a bad line that is reported is the first one
   pub early-unread_line : (n : ℕ) → ((let r : Result (Unit {0}) EarlyError = Err (early.Run (not_read why)) in r)
       ≡ Err (early.Run (errors.Rule (rule_errors.Line n))))
-      ↔ (grammar_of text).bad file n
+      ↔ (grammar_of form).bad file n
   early-unread_line n =
-      let line = unread_line text file why read n in (
+      let line = unread_line form file why read n in (
         λ is. let same : not_read why ≡ errors.Rule (rule_errors.Line n) = cc in line.0 (ap Err same),
         λ bad.
             let told : (let r : Result (Unit {0}) RunError = Err (not_read why) in r)

@@ -22,10 +22,10 @@ output-alike settings other rules input alike =
     (record (whole (dictionary_for settings rules) input false) { pairing = pairing })) alike.pairing
 
 pub runs_write_alike : RunsWriteAlike
-runs_write_alike settings other stream another text plain file page m n alike rules same ran again =
+runs_write_alike settings other stream another form shape file page m n alike rules same ran again =
     ran.2.written
     ∙ ap (λ all. output_of settings all (concat m.pieces))
-    (file_one plain page ran.0 again.0 (rules ran.0 ran.1) again.1)
+    (file_one shape page ran.0 again.0 (rules ran.0 ran.1) again.1)
     ∙ ap (output_of settings again.0) same
     ∙ output-alike settings other again.0 (concat n.pieces) alike
     ∙ sym again.2.written

@@ -1,21 +1,33 @@
--- A rule file, in either form: of plain text, or of hex.
+-- A rule file, in each of its forms: hex, plain text, and text with escapes.
 use Rattle.std.specs.Prelude.{◌≡◌, ◌↔◌, ℕ, Bool, true, false, List, ◌++◌, Result, Err, IfOk, codes, decimal}
-use Rattle.ac_input.specs.Rules.{BeginsWithRule, BeginsWithTextRule, FirstBadLine, FirstBadTextLine, IsRuleFile, IsTextRuleFile, Rule, Spells}
+use Rattle.ac_input.specs.Rules.{BeginsWithEscapedRule, BeginsWithRule, BeginsWithTextRule, FirstBadEscapedLine, FirstBadLine, FirstBadTextLine, IsEscapedRuleFile, IsForeign, IsRuleFile, IsTextRuleFile, Rule, Spells, Unescapes}
+use Rattle.acsub.specs.declared.rules.Form.{Form}
+use Rattle.acsub.specs.declared.rules.Form.TheVariants.{Escaped, Hex, Text}
 use Rattle.acsub.specs.declared.rules.RuleError.{RuleError}
 use Rattle.acsub.specs.declared.rules.RuleError.TheVariants.{Line, Memory}
 
--- The form of a rule file: the rules that a file holds; the number of its first bad line; the rule of a text's first
--- line, and what follows that line; and the bytes that a side stands for, as it is written.
+-- How a rule file is written: the rules that a file holds; the number of its first bad line; the rule of a text's first
+-- line, and what follows that line; the bytes that a side stands for, as it is written; and the files that hold no rules,
+-- whatever their lines.
 pub record Grammar : Type 1 where
   pub holds : List ℕ → List Rule → Type 0
   pub bad : List ℕ → ℕ → Type 0
   pub begins : List ℕ → Rule → List ℕ → Type 0
   pub spells : List ℕ → List ℕ → Type 0
+  pub foreign : List ℕ → Type 0
 
--- the form in hex, and the one of plain text
+-- hex, in which no file is foreign: no digit is NUL or a part of a byte order mark
 abbrev pub hex_rules : Grammar
-hex_rules = record { holds = IsRuleFile; bad = FirstBadLine; begins = BeginsWithRule; spells = Spells }
+hex_rules =
+    record {
+      holds = IsRuleFile;
+      bad = FirstBadLine;
+      begins = BeginsWithRule;
+      spells = Spells;
+      foreign = λ file. ⊥;
+    }
 
+-- plain text, whose bytes stand for themselves
 abbrev pub text_rules : Grammar
 text_rules =
     record {
@@ -23,18 +35,37 @@ text_rules =
       bad = FirstBadTextLine;
       begins = BeginsWithTextRule;
       spells = λ side bytes. bytes ≡ side;
+      foreign = IsForeign;
     }
 
--- the form that is asked for: of plain text, or in hex
-abbrev pub grammar_of : Bool → Grammar
-grammar_of true = text_rules
-grammar_of false = hex_rules
+-- text with escapes
+abbrev pub escaped_rules : Grammar
+escaped_rules =
+    record {
+      holds = IsEscapedRuleFile;
+      bad = FirstBadEscapedLine;
+      begins = BeginsWithEscapedRule;
+      spells = Unescapes;
+      foreign = IsForeign;
+    }
+
+-- the grammar of a form
+abbrev pub grammar_of : Form → Grammar
+grammar_of Hex = hex_rules
+grammar_of Text = text_rules
+grammar_of Escaped = escaped_rules
+
+-- the form that is asked for: text or hex, and text with escapes or without
+abbrev pub asked_form : Bool → Bool → Form
+asked_form true true = Escaped
+asked_form true false = Text
+asked_form false escapes = Hex
 
 -- The rules of the file; or its first bad line, exactly if it has one; or memory ran out for the file's rules.
-pub record ReadsRules (text : Bool) (file : List ℕ) (result : Result (List Rule) RuleError) : Type 0 where
-  pub rules : IfOk result ((grammar_of text).holds file)
-  pub bad : (n : ℕ) → (result ≡ Err (Line n)) ↔ (grammar_of text).bad file n
-  pub memory : result ≡ Err Memory → (rules : List Rule) × (grammar_of text).holds file rules
+pub record ReadsRules (form : Form) (file : List ℕ) (result : Result (List Rule) RuleError) : Type 0 where
+  pub rules : IfOk result ((grammar_of form).holds file)
+  pub bad : (n : ℕ) → (result ≡ Err (Line n)) ↔ (grammar_of form).bad file n
+  pub memory : result ≡ Err Memory → (rules : List Rule) × (grammar_of form).holds file rules
 
 -- The text of an error.
 abbrev pub rule_text : RuleError → List ℕ

@@ -1,12 +1,23 @@
 -- What a text of rules begins with, and how many rules it has.
-use Rattle.std.specs.Prelude.{◌≡◌, ℕ, Bool, List, [], ◌∷◌, ◌++◌, length, slice_index_or, Contains, Option, Some, None}
-use Rattle.ac_input.specs.Rules.{Rule, Spells}
+use Rattle.std.specs.Borrow.{Bor}
+use Rattle.std.specs.Prelude.{◌≡◌, ℕ, List, [], ◌∷◌, ◌++◌, length, slice_index_or, Contains, Option, Some, None}
+use Rattle.ac_input.specs.Rules.{BeginsWithByte, Rule, Spells}
 use Rattle.acsub.specs.Rules.File.{Grammar, grammar_of}
+use Rattle.acsub.specs.declared.rules.Form.{Form}
 use Rattle.acsub.specs.declared.rules.RuleLine.{RuleLine}
 
 -- the text spells some bytes in hex
 abbrev pub IsSpelling : List ℕ → Type 0
 IsSpelling text = (bytes : List ℕ) × Spells text bytes
+
+-- the side begins with what stands for no byte
+abbrev pub BeginsWithNoByte : List ℕ → Type 0
+BeginsWithNoByte side = (byte : ℕ) (rest : List ℕ) → ¬ BeginsWithByte side byte rest
+
+-- the byte that the side begins with, and what follows; or it begins with none
+abbrev pub BeginsWithFound : List ℕ → Option (ℕ × Bor (List ℕ)) → Type 0
+BeginsWithFound side (Some found) = BeginsWithByte side found.0 found.1.now
+BeginsWithFound side None = BeginsWithNoByte side
 
 -- the text is split at the first separator, with these bytes before it and after it
 abbrev pub IsSplitAt : List ℕ → ℕ → List ℕ → List ℕ → Type 0
@@ -23,8 +34,8 @@ BeginsWithLine grammar text (Some line) =
 BeginsWithLine grammar text None = (rule : Rule) (more : List ℕ) → ¬ grammar.begins text rule more
 
 -- the file has this many rules
-abbrev pub HasCount : Bool → List ℕ → ℕ → Type 0
-HasCount text file count = (rules : List Rule) × (grammar_of text).holds file rules × (count ≡ length rules)
+abbrev pub HasCount : Form → List ℕ → ℕ → Type 0
+HasCount form file count = (rules : List Rule) × (grammar_of form).holds file rules × (count ≡ length rules)
 
 -- ---- rules
 

@@ -7,6 +7,7 @@ use Rattle.acsub.specs.Plan.{plan_of}
 use Rattle.acsub.specs.Rules.File.{grammar_of}
 use Rattle.acsub.specs.Run.{RanWhole}
 use Rattle.acsub.specs.declared.args.settings.Settings.{Settings}
+use Rattle.acsub.specs.declared.rules.Form.{Form}
 
 -- The settings ask for the same text. They may name other engines, and differ in prefilter, dense depth and byte
 -- classes.
@@ -16,14 +17,14 @@ pub record AskAlike (settings other : Settings) : Type 0 where
   pub pairing : settings.pairing ≡ other.pairing
 
 -- Two runs that return Ok wrote the same bytes, if their settings ask for the same text, their rule files hold the same
--- rules, and they read the same bytes. Each file may be of plain text or of hex. It doesn't matter how the input was
+-- rules, and they read the same bytes. Each file may be of any form. It doesn't matter how the input was
 -- cut, nor whether either run streams.
 abbrev pub RunsWriteAlike : Type 0
 RunsWriteAlike =
-    (settings other : Settings) (stream another text plain : Bool) (file page : List ℕ) (m n : Moved)
+    (settings other : Settings) (stream another : Bool) (form shape : Form) (file page : List ℕ) (m n : Moved)
     → AskAlike settings other
-    → ((rules : List Rule) → (grammar_of text).holds file rules → (grammar_of plain).holds page rules)
+    → ((rules : List Rule) → (grammar_of form).holds file rules → (grammar_of shape).holds page rules)
     → concat m.pieces ≡ concat n.pieces
-    → (rules : List Rule) × (grammar_of text).holds file rules × RanWhole (plan_of stream settings rules) m
-    → (rules : List Rule) × (grammar_of plain).holds page rules × RanWhole (plan_of another other rules) n
+    → (rules : List Rule) × (grammar_of form).holds file rules × RanWhole (plan_of stream settings rules) m
+    → (rules : List Rule) × (grammar_of shape).holds page rules × RanWhole (plan_of another other rules) n
     → m.taken ≡ n.taken

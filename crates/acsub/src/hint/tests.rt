@@ -1,5 +1,6 @@
 //! The hint for each mistake: of arguments, settings, rule files and memory.
-use super::write_hint;
+use super::{reason, write_hint};
+use crate::rules::Form;
 use crate::scripted::{command_line, equal, expecting};
 use std::alloc::{AllocError, Global};
 use std::fs;
@@ -245,6 +246,16 @@ const ROWS: &[Row] = &[
         hint: "acsub: hint: the line has a CR and a second TAB; lines end in LF or CR LF, not in CR\n",
         ..LINE
     },
+    Row {
+        rules: "\u{feff}fox\tsloth\n",
+        hint: "acsub: hint: the file begins with a byte order mark; save it as UTF-8 without one\n",
+        ..LINE
+    },
+    Row {
+        rules: "f\0o\0x\0\n\0",
+        hint: "acsub: hint: line 1 has a NUL, as has a file in UTF-16; save it as UTF-8, or give a NUL as \\0 with --escapes\n",
+        ..LINE
+    },
     // Runs that were out of memory: those that write while they read, and those that hold their input.
     FULL,
     Row {
@@ -324,6 +335,40 @@ fn hints_at_no_text<F: Abort + Files>(rt: &F, alloc: Global) {
     }
 }
 
+/// Files of text with a bad line, and why it is one.
+const REASONS: &[(Form, &[u8], &str)] = &[
+    (
+        Form::Text,
+        b"\xff\xfef\0o\0x\0",
+        "the file is in UTF-16; save it as UTF-8 without a byte order mark",
+    ),
+    (
+        Form::Escaped,
+        b"\xfe\xff\0f\0o\0x",
+        "the file is in UTF-16; save it as UTF-8 without a byte order mark",
+    ),
+    (
+        Form::Escaped,
+        b"a\tb\n\\a\tb\n",
+        "a backslash is none of \\t, \\n, \\r, \\\\, \\0 and \\xHH; a backslash itself is \\\\",
+    ),
+    (
+        Form::Escaped,
+        b"\\x9\0",
+        "line 1 has a NUL, as has a file in UTF-16; save it as UTF-8, or give a NUL as \\0 with --escapes",
+    ),
+    (
+        Form::Escaped,
+        b"a\tb\tc\n",
+        "the line has a second TAB; a rule is pattern TAB replacement",
+    ),
+    (
+        Form::Escaped,
+        b"a\n\r\n",
+        "the line is empty; a pattern has a byte at least",
+    ),
+];
+
 #[test]
 fn says_what_to_write(rt: HostRuntime) -> Result<(), Fail> {
     fs::create_dir_all(&rt, "out")?;
@@ -333,5 +378,8 @@ fn says_what_to_write(rt: HostRuntime) -> Result<(), Fail> {
     }
     fs::remove_file(&rt, PATH)?;
     hints_at_no_text(&rt, rt.alloc());
+    for (form, file, why) in REASONS {
+        equal(&rt, &reason(rt.alloc(), *form, file), &Some(*why), why);
+    }
     Ok(())
 }

@@ -5,7 +5,7 @@
 use super::{run, run_rules};
 use crate::args::settings::{Engine, SettingError, Settings};
 use crate::error::RunError;
-use crate::rules::{RuleError, read_rules};
+use crate::rules::{Form, RuleError, read_rules};
 use crate::scripted::{Same, Sink, Source, Told, equal, expecting, whole};
 use ac_automaton::watched::Watched;
 use ac_input::search::MatchKind;
@@ -67,7 +67,7 @@ fn try_run(
     let apart = source.most == 2;
     let mut reader = Watched::new(source);
     let mut writer = Watched::new(sink);
-    let outcome = match read_rules(alloc, false, rules.as_bytes()) {
+    let outcome = match read_rules(alloc, Form::Hex, rules.as_bytes()) {
         Ok(rules) if stream || apart => {
             run_rules(alloc, settings, stream, &rules, &mut reader, &mut writer)
         }

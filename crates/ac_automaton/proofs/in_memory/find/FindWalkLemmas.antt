@@ -6,7 +6,8 @@ use Rattle.ac_input.specs.declared.search.Anchored.TheVariants.{No}
 use Rattle.ac_input.specs.declared.search.MatchKind.TheVariants.{Standard}
 use Rattle.ac_input.specs.declared.search.Span.{Span}
 use Rattle.ac_input.specs.declared.steps.Steps.{Steps}
-use Rattle.ac_input.specs.Dictionary.{IsLive}
+use Rattle.ac_input.specs.Best.{IsBest}
+use Rattle.ac_input.specs.Dictionary.{IsLive, whole}
 use Rattle.ac_input.specs.Input.{Asked, is_anchored}
 use Rattle.ac_input.specs.Occurrence.{Occurrence}
 use Rattle.ac_input.specs.Tells.{Tells}
@@ -15,11 +16,11 @@ use Rattle.ac_automaton.specs.declared.automaton.Automaton.{Ghosts}
 use Rattle.ac_automaton.specs.declared.in_memory.find.cursor.Cursor.{Cursor}
 use Rattle.ac_automaton.specs.declared.in_memory.find.cursor.End.TheVariants.{Found, Idle}
 use Rattle.ac_automaton.specs.Automaton.{kind_asked}
-use Rattle.ac_automaton.specs.InMemory.Find.Cursor.{IsTaken, ReadsFurther, StandsIn}
+use Rattle.ac_automaton.specs.InMemory.Find.Cursor.{HasNoneYet, IsTaken, ReadsFurther, StandsIn}
 use Rattle.ac_automaton.specs.InMemory.Find.{IsWalkCost, WalkLooks, WalkSays}
 use Rattle.ac_automaton.proofs.lemmas.CursorLemmas.{part-empty}
 use Rattle.ac_automaton.proofs.lemmas.WalkLemmas.{HasTold, HasReadText, read, told-best, walked-none}
-use Rattle.ac_automaton.proofs.lemmas.WalkEndLemmas.{IsDone, answer-looks, answer-says, answer-work, back-says, back-work, walked-on}
+use Rattle.ac_automaton.proofs.lemmas.WalkEndLemmas.{IsDone, answer-looks, answer-says, answer-work, back-says, back-work, unshifted-none, walked-on}
 
 -- the rest of the span, from where the walk began
 abbrev pub rest : Asked → Cursor → Span
@@ -77,6 +78,18 @@ asks A a asked at cursor best new all x y tells walks taken or =
       told = told-best (A.matches a cursor.sid)
           walks.stands.inside walks.walked (tells text cursor.sid reads) taken or;
     }
+
+-- where the walk has no match, nothing occurs in what it has read
+pub asked-none : {S : Type 0} {A : Ghosts S} {a : S} {asked : Asked} {at : ℕ} {cursor : Cursor}
+    {best : Option Occurrence} {x y : Steps} → HasAsked A a asked at cursor best x y → asked.anchored ≡ No
+    → best ≡ None → HasNoneYet (A.built a) asked cursor
+asked-none {A} {a} {asked} {cursor} has free none =
+    let m = (A.built a).dictionary in
+    let text = text_read asked cursor in
+    let nothing : IsBest m.kind (whole m text (is_anchored asked.anchored)) None =
+    subst (λ r. IsBest (kind_asked (A.built a) asked) (whole m text (is_anchored asked.anchored)) r)
+    (unshifted-none cursor.from has.told.found (sym has.told.kept ∙ none)) has.told.told in
+    subst (λ k. IsBest m.kind (whole m text (is_anchored k)) None) free nothing
 
 -- where the walk is over, its best match is the result
 pub asked-says : {S : Type 0} {A : Ghosts S} {a : S} {asked : Asked} {at : ℕ} {cursor : Cursor}

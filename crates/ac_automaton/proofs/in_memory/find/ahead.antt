@@ -1,1 +1,2 @@
 pub mod FindAheadLemmas
+pub mod MetLemmas

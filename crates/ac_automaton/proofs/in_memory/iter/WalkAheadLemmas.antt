@@ -10,8 +10,9 @@ use Rattle.ac_input.specs.Steps.{Added, AreNone}
 use Rattle.ac_input.specs.Walk.{Further, Here, IsPick}
 use Rattle.ac_input.specs.Work.{bytes_counted, lookups_per_byte, over_at}
 use Rattle.ac_input.specs.declared.search.MatchKind.{MatchKind}
+use Rattle.ac_input.specs.declared.search.MatchKind.TheVariants.{Standard}
 use Rattle.ac_automaton.specs.Ahead.{Settles, bytes_ahead, less_ahead, most_ahead}
-use Rattle.ac_automaton.specs.Automaton.{searched}
+use Rattle.ac_automaton.specs.Automaton.{kind_asked, searched}
 use Rattle.ac_automaton.specs.InMemory.Find.Ahead.{IsAheadIn, ReadsAheadFrom, ended_at}
 use Rattle.ac_automaton.specs.InMemory.Iter.{CountsWalk, IsOnItsWay, IsPickCost, IsPickOf, IsPickWork, IsRestOf, IsWithinBudget, IsWithinBudgetAhead, PickCounts, Walk, passed, walk_at, walk_kind}
 use Rattle.ac_automaton.specs.declared.ahead.Ahead.{Ahead}
@@ -42,12 +43,13 @@ more-counted (Some f) places le within = omega (arith, within, le)
 
 -- how much was read ahead of a walk that stands at a place
 reads-few : {S : Type 0} (A : Ghosts S) (a : S) (start : Option StateID) (asked : Asked) {at : ℕ} (ahead : Ahead)
-    → at ≤ asked.span.end → asked.span.end ≤ length asked.haystack → ReadsAheadFrom A a start asked at ahead
+    → at ≤ asked.span.end → asked.span.end ≤ length asked.haystack
+    → kind_asked (A.built a) asked ≡ Standard → ReadsAheadFrom A a start asked at ahead
     → (at + bytes_ahead ahead ≤ asked.span.end) × (bytes_ahead ahead ≤ most_ahead)
-reads-few A a None asked ahead inside within none = (omega (arith, inside, none), omega (arith, none))
-reads-few A a (Some start) asked ahead inside within reads =
+reads-few A a None asked ahead inside within standard none = (omega (arith, inside, none), omega (arith, none))
+reads-few A a (Some start) asked ahead inside within standard reads =
     let long = length-take-le asked.span.end asked.haystack within in
-    let few = ahead-within reads.0.standard (omega (arith, inside, long)) reads.1 in
+    let few = ahead-within (sym reads.0.kind ∙ standard) (omega (arith, inside, long)) reads.1 in
     (omega (arith, few.0, long), few.1)
 
 -- What a walk that reads ahead has cost for the bytes that it has passed: its sums, less what was read ahead of it.
@@ -69,14 +71,16 @@ walk-ahead A {a} start {first} {asked} {last} {sums} ahead stands reads =
     let begun = stands.begun in
     let made = stands.made in
     let paid = stands.budget in
-    let few = reads-few A a start asked ahead (omega arith) stands.inside reads in
+    let few =
+    λ (standard : kind_asked (A.built a) asked ≡ Standard).
+    reads-few A a start asked ahead (omega arith) stands.inside standard reads in
     let d = (A.built a).deterministic in
     let w = walk_at (A.built a) first asked last (less_ahead sums ahead) in
     let all : (w.looked + bytes_ahead ahead) ≡ sums.looked.value = omega (arith, made) in (
       record {
         looked = λ standard. let le = more-looks d (passed w) (bytes_ahead ahead) (asked.span.end - first)
-            (paid.looked standard) (omega (arith, few.0, begun)) in omega (arith, le, all);
-        near = λ standard. let le = paid.looked standard in omega (arith, le, all, few.1);
+            (paid.looked standard) (omega (arith, (few standard).0, begun)) in omega (arith, le, all);
+        near = λ standard. let le = paid.looked standard in omega (arith, le, all, (few standard).1);
         scanned = paid.scanned;
         moved = paid.moved;
       },
@@ -215,12 +219,12 @@ module _ {S : Type 0} (A : Ghosts S) (a : S) (start : Option StateID) (first : �
           (min (after_pick asked r) asked.span.end) after
       by None r pick reads = reads
       by (Some sid) None pick reads = (
-        record { standard = reads.0.standard; filled = reads.0.filled; free = reads.0.free; starts = reads.0.starts },
+        record { kind = reads.0.kind; filled = reads.0.filled; free = reads.0.free; starts = reads.0.starts },
         subst (λ n. IsAheadIn A a asked sid n after)
             (let e : asked.span.end ≡ min (asked.span.end + 1) asked.span.end = omega arith in e) reads.1,
       )
       by (Some sid) (Some o) pick reads = let lies = pick-lies pick in (
-        record { standard = reads.0.standard; filled = reads.0.filled; free = reads.0.free; starts = reads.0.starts },
+        record { kind = reads.0.kind; filled = reads.0.filled; free = reads.0.free; starts = reads.0.starts },
         subst (λ n. IsAheadIn A a asked sid n after)
             (let e : o.end ≡ min o.end asked.span.end = omega (arith, lies.1) in e) reads.1,
       )

@@ -2,17 +2,17 @@
 use Rattle.std.specs.Prelude.{◌≡◌, ℕ, ◌≤◌, [], List, take, Option, None, Some}
 use Rattle.ac_input.specs.Number.{StateID}
 use Rattle.ac_input.specs.declared.search.Anchored.TheVariants.{No}
-use Rattle.ac_input.specs.declared.search.MatchKind.TheVariants.{Standard}
 use Rattle.ac_input.specs.Input.{Asked}
 use Rattle.ac_input.specs.Work.{shortest}
 use Rattle.ac_input.specs.Occurrence.{Occurrence}
 use Rattle.ac_automaton.specs.Ahead.{IsAhead, bytes_ahead}
+use Rattle.ac_automaton.specs.Automaton.{kind_asked}
 use Rattle.ac_automaton.specs.declared.ahead.Ahead.{Ahead}
 use Rattle.ac_automaton.specs.declared.automaton.Automaton.{Ghosts}
 
--- The search is of the standard kind and isn't anchored, it begins in this state, and no pattern is empty.
+-- The search is of the automaton's kind and isn't anchored, it begins in this state, and no pattern is empty.
 pub record MayReadAhead {S : Type 0} (A : Ghosts S) (automaton : S) (asked : Asked) (start : StateID) : Type 0 where
-  pub standard : (A.built automaton).dictionary.kind ≡ Standard
+  pub kind : kind_asked (A.built automaton) asked ≡ (A.built automaton).dictionary.kind
   pub filled : 1 ≤ shortest (A.built automaton).dictionary.patterns
   pub free : asked.anchored ≡ No
   pub starts : A.Reaches automaton No [] start

@@ -1,5 +1,5 @@
 -- Where a search stands, which match the state has there, and what it costs to read on.
-use Rattle.std.specs.Prelude.{◌≡◌, ℕ, ◌-◌, ◌<◌, ◌≤◌, ◌==◌, ◌||◌, not, Bool, List, [], length, Option, Some, get_or, slice_get, slice_range, option_map}
+use Rattle.std.specs.Prelude.{◌≡◌, ℕ, ◌-◌, ◌<◌, ◌≤◌, ◌==◌, ◌||◌, not, Bool, false, List, [], length, Option, None, Some, get_or, slice_get, slice_range, option_map}
 use Rattle.std.specs.List.{filter}
 use Rattle.ac_input.specs.Number.{StateID}
 use Rattle.ac_input.specs.declared.search.Anchored.{Anchored}
@@ -7,7 +7,8 @@ use Rattle.ac_input.specs.declared.search.Anchored.TheVariants.{Yes}
 use Rattle.ac_input.specs.declared.search.Span.{Span}
 use Rattle.ac_input.specs.declared.steps.Steps.{Steps}
 use Rattle.ac_input.specs.Input.{Asked, is_anchored}
-use Rattle.ac_input.specs.Dictionary.{Dictionary, IsLive, live_len}
+use Rattle.ac_input.specs.Best.{IsBest}
+use Rattle.ac_input.specs.Dictionary.{Dictionary, IsLive, live_len, whole}
 use Rattle.ac_input.specs.Occurrence.{Search, Occurrence, starting_at}
 use Rattle.ac_input.specs.Tells.{Tells, ending_at}
 use Rattle.ac_input.specs.Work.{IsLookups}
@@ -45,6 +46,11 @@ pub record HasReadOn (b : Built) (anchored : Anchored) (s : Search) (from to : C
       → IsLive b.dictionary (is_anchored anchored) (read_to (walked s from) to.at) live_after
       → IsLookups b.deterministic (to.at - from.at) (live_len (read_to (walked s from) from.at) live)
       (live_len (read_to (walked s from) to.at) live_after) before after
+
+-- nothing occurs in the bytes that a cursor of an input's search has read
+abbrev pub HasNoneYet : Built → Asked → Cursor → Type 0
+HasNoneYet b asked cursor =
+    IsBest b.dictionary.kind (whole b.dictionary (read_to (walked (searched b asked) cursor) cursor.at) false) None
 
 -- Whether an entry counts at a state that was reached by this many bytes. From the anchored start only patterns of that
 -- length do.

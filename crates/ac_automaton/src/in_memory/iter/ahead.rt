@@ -10,8 +10,9 @@
 //! iterator itself; nothing is allocated. To make one takes as long as to search some hundred bytes, so for short texts `FindIter` is
 //! the faster one.
 //!
-//! Only an automaton of the standard kind with no empty pattern and no prefilter reads ahead, and only where the input isn't anchored
-//! and has 1 KiB to be searched. Elsewhere this iterator goes on as `FindIter` does.
+//! Only an automaton with no empty pattern reads ahead, and only where the input isn't anchored and has 1 KiB to be searched; under a
+//! leftmost kind also only where the search isn't an earliest one. A prefilter passes bytes faster, unless it is packed search for
+//! more than 64 patterns that doesn't go by grams. Elsewhere this iterator goes on as `FindIter` does.
 ghost use Rattle.std.specs.Prelude.{◌≡◌, ◌≤◌, [], length, IfSome};
 ghost use Rattle.std.specs.Iterator.{YieldsFirst, item_count};
 ghost use Rattle.ac_automaton.specs.Ahead.{IsPaid};
@@ -21,9 +22,10 @@ ghost use Rattle.ac_automaton.specs.InMemory.Iter.{GivesPick, CostsPickAhead, le
 use crate::ahead::{Ahead, LEAST};
 use crate::in_memory::iter::{WalkPlace, next_pick};
 use crate::search::Search;
+use crate::skip::FEW_PATTERNS;
 use ac_input::history::Count;
 use ac_input::primitives::StateID;
-use ac_input::search::{Anchored, Input, Match, MatchKind};
+use ac_input::search::{Anchored, Input, Match};
 use ac_input::steps::Steps;
 use std::marker::Model;
 
@@ -62,20 +64,26 @@ impl<'a, 'h, A: Search> Model for FindIterAhead<'a, 'h, A> {
         × (bytes_ahead i.ahead ≤ i.sums.looked.value) };
 }
 
+/// Whether an automaton has a prefilter that passes bytes faster than several walks side by side read them.
+fn passes_many<A: Search>(automaton: &A) -> bool {
+    match automaton.prefilter() {
+        Some(prefilter) => !prefilter.is_dense() || automaton.patterns_len() <= FEW_PATTERNS,
+        None => false,
+    }
+}
+
 /// Whether the input is read ahead, and then in which state: that in which its search begins.
 fn reads_from<A: Search>(automaton: &A, input: &Input<'_>, start: StateID) -> Option<StateID>
     requires { A.Reaches automaton.now input.now.anchored [] start }
     ensures { IfSome result (MayReadAhead A.Automaton automaton.now input.now) }
 {
     let is_free = input.get_anchored() == Anchored::No;
-    if !is_free
-        || automaton.match_kind() != MatchKind::Standard
-        || automaton.min_pattern_len() == 0
-    {
+    let kind = automaton.match_kind();
+    if !is_free || kind.asked(input.get_earliest()) != kind || automaton.min_pattern_len() == 0 {
         return None;
     }
     let is_long = input.end().saturating_sub(input.start()) >= LEAST;
-    if is_long && automaton.prefilter().is_none() {
+    if is_long && !passes_many(automaton) {
         Some(start)
     } else {
         None

@@ -6,6 +6,6 @@ use Rattle.ac_literal.proofs.openings.len_of.Given as goal
 
 abbrev pub invariant-loop-pattern : goal.invariant-loop-pattern
 invariant-loop-pattern l = record {
-  few : l.len ≤ 4;
+  few : l.len ≤ l.most;
   short : (number : ℕ) → number < l.pattern-index → l.len ≤ length (get_or (bytes_of l.patterns) number []);
 }

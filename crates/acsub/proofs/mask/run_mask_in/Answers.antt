@@ -6,7 +6,7 @@ use Rattle.acsub.proofs.mask.run_mask_in.Goals as goal
 pub returns-in-Ok-clause-answered : goal.returns-in-Ok-clause-answered
 returns-in-Ok-clause-answered g c =
     let ran = c.run_mask in
-    early-in c.args.asked.text c.args.file.now (c.args.reader.now, c.args.writer.now) (ran.new.reader, ran.new.writer)
+    early-in c.args.asked.form c.args.file.now (c.args.reader.now, c.args.writer.now) (ran.new.reader, ran.new.writer)
     (λ rules. mask_demand c.args.asked.settings rules c.args.mask.byte)
     (λ rules. MasksInput g.R.Read.remaining g.W.Write.contents (c.args.reader.now, c.args.writer.now)
     (ran.new.reader, ran.new.writer) c.args.asked.settings rules c.args.mask)
@@ -15,7 +15,7 @@ returns-in-Ok-clause-answered g c =
 pub returns-in-Ok-clause-fault : goal.returns-in-Ok-clause-fault
 returns-in-Ok-clause-fault g c =
     let ran = c.run_mask in
-    early-no_bad_line c.args.asked.text c.args.file.now (c.args.reader.now, c.args.writer.now) (ran.new.reader, ran.new.writer)
+    early-no_bad_line c.args.asked.form c.args.file.now (c.args.reader.now, c.args.writer.now) (ran.new.reader, ran.new.writer)
     (λ rules. mask_demand c.args.asked.settings rules c.args.mask.byte)
     (λ rules. MasksInput g.R.Read.remaining g.W.Write.contents (c.args.reader.now, c.args.writer.now)
     (ran.new.reader, ran.new.writer) c.args.asked.settings rules c.args.mask)
@@ -24,10 +24,10 @@ returns-in-Ok-clause-fault g c =
 pub returns-in-Err-clause-answered : goal.returns-in-Err-clause-answered
 returns-in-Err-clause-answered g c =
     rw c.unread.ensures
-    (early-unread c.args.asked.text c.args.file.now c.in-Err.error c.in-Err.ensures (c.args.reader.now, c.args.writer.now)
+    (early-unread c.args.asked.form c.args.file.now c.in-Err.error c.in-Err.ensures (c.args.reader.now, c.args.writer.now)
     (λ rules. AnswersMask g.R.Read.remaining g.W.Write.contents (c.args.reader.now, c.args.writer.now)
     (c.args.reader.now, c.args.writer.now) c.args.asked.settings rules c.args.mask))
 
 pub returns-in-Err-clause-fault : goal.returns-in-Err-clause-fault
 returns-in-Err-clause-fault g c =
-    rw c.unread.ensures (early-unread_line c.args.asked.text c.args.file.now c.in-Err.error c.in-Err.ensures)
+    rw c.unread.ensures (early-unread_line c.args.asked.form c.args.file.now c.in-Err.error c.in-Err.ensures)

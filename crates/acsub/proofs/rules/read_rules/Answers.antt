@@ -14,7 +14,7 @@ returns-in-Ok c =
       bad = λ n. (
         λ e. let memory = IfErr-at_err (λ (x : RuleError). x ≡ Memory) e c.keep_rules.ensures.memory in
             absurd (cc memory),
-        λ bad. absurd (bad_none c.args.text c.args.bytes.now n file.0 file.1 bad),
+        λ bad. absurd (bad_none c.args.form c.args.bytes.now n file.0 file.1 bad),
       );
       memory = λ e. (file.0, file.1);
     }
@@ -25,8 +25,8 @@ returns-in-Err c =
     record {
       rules = tt;
       bad = λ n. (
-        λ e. let same : c.in-Err.line ≡ n = cc in subst ((grammar_of c.args.text).bad bytes) same c.in-Err.ensures,
-        λ bad. ap (λ m. Err (Line m)) (bad_one c.args.text bytes c.in-Err.line n c.in-Err.ensures bad),
+        λ e. let same : c.in-Err.line ≡ n = cc in subst ((grammar_of c.args.form).bad bytes) same c.in-Err.ensures,
+        λ bad. ap (λ m. Err (Line m)) (bad_one c.args.form bytes c.in-Err.line n c.in-Err.ensures bad),
       );
       memory = λ e. absurd (cc e);
     }

@@ -6,35 +6,35 @@ use Rattle.acsub.proofs.run.run_in.Goals as goal
 pub returns-in-Ok-clause-answered : goal.returns-in-Ok-clause-answered
 returns-in-Ok-clause-answered g c =
     let ran = c.run_rules_counted in
-    ran_in c.args.asked.text (plan_of c.args.asked.stream c.args.asked.settings) c.args.file.now c.in-Ok.rules
+    ran_in c.args.asked.form (plan_of c.args.asked.stream c.args.asked.settings) c.args.file.now c.in-Ok.rules
     c.in-Ok.ensures.rules g.R.Read.remaining g.W.Write.contents (c.args.reader.now, c.args.writer.now)
     (ran.new.reader, ran.new.writer) ran.result ran.ensures.answered
 
 pub returns-in-Ok-clause-fault : goal.returns-in-Ok-clause-fault
 returns-in-Ok-clause-fault g c =
     let ran = c.run_rules_counted in
-    no_bad_line c.args.asked.text (plan_of c.args.asked.stream c.args.asked.settings) c.args.file.now c.in-Ok.rules
+    no_bad_line c.args.asked.form (plan_of c.args.asked.stream c.args.asked.settings) c.args.file.now c.in-Ok.rules
     c.in-Ok.ensures.rules g.R.Read.remaining g.W.Write.contents (c.args.reader.now, c.args.writer.now)
     (ran.new.reader, ran.new.writer) ran.result ran.ensures.answered
 
 pub returns-in-Ok-clause-cost : goal.returns-in-Ok-clause-cost
 returns-in-Ok-clause-cost g c =
     let ran = c.run_rules_counted in
-    costs_in c.args.asked.text (plan_of c.args.asked.stream c.args.asked.settings) c.args.file.now c.in-Ok.rules
+    costs_in c.args.asked.form (plan_of c.args.asked.stream c.args.asked.settings) c.args.file.now c.in-Ok.rules
     c.in-Ok.ensures.rules c.args.reader.now ran.new.reader c.args.steps.now ran.new.steps ran.result ran.ensures.cost
 
 pub returns-in-Err-clause-answered : goal.returns-in-Err-clause-answered
 returns-in-Err-clause-answered g c =
     rw c.unread.ensures
-    (unread_ran c.args.asked.text c.args.file.now c.in-Err.error c.in-Err.ensures g.R.Read.remaining g.W.Write.contents
+    (unread_ran c.args.asked.form c.args.file.now c.in-Err.error c.in-Err.ensures g.R.Read.remaining g.W.Write.contents
     (c.args.reader.now, c.args.writer.now) (plan_of c.args.asked.stream c.args.asked.settings))
 
 pub returns-in-Err-clause-fault : goal.returns-in-Err-clause-fault
 returns-in-Err-clause-fault g c =
-    rw c.unread.ensures (unread_line c.args.asked.text c.args.file.now c.in-Err.error c.in-Err.ensures)
+    rw c.unread.ensures (unread_line c.args.asked.form c.args.file.now c.in-Err.error c.in-Err.ensures)
 
 pub returns-in-Err-clause-cost : goal.returns-in-Err-clause-cost
 returns-in-Err-clause-cost g c =
     rw c.unread.ensures
-    (unread_costs c.args.asked.text c.args.file.now c.in-Err.error c.in-Err.ensures c.args.reader.now
+    (unread_costs c.args.asked.form c.args.file.now c.in-Err.error c.in-Err.ensures c.args.reader.now
     (plan_of c.args.asked.stream c.args.asked.settings) c.args.steps.now)

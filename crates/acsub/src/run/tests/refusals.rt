@@ -6,13 +6,14 @@ use crate::args::settings::SettingError::{
 };
 use crate::args::settings::check;
 use crate::rules;
+use crate::rules::Form;
 use crate::scripted::PLAIN;
 use ac_input::search::MatchKind::{LeftmostFirst, LeftmostLongest, Standard};
 use std::test::Fail;
 
 /// Why the rule file and the settings are an error, if they are.
 fn refusal(alloc: Global, settings: &Settings, file: &str) -> Answer {
-    match read_rules(alloc, false, file.as_bytes()) {
+    match read_rules(alloc, Form::Hex, file.as_bytes()) {
         Ok(rules) => match check(settings, &rules) {
             Ok(()) => Answer::Done,
             Err(error) => Answer::Setting(error),
@@ -149,15 +150,81 @@ const PLAIN_TEXT: &[Plain] = &[
     Plain(b"a\t\t", Err(1)),
 ];
 
+/// Files that are no plain text, or look like it: the same with escapes and without.
+const FOREIGN: &[Plain] = &[
+    // A byte order mark, of UTF-8 and of UTF-16, whatever follows; it is the first bad line of several.
+    Plain(b"\xef\xbb\xbffox\tsloth\n", Err(1)),
+    Plain(b"\xef\xbb\xbf", Err(1)),
+    Plain(b"\xff\xfef\0o\0x\0\n\0", Err(1)),
+    Plain(b"\xfe\xff\0f\0o\0x\0\n", Err(1)),
+    Plain(b"\xef\xbb\xbffox\n\n", Err(1)),
+    // UTF-16 without a mark: a NUL in the first line.
+    Plain(b"f\0o\0x\0\n\0", Err(1)),
+    Plain(b"\0f\0o\0x\0\n", Err(1)),
+    Plain(b"\0", Err(1)),
+    Plain(b"fox\tslo\0th", Err(1)),
+    // Parts of a mark, a mark in a later place, and a NUL in a later line.
+    Plain(
+        b"\xef\xbb\n\xef\xbb\xbf\t\xff\xfe\nfox\0",
+        Ok(&[
+            (b"\xef\xbb", b""),
+            (b"\xef\xbb\xbf", b"\xff\xfe"),
+            (b"fox\0", b""),
+        ]),
+    ),
+    Plain(b"\xff\xff", Ok(&[(b"\xff\xff", b"")])),
+    Plain(b"\xfe", Ok(&[(b"\xfe", b"")])),
+];
+
+/// Files of text with escapes.
+const ESCAPED: &[Plain] = &[
+    // Each escape, on both sides; hex digits of either case.
+    Plain(
+        b"a\\tb\ta\\nb\n\\r\t\\\\\n\\0\t\\x00\\xfF\\x5c\n",
+        Ok(&[(b"a\tb", b"a\nb"), (b"\r", b"\\"), (b"\0", b"\0\xff\\")]),
+    ),
+    // What an escape has written is not read again, and stands for no end of a side or a line.
+    Plain(
+        b"\\\\t\t\\x5cn\n\\x0a\\x09\t\\x0d\r\n",
+        Ok(&[(b"\\t", b"\\n"), (b"\n\t", b"\r")]),
+    ),
+    // Digits after an escape are bytes of their own.
+    Plain(b"\\012\t\\x411", Ok(&[(b"\x0012", b"A1")])),
+    // Every other byte stands for itself; lines end as in plain text.
+    Plain(
+        b" #/ \t\xc3\x89\r\nfox",
+        Ok(&[(b" #/ ", b"\xc3\x89"), (b"fox", b"")]),
+    ),
+    // Any other backslash.
+    Plain(b"\\a", Err(1)),
+    Plain(b"a\n\\T\tb\n", Err(2)),
+    Plain(b"a\tb\\ \n", Err(1)),
+    Plain(b"\\\xff", Err(1)),
+    // A backslash at the end of a side, and before a CR that is no part of it.
+    Plain(b"a\\\tb\n", Err(1)),
+    Plain(b"a\tb\\\n", Err(1)),
+    Plain(b"a\\\\\\\r\n", Err(1)),
+    // Digits that are missing, or are none.
+    Plain(b"\\x", Err(1)),
+    Plain(b"\\x4\t\n", Err(1)),
+    Plain(b"a\nb\n\\x4g\n", Err(3)),
+    Plain(b"\\xg4", Err(1)),
+    Plain(b"\\X41", Err(1)),
+    // An empty pattern, an empty line, a second tab.
+    Plain(b"\t\\t", Err(1)),
+    Plain(b"\\t\n\n", Err(2)),
+    Plain(b"a\t\\t\tb", Err(1)),
+];
+
 /// Asserts that a file has these rules or was read in no memory; or that this is its first line that is no rule.
 fn reads_to(
     rt: &impl Abort,
     alloc: Global,
-    text: bool,
+    form: Form,
     file: &[u8],
     want: &Result<&[(&[u8], &[u8])], usize>,
 ) {
-    match (&read_rules(alloc, text, file), want) {
+    match (&read_rules(alloc, form, file), want) {
         (Ok(rules), Ok(sides)) => has_sides(rt, rules, sides),
         (Err(RuleError::Memory), Ok(_)) => {}
         (read, want) => {
@@ -171,13 +238,20 @@ fn reads_to(
 /// Asserts that a bad line is reported whatever memory does, and that rules are read or there was no memory.
 pub fn reads_where_there_is_memory(rt: &impl Abort, alloc: Global) {
     for Bad(file, line) in BAD {
-        reads_to(rt, alloc, false, file.as_bytes(), &Err(*line));
+        reads_to(rt, alloc, Form::Hex, file.as_bytes(), &Err(*line));
     }
     for Good(file, sides) in GOOD {
-        reads_to(rt, alloc, false, file.as_bytes(), &Ok(*sides));
+        reads_to(rt, alloc, Form::Hex, file.as_bytes(), &Ok(*sides));
     }
     for Plain(file, want) in PLAIN_TEXT {
-        reads_to(rt, alloc, true, file, want);
+        reads_to(rt, alloc, Form::Text, file, want);
+    }
+    for Plain(file, want) in FOREIGN {
+        reads_to(rt, alloc, Form::Text, file, want);
+        reads_to(rt, alloc, Form::Escaped, file, want);
+    }
+    for Plain(file, want) in ESCAPED {
+        reads_to(rt, alloc, Form::Escaped, file, want);
     }
 }
 
@@ -381,7 +455,7 @@ const ROWS: &[Row] = &[
 #[test]
 fn reads_rules_and_refuses(rt: HostRuntime) -> Result<(), Fail> {
     for Good(file, sides) in GOOD {
-        let rules = read_rules(rt.alloc(), false, file.as_bytes())?;
+        let rules = read_rules(rt.alloc(), Form::Hex, file.as_bytes())?;
         has_sides(&rt, &rules, sides);
     }
     for told in [PLAIN, PACKED] {

@@ -1,41 +1,37 @@
 -- What a search for one match returns and costs, when one call reads on from its start to the first state that matches.
-use Rattle.std.proofs.Common.{◌≡◌, ◌≢◌, ℕ, ◌+◌, ◌-◌, ◌<◌, ◌≤◌, Bool, true, false, List, [], length, take, drop, Option, Some, None, slice_range, refl, sym, ap, subst, ◌∙◌, ◌∷◌, arith, length-drop}
+use Rattle.std.proofs.Common.{◌≡◌, ◌≢◌, ℕ, ◌+◌, ◌-◌, ◌<◌, ◌≤◌, Bool, false, List, [], length, take, drop, Option, Some, None, slice_range, refl, sym, ap, subst, ◌∙◌, ◌∷◌, arith, length-drop}
 use Rattle.std.specs.Option.{option_or}
 use Rattle.std.proofs.lemmas.List.{drop-take, length-take-le}
 use Rattle.ac_input.specs.Number.{StateID}
 use Rattle.ac_input.specs.declared.search.Anchored.{Anchored}
 use Rattle.ac_input.specs.declared.search.Anchored.TheVariants.{No}
-use Rattle.ac_input.specs.declared.search.MatchKind.{MatchKind}
-use Rattle.ac_input.specs.declared.search.MatchKind.TheVariants.{Standard}
 use Rattle.ac_input.specs.declared.search.Span.{Span}
 use Rattle.ac_input.specs.declared.steps.Steps.{Steps}
-use Rattle.ac_input.specs.Best.{asked_kind}
 use Rattle.ac_input.specs.Dictionary.{Dictionary}
 use Rattle.ac_input.specs.Input.{Asked}
 use Rattle.ac_input.specs.Occurrence.{Occurrence, Occurs, Search}
 use Rattle.ac_input.specs.Tells.{Tells, ending_at}
 use Rattle.ac_input.specs.Work.{shortest}
-use Rattle.ac_input.proofs.lemmas.LiveLemmas.{dead-best}
 use Rattle.ac_input.proofs.lemmas.OrderLemmas.{slice_range-length}
 use Rattle.std.specs.Prelude.{IfSome}
 use Rattle.ac_automaton.specs.Ahead.{IsAhead, bytes_ahead, left_notes, onward}
 use Rattle.ac_automaton.specs.declared.ahead.Ahead.{Ahead}
 use Rattle.ac_automaton.proofs.ahead.AheadLemmas.{ahead-end, ahead-fresh}
-use Rattle.ac_automaton.specs.Automaton.{AdvancesToMatch, Built, IsFindCost, IsFound, IsReadCost}
+use Rattle.ac_automaton.specs.Automaton.{AdvancesToMatch, Built, IsFindCost, IsFound, IsReadCost, kind_asked, prefilter_for}
 use Rattle.ac_automaton.specs.InMemory.Find.Cursor.{IsFirstAt, taken}
 use Rattle.ac_automaton.specs.InMemory.Find.Ahead.{MayReadAhead, ReadsAheadFrom}
 use Rattle.ac_automaton.specs.declared.automaton.Advance.{Advance}
 use Rattle.ac_automaton.specs.declared.automaton.Automaton.{Ghosts}
 use Rattle.ac_automaton.specs.declared.in_memory.find.cursor.Cursor.{Cursor}
 use Rattle.ac_automaton.proofs.in_memory.find.CountedLemmas.{walk-counts}
-use Rattle.ac_automaton.proofs.lemmas.CursorLemmas.{alive-from, list-none}
+use Rattle.ac_automaton.proofs.lemmas.CursorLemmas.{alive-from, list-none, part-empty}
 use Rattle.ac_automaton.proofs.in_memory.find.FindWalkLemmas.{HasAsked, Walks, asked-looks, asked-on, asked-says, asked-work, asks, rest, text_read, walks-first}
 use Rattle.ac_automaton.proofs.automaton.PassLemmas.{matching-some, some-matching}
-use Rattle.ac_automaton.proofs.in_memory.find.cursor.ReadToMatchLemmas.{cursor-read_to, cursor-read_to_match}
+use Rattle.ac_automaton.proofs.in_memory.find.cursor.ReadToMatchLemmas.{cursor-read_to, cursor-read_to_first}
 use Rattle.ac_automaton.proofs.stream.SearchLemmas.{told-some}
 use Rattle.ac_automaton.proofs.stream.SearchReadLemmas.{nothing-in_empty}
 use Rattle.ac_automaton.proofs.in_memory.find.TakenLemmas.{taken-free}
-use Rattle.ac_automaton.proofs.lemmas.WalkEndLemmas.{IsDone, Ended, Won}
+use Rattle.ac_automaton.proofs.lemmas.WalkEndLemmas.{IsDone, Ended, none-alive}
 use Rattle.ac_input.proofs.lemmas.UnusedLemmas.{occurs-some}
 
 -- dropping from the front of a list gives a part of the list
@@ -44,17 +40,28 @@ front-part bytes from to ordered =
     let all : to ≡ from + (to - from) = omega arith in
     ap (λ n. drop from (take n bytes)) all ∙ drop-take from (to - from) bytes
 
--- under the standard kind an earliest search uses the standard kind too
-standard-asked : (kind : MatchKind) (earliest : Bool) → kind ≡ Standard → asked_kind kind earliest ≡ Standard
-standard-asked kind true is = refl
-standard-asked kind false is = is
-
 -- a result is unchanged by a default of none
 or-none : (r : Option Occurrence) → r ≡ option_or r None
 or-none None = refl
 or-none (Some o) = refl
 
--- a search of the standard kind that isn't anchored
+-- where a walk is over, its match is the match of the search
+pub is-found : {S : Type 0} (A : Ghosts S) (a : S) (asked : Asked) (stood : Cursor)
+    (r : Option Occurrence) (x y : Steps) → HasAsked A a asked asked.span.start stood r x y
+    → IsDone (A.built a).dictionary asked.anchored (kind_asked (A.built a) asked) asked.haystack (rest asked stood)
+    stood.at r
+    → IsFound (A.built a) asked r × IsFindCost (A.built a) asked x y r
+is-found A a asked stood r x y has done =
+    let b = A.built a in
+    let work = asked-work has in (
+      asked-says has done,
+      record {
+        work = work.0;
+        counted = walk-counts (prefilter_for b asked.anchored) _ x y work.1 (asked-looks has done);
+      },
+    )
+
+-- a search that isn't anchored
 module _ {S : Type 0} (A : Ghosts S) (a : S) (haystack : List ℕ) (span : Span) (earliest : Bool) (start : StateID)
     (stop : Advance) (x y : Steps)
     (tells : (text : List ℕ) (state : StateID) → A.Reaches a No text state
@@ -97,11 +104,13 @@ module _ {S : Type 0} (A : Ghosts S) (a : S) (haystack : List ℕ) (span : Span)
   walks =
       let b = A.built a in
       let has = first in
-      let alive = alive-from b.dictionary false (text_read asked begun) (λ dead. (dead-best dead).0 may.standard) in
+      let none = nothing-in_empty b.dictionary (text_read asked begun) may.filled (part-empty haystack span.start) in
+      let alive = alive-from b.dictionary false (text_read asked begun)
+      (λ dead. none-alive b.dictionary b.dictionary.kind (text_read asked begun) none dead) in
       let stands = cursor-read_to stop.sid span.end stop.taken has.stands
       (omega arith) (omega arith) some-taken.1 goes.reads in
-      let on = cursor-read_to_match b (A.Reaches a) (A.matches a) stop.sid span.end stop.taken
-      x y may.standard has.stands (omega arith) (omega arith) some-taken.0 some-taken.1 tells goes.plain cost in
+      let on = cursor-read_to_first b (A.Reaches a) (A.matches a) stop.sid span.end stop.taken
+      x y none has.stands (omega arith) (omega arith) some-taken.0 some-taken.1 tells goes.plain cost in
       asked-on stood y has (λ standard. refl) alive stands refl on
 
   -- the walk with the match of the state where it stands
@@ -110,28 +119,12 @@ module _ {S : Type 0} (A : Ghosts S) (a : S) (haystack : List ℕ) (span : Span)
       → HasAsked A a asked span.start stood r x y
   asked-there r is = asks A a asked span.start stood None r r x y tells walks is (or-none r)
 
-  -- where the walk is over there, the match of the state is the match of the search
-  is-found : (r : Option Occurrence) → HasAsked A a asked span.start stood r x y
-      → IsDone (A.built a).dictionary No (asked_kind (A.built a).dictionary.kind earliest) haystack (rest asked stood)
-      stood.at r
-      → IsFound (A.built a) asked r × IsFindCost (A.built a) asked x y r
-  is-found r has done =
-      let b = A.built a in
-      let work = asked-work has in (
-        asked-says has done,
-        record {
-          work = work.0;
-          counted = walk-counts b.prefilter _ x y work.1 (asked-looks has done);
-        },
-      )
-
-  -- where the state matches, its match is the match of the search
+  -- where the state matches, the search has its match
   free-some : (o : Occurrence) → IsFirstAt (A.built a).dictionary stood.at (A.matches a stop.sid) o
-      → IsFound (A.built a) asked (Some o) × IsFindCost (A.built a) asked x y (Some o)
+      → HasAsked A a asked span.start stood (Some o) x y
   free-some o is =
-      let m = (A.built a).dictionary in
-      is-found (Some o) (asked-there (Some o) (taken-free m stood.at (stood.at - stood.from) (A.matches a stop.sid) is))
-      (Won o (standard-asked m.kind earliest may.standard) refl)
+      asked-there (Some o)
+      (taken-free (A.built a).dictionary stood.at (stood.at - stood.from) (A.matches a stop.sid) is)
 
   -- where the state doesn't match, the span ends there and there is no match
   free-none : ¬ (A.matches a stop.sid ≢ []) → IsFound (A.built a) asked None × IsFindCost (A.built a) asked x y None
@@ -143,7 +136,7 @@ module _ {S : Type 0} (A : Ghosts S) (a : S) (haystack : List ℕ) (span : Span)
       let all : ¬ (stop.taken < length (slice_range haystack span.start span.end)) =
       λ less. none (some-matching (A.matches a stop.sid) (goes.stops less)) in
       let ended : span.start + stop.taken ≡ span.end = omega (arith, all, long, within) in
-      is-found None
+      is-found A a asked stood None x y
       (asked-there None (subst (λ l. None ≡ taken m No stood.at (stood.at - stood.from) l) (sym empty) refl))
       (Ended ended)
 
@@ -163,7 +156,7 @@ module _ {S : Type 0} (A : Ghosts S) (a : S) (asked : Asked) (start : StateID) (
       × IsFindCost (A.built a) (record asked { anchored = anchored }) x y r
 
   may-free : MayReadAhead A a (record asked { anchored = No }) start
-  may-free = record { standard = may.standard; filled = may.filled; free = refl; starts = may.starts }
+  may-free = record { kind = may.kind; filled = may.filled; free = refl; starts = may.starts }
 
   part : drop asked.span.start (take asked.span.end asked.haystack)
       ≡ slice_range asked.haystack asked.span.start asked.span.end
@@ -177,11 +170,15 @@ module _ {S : Type 0} (A : Ghosts S) (a : S) (asked : Asked) (start : StateID) (
       (take stop.taken (slice_range asked.haystack asked.span.start asked.span.end)) x y
   costs-so = subst (λ l. IsReadCost (A.built a) (A.Reaches a) No start (take stop.taken l) x y) part cost
 
+  -- where the state matches, the search has its match
   pub ahead-some : (o : Occurrence)
       → IsFirstAt (A.built a).dictionary (asked.span.start + stop.taken) (A.matches a stop.sid) o
-      → IsFound (A.built a) asked (Some o) × IsFindCost (A.built a) asked x y (Some o)
+      → HasAsked A a asked asked.span.start
+      (record { sid = stop.sid; from = asked.span.start; at = asked.span.start + stop.taken }) (Some o) x y
   ahead-some o is =
-      subst (λ anchored. IsAnswer anchored (Some o)) (sym may.free)
+      let stood : Cursor = record { sid = stop.sid; from = asked.span.start; at = asked.span.start + stop.taken } in
+      subst (λ anchored. HasAsked A a (record asked { anchored = anchored }) asked.span.start stood (Some o) x y)
+      (sym may.free)
       (free-some A a asked.haystack asked.span asked.earliest start stop x y tells may-free left inside goes-on costs-so
       o is)
 

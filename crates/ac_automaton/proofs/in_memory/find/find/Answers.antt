@@ -8,6 +8,12 @@ pub returns-clause-within : goal.returns-clause-within
 returns-clause-within g c =
     let inside : c.args.input.now.span.end ≤ length c.args.input.now.haystack =
     rw c.end.ensures.value at c.end.ensures.within in
+    found-lies (g.A.Automaton.built c.args.automaton.now) c.args.input.now c.find.result inside c.find.ensures.found
+
+pub returns-in-Some-clause-within : goal.returns-in-Some-clause-within
+returns-in-Some-clause-within g c =
+    let inside : c.args.input.now.span.end ≤ length c.args.input.now.haystack =
+    rw c.end.ensures.value at c.end.ensures.within in
     found-lies (g.A.Automaton.built c.args.automaton.now) c.args.input.now c.search.result inside c.search.ensures.found
 
 pub returns-in_err-start-clause-answer : goal.returns-in_err-start-clause-answer
@@ -24,24 +30,6 @@ returns-then-start-end-clause-answer g c = grind (arith, common_steps)
 
 pub returns-then-start-end-clause-cost : goal.returns-then-start-end-clause-cost
 returns-then-start-end-clause-cost g c = grind (arith, common_steps)
-
-pub usable_prefilter-prefilter-requires : goal.usable_prefilter-prefilter-requires
-usable_prefilter-prefilter-requires g c = grind (arith, common_steps)
-
-pub search-requires-clause-made : goal.search-requires-clause-made
-search-requires-clause-made g c = grind (arith, common_steps)
-
-pub search-requires-clause-own : goal.search-requires-clause-own
-search-requires-clause-own g c = grind (arith, common_steps)
-
-pub search-requires-clause-free : goal.search-requires-clause-free
-search-requires-clause-free g c = grind (arith, common_steps)
-
-pub search-requires-clause-starts : goal.search-requires-clause-starts
-search-requires-clause-starts g c = grind (arith, common_steps)
-
-pub search-requires-clause-ordered : goal.search-requires-clause-ordered
-search-requires-clause-ordered g c = grind (arith, common_steps)
 
 pub returns-clause-answer : goal.returns-clause-answer
 returns-clause-answer g c = grind (arith, common_steps)

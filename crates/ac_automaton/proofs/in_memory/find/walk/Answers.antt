@@ -9,7 +9,7 @@ use Rattle.ac_automaton.specs.InMemory.Find.{WalkSays, IsWalkCost}
 use Rattle.ac_automaton.proofs.lemmas.CursorLemmas.{alive-from}
 use Rattle.ac_automaton.proofs.lemmas.WalkLemmas.{none-listed}
 use Rattle.ac_automaton.proofs.lemmas.WalkEndLemmas.{IsDone, Ended, Died, Won, won-found, not_won-none, is_none-found}
-use Rattle.ac_automaton.proofs.in_memory.find.FindWalkLemmas.{HasAsked, rest, text_read, walks-first, asks, asked-looks, asked-says, asked-work, asked-back, asked-on, back-looks}
+use Rattle.ac_automaton.proofs.in_memory.find.FindWalkLemmas.{HasAsked, rest, text_read, walks-first, asks, asked-looks, asked-says, asked-work, asked-back, asked-none, asked-on, back-looks}
 use Rattle.ac_automaton.proofs.in_memory.find.walk.Given.{Over}
 use Rattle.ac_automaton.proofs.in_memory.find.walk.Goals as goal
 use Rattle.ac_automaton.proofs.in_memory.find.walk.Goals.{then-first_wins, else-first_wins, then-won-via-then-won, then-won-via-else-won+then-cursor-end, then-won-via-else-won+else-cursor-end+then-is_dead}
@@ -133,6 +133,15 @@ loop-best-preserved g c =
     asked-on c.read_past_starts-cursor.result _ has
     (λ standard. not_won-none _ _ best won c.if-won.false (c.takes_first-first_wins.ensures.1 standard)) alive on.stands
     on.from on.on
+
+pub read_past_starts-cursor-requires-clause-none : goal.read_past_starts-cursor-requires-clause-none
+read_past_starts-cursor-requires-clause-none g c = λ is free.
+    let a = c.args.automaton.now in
+    let asked = c.args.input.now in
+    let best = c.or-best.result in
+    let has = asks g.A.Automaton a asked c.args.at c.loop-best.cursor c.loop-best.best c.match_at.result best _ _
+    (g.met.A.Automaton.tells a asked.anchored) c.loop-best.invariant c.match_at.ensures c.or-best.ensures in
+    asked-none has free (is_none-found c.is_none-none_yet.result best c.is_none-none_yet.ensures is)
 
 pub is_back-requires : goal.is_back-requires
 is_back-requires g c = grind (arith, common_steps)

@@ -23,9 +23,9 @@ pub from_parts-requires-clause-opened : goal.from_parts-requires-clause-opened
 from_parts-requires-clause-opened c =
     let pairing = c.self.inside.settings.pairing in
     let kind = c.self.inside.settings.match_kind in
-    subst (λ q. ∥ IfSome c.new-openings.result (AreOpenings (dictionary_of q pairing kind)) ∥₁)
+    subst (λ q. ∥ IfSome c.in_ok-openings.openings (AreOpenings (dictionary_of q pairing kind)) ∥₁)
     (sym c.in_ok-lens.ensures)
-    ∣ opened-kind (bytes_of c.args.patterns.now) pairing kind c.new-openings.result c.new-openings.ensures ∣₁
+    ∣ opened-kind (bytes_of c.args.patterns.now) pairing kind c.in_ok-openings.openings c.in_ok-openings.ensures ∣₁
 
 pub returns-clause-rows : goal.returns-clause-rows
 returns-clause-rows c =
@@ -60,6 +60,21 @@ returns-in_err-prefilter-clause-rows c =
 pub returns-in_err-prefilter-clause-refused : goal.returns-in_err-prefilter-clause-refused
 returns-in_err-prefilter-clause-refused c =
     let p = err_from_is_err_and c.from_residual-in_err-prefilter.result c.from_residual-in_err-prefilter.ensures.1 in
+    rw (p.1, p.2) (search rules)
+
+pub returns-in_err-openings-clause-built : goal.returns-in_err-openings-clause-built
+returns-in_err-openings-clause-built c =
+    let p = err_from_is_err_and c.from_residual-in_err-openings.result c.from_residual-in_err-openings.ensures.1 in
+    rw p.1 (search rules)
+
+pub returns-in_err-openings-clause-rows : goal.returns-in_err-openings-clause-rows
+returns-in_err-openings-clause-rows c =
+    let p = err_from_is_err_and c.from_residual-in_err-openings.result c.from_residual-in_err-openings.ensures.1 in
+    rw p.1 (search rules)
+
+pub returns-in_err-openings-clause-refused : goal.returns-in_err-openings-clause-refused
+returns-in_err-openings-clause-refused c =
+    let p = err_from_is_err_and c.from_residual-in_err-openings.result c.from_residual-in_err-openings.ensures.1 in
     rw (p.1, p.2) (search rules)
 
 pub returns-clause-built : goal.returns-clause-built

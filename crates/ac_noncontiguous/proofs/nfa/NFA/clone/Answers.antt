@@ -4,7 +4,7 @@ use Rattle.ac_input.specs.Dictionary.{dictionary_of}
 use Rattle.ac_input.specs.Limits.{IsWithinLimits}
 use Rattle.ac_noncontiguous.specs.Nfa.{AreTables}
 use Rattle.ac_noncontiguous.specs.Nfa.Reads.{dictionary}
-use Rattle.ac_noncontiguous.proofs.lemmas.CopyLemmas.{opened-same, held-same}
+use Rattle.ac_noncontiguous.proofs.lemmas.CopyLemmas.{opened-copied, opened-same, held-same}
 use Rattle.ac_noncontiguous.proofs.nfa.ReadCallLemmas.{same-tables}
 use Rattle.ac_noncontiguous.proofs.nfa.NFA.clone.Goals as goal
 
@@ -31,4 +31,5 @@ from_parts-requires-clause-parts c =
 
 pub from_parts-requires-clause-opened : goal.from_parts-requires-clause-opened
 from_parts-requires-clause-opened c = let a = c.args.self.now in
-    opened-same a.skips.openings a.pairing a.kind c.in_ok-lens.ensures a.opened
+    opened-same c.in_ok-openings.openings a.pairing a.kind c.in_ok-lens.ensures
+    (opened-copied _ _ _ c.in_ok-openings.ensures a.opened)

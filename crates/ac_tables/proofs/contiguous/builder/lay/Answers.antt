@@ -1,5 +1,5 @@
 -- The words and the places are those of the automaton, and so are the states.
-use Rattle.std.proofs.Common.{◌≡◌, ◌<◌, ◌∙◌, ap, subst, arith}
+use Rattle.std.proofs.Common.{◌≡◌, ◌<◌, ◌∙◌, ap, refl, subst, arith}
 use Rattle.ac_noncontiguous.specs.Nfa.ReadCalls.{state_len, special_in, OfTexts, AreBounds}
 use Rattle.ac_tables.specs.declared.contiguous.table.Table.{Table}
 use Rattle.ac_noncontiguous.proofs.lemmas.IndexLemmas.{read-there}
@@ -80,6 +80,7 @@ returns-clause-made c =
         taken = c.in_ok-rows.ensures.taken;
       };
       within = whole.within;
+      classed = refl;
     }
 
 pub index-start-requires : goal.index-start-requires

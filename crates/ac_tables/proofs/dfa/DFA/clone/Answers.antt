@@ -1,7 +1,7 @@
 -- The copy has a copy of the table, and is built as the DFA was.
 use Rattle.std.proofs.Common.{◌≡◌, ◌^◌, true, sym, ap, ap₂, subst, ◌∙◌}
 use Rattle.ac_input.specs.Dictionary.{dictionary_of}
-use Rattle.ac_noncontiguous.proofs.lemmas.CopyLemmas.{opened-same}
+use Rattle.ac_noncontiguous.proofs.lemmas.CopyLemmas.{opened-copied, opened-same}
 use Rattle.ac_tables.specs.Dfa.Reads.{dfa_dictionary}
 use Rattle.ac_tables.specs.Dfa.Table.{AreDfaParts}
 use Rattle.ac_tables.proofs.dfa.CopyLemmas.{copy-rows}
@@ -21,7 +21,8 @@ from_parts-requires-clause-parts c =
 
 pub from_parts-requires-clause-opened : goal.from_parts-requires-clause-opened
 from_parts-requires-clause-opened c = let a = c.args.self.now in
-    opened-same a.skips.openings a.pairing a.kind c.in_ok-lens.ensures a.opened
+    opened-same c.in_ok-openings.openings a.pairing a.kind c.in_ok-lens.ensures
+    (opened-copied _ _ _ c.in_ok-openings.ensures a.opened)
 
 pub returns : goal.returns
 returns c =

@@ -3,9 +3,10 @@ use Rattle.std.proofs.Common.{◌≡◌, false, ap, sym, subst, ◌∙◌}
 use Rattle.std.proofs.lemmas.Result.{err_from_is_err_and}
 use Rattle.ac_input.specs.Limits.{IsWithinLimits}
 use Rattle.std.specs.Prelude.{IfSome}
+use Rattle.ac_input.specs.Alphabet.Classes.{ClassesLeadAlike}
 use Rattle.ac_literal.specs.Openings.{AreOpenings}
 use Rattle.ac_noncontiguous.specs.Nfa.Reads.{dictionary}
-use Rattle.ac_noncontiguous.proofs.lemmas.CopyLemmas.{same-dictionary}
+use Rattle.ac_noncontiguous.proofs.lemmas.CopyLemmas.{opened-copied, same-dictionary}
 use Rattle.ac_tables.specs.Contiguous.Table.{AreWordsOf, AreSomeStates}
 use Rattle.ac_tables.specs.Contiguous.Builder.{IsLaidOf, IsMadeFrom, contiguous_dense_depth}
 use Rattle.ac_tables.specs.Contiguous.Build.{AreRowsWithin, IsRefusedFor}
@@ -25,8 +26,8 @@ returns-in_err-laid-clause-refused c =
     let chosen = subst (λ s. AreClassesFor nfa s.byte_classes classes) c.self.view_is c.in_ok-classes.ensures.classes in
     rw (p.1, p.2) (refused-laid c.args.self.now nfa classes c.in_err-laid.field-0.0 chosen h)
 
-pub from_parts-requires-clause-parts : goal.from_parts-requires-clause-parts
-from_parts-requires-clause-parts c =
+pub from_parts-made-requires-clause-parts : goal.from_parts-made-requires-clause-parts
+from_parts-made-requires-clause-parts c =
     let nfa = c.args.nfa.now in
     let made = c.in_ok-laid.ensures.made in
     let e = same-dictionary (dictionary nfa) (c.in_ok-lens.ensures ∙ c.pattern_lens.ensures)
@@ -39,12 +40,23 @@ from_parts-requires-clause-parts c =
       paired = c.pairing-pairing.ensures.paired;
     }
 
-pub from_parts-requires-clause-opened : goal.from_parts-requires-clause-opened
-from_parts-requires-clause-opened c =
+pub from_parts-made-requires-clause-opened : goal.from_parts-made-requires-clause-opened
+from_parts-made-requires-clause-opened c =
     let nfa = c.args.nfa.now in
     let e = same-dictionary (dictionary nfa) (c.in_ok-lens.ensures ∙ c.pattern_lens.ensures)
     c.pairing-pairing.ensures.value c.match_kind-kind.ensures in
-    subst (λ d. ∥ IfSome c.openings-openings.result (AreOpenings d) ∥₁) (sym e) c.openings-openings.ensures
+    subst (λ d. ∥ IfSome c.in_ok-openings.openings (AreOpenings d) ∥₁) (sym e)
+    (opened-copied _ _ _ c.in_ok-openings.ensures c.openings.ensures)
+
+pub add_near-requires : goal.add_near-requires
+add_near-requires c =
+    let nfa = c.args.nfa.now in
+    let e = same-dictionary (dictionary nfa) (c.in_ok-lens.ensures ∙ c.pattern_lens.ensures)
+    c.pairing-pairing.ensures.value c.match_kind-kind.ensures in
+    let made = c.from_parts-made.ensures in
+    let classes = ap (λ t. t.classes) made.table ∙ c.in_ok-laid.ensures.made.classed in
+    subst (λ d. ClassesLeadAlike d c.from_parts-made.result.table.classes) (sym (made.dictionary ∙ e))
+    (subst (ClassesLeadAlike (dictionary nfa)) (sym classes) c.in_ok-classes.ensures.serve.alike)
 
 pub returns-clause-made : goal.returns-clause-made
 returns-clause-made c =
@@ -54,15 +66,17 @@ returns-clause-made c =
     depth c.in_ok-laid.ensures.made in
     let e = same-dictionary (dictionary nfa) (c.in_ok-lens.ensures ∙ c.pattern_lens.ensures)
     c.pairing-pairing.ensures.value c.match_kind-kind.ensures in
-    let words : c.from_parts.result.table.words.items ≡ c.in_ok-laid.laid.table.words.items =
-    ap (λ t. t.words.items) c.from_parts.ensures.table in
-    subst (λ s. IsMadeFrom s nfa c.from_parts.result) c.self.view_is
+    let parts = c.from_parts-made.ensures in
+    let last = c.in_ok-add_near.ensures in
+    let words : c.add_near.new.self.table.words.items ≡ c.in_ok-laid.laid.table.words.items =
+    ap (λ t. t.words.items) (last.table ∙ parts.table) in
+    subst (λ s. IsMadeFrom s nfa c.add_near.new.self) c.self.view_is
     (record {
       built =
-          ap (λ d. record { dictionary = d; deterministic = false; prefilter = c.from_parts.result.prefilter })
-          (c.from_parts.ensures.dictionary ∙ e)
+          ap (λ d. record { dictionary = d; deterministic = false; prefilter = c.add_near.new.self.prefilter })
+          (last.dictionary ∙ (parts.dictionary ∙ e))
           ∙ ap (λ f. record { dictionary = dictionary nfa; deterministic = false; prefilter = f })
-          (c.from_parts.ensures.prefilter ∙ (c.in_ok-prefilter.ensures ∙ c.prefilter.ensures.value));
+          (last.prefilter ∙ (parts.prefilter ∙ (c.in_ok-prefilter.ensures ∙ c.prefilter.ensures.value)));
       classes = c.in_ok-classes.classes;
       serve = c.in_ok-classes.ensures.classes;
       words = subst (AreWordsOf nfa (contiguous_dense_depth c.self.inside.settings) c.in_ok-classes.classes) (sym words)
@@ -70,5 +84,5 @@ returns-clause-made c =
       within = made.small;
       rows = subst
           (AreRowsWithin nfa (contiguous_dense_depth c.self.inside.settings) c.in_ok-classes.classes
-          c.self.inside.settings.row_memory) (sym c.from_parts.ensures.rows) made.rows;
+          c.self.inside.settings.row_memory) (sym (last.rows ∙ parts.rows)) made.rows;
     })

@@ -4,7 +4,7 @@ use Rattle.std.proofs.lemmas.Result.{err_from_is_err_and}
 use Rattle.std.specs.Prelude.{IfSome}
 use Rattle.ac_literal.specs.Openings.{AreOpenings}
 use Rattle.ac_noncontiguous.specs.Nfa.Reads.{dictionary, built_as}
-use Rattle.ac_noncontiguous.proofs.lemmas.CopyLemmas.{same-dictionary}
+use Rattle.ac_noncontiguous.proofs.lemmas.CopyLemmas.{opened-copied, same-dictionary}
 use Rattle.ac_tables.specs.Dfa.Made.{IsTableFor, IsTableRefused}
 use Rattle.ac_tables.specs.Dfa.Reads.{IsDfaMadeOf}
 use Rattle.ac_tables.proofs.dfa.BuildLemmas.{dfa-of, refused-of, parts-of}
@@ -30,7 +30,8 @@ from_parts-requires-clause-opened c =
     let nfa = c.args.nfa.now in
     let same = same-dictionary (dictionary nfa) (c.in_ok-lens.ensures ∙ c.pattern_lens.ensures) c.pairing.ensures.value
     c.match_kind.ensures in
-    subst (λ m. ∥ IfSome c.openings-openings.result (AreOpenings m) ∥₁) (sym same) c.openings-openings.ensures
+    subst (λ m. ∥ IfSome c.in_ok-openings.openings (AreOpenings m) ∥₁) (sym same)
+    (opened-copied _ _ _ c.in_ok-openings.ensures c.openings.ensures)
 
 pub returns-clause-built : goal.returns-clause-built
 returns-clause-built c =

@@ -1,0 +1,5 @@
+use Rattle.ac_tables.specs.Contiguous.NearReads.{ArePlacesNear}
+use Rattle.ac_tables.proofs.contiguous.NFA.push_nexts.Given as goal
+
+abbrev pub invariant-loop-byte : goal.invariant-loop-byte
+invariant-loop-byte l = ArePlacesNear l.self l.most l.places.items

@@ -1,0 +1,87 @@
+-- How the rows of the states near the start are made, and what a look-up by a number gives.
+use Rattle.std.specs.Prelude.{◌≡◌, ℕ, ◌+◌, ◌*◌, ◌<◌, ◌≤◌, false, List, [], ◌∷◌, length, slice_index, slice_set}
+use Rattle.ac_input.specs.Number.{greatest_number}
+use Rattle.ac_input.specs.Alphabet.{class, alphabet_len}
+use Rattle.ac_input.specs.declared.search.Anchored.TheVariants.{No}
+use Rattle.ac_input.specs.declared.steps.Steps.{Steps}
+use Rattle.ac_automaton.specs.Automaton.{IsReadCost, Leads}
+use Rattle.ac_tables.specs.declared.contiguous.NFA.{NFA}
+use Rattle.ac_tables.specs.declared.contiguous.rows.Rows.{Rows}
+use Rattle.ac_tables.specs.Contiguous.Cut.{Rise}
+use Rattle.ac_tables.specs.Contiguous.Near.{IsNumber, numbered_place, LeadsToNumber}
+use Rattle.ac_tables.specs.Contiguous.Reads.{contiguous_built_as, contiguous_dictionary, IsContiguousRead, IsMet}
+use Rattle.ac_tables.specs.Contiguous.Rows.{row_len}
+
+-- ---- look-ups
+
+-- A byte leads an unanchored search from the state of a number to that of the next, and this is the cost of the look-up.
+pub record LeadsByNumber (nfa : NFA) (rows : Rows) (number byte next : ℕ) (before after : Steps) : Type 0 where
+  pub one : IsNumber rows next
+  pub leads : Leads (IsContiguousRead nfa No) (numbered_place rows number) (byte ∷ []) (numbered_place rows next)
+  pub cost : IsReadCost (contiguous_built_as nfa) (IsContiguousRead nfa) No (numbered_place rows number) (byte ∷ []) before after
+
+-- ---- how they are made
+
+-- at the number of a class stands a byte of it
+pub record IsByteOfClass (classes bytes : List ℕ) (k : ℕ) : Type 0 where
+  pub within : k < length bytes
+  pub small : slice_index bytes k < 256
+  pub same : class classes (slice_index bytes k) ≡ k
+
+-- for each class a byte of it, at the number of the class
+pub record AreBytesOf (classes bytes : List ℕ) : Type 0 where
+  pub counted : length bytes ≡ alphabet_len classes
+  pub same : (byte : ℕ) → byte < 256 → IsByteOfClass classes bytes (class classes byte)
+
+-- Rising places of states that an unanchored search may come to: some of them, and not more than `most`.
+pub record ArePlacesNear (nfa : NFA) (most : ℕ) (places : List ℕ) : Type 0 where
+  pub some : 0 < length places
+  pub few : length places ≤ most
+  pub rise : Rise places
+  pub met : (i : ℕ) → i < length places → IsMet nfa false (slice_index places i)
+
+-- there is room for so many rows: all numbers are small enough, and with places and index they take at most `memory`
+pub record HasRoomNear (nfa : NFA) (stride memory most : ℕ) : Type 0 where
+  pub numbers : most * stride + length nfa.table.words.items ≤ greatest_number
+
+-- rows for these places, whatever they hold
+pub record AreBlank (places : List ℕ) (stride2 : ℕ) (rows : Rows) : Type 0 where
+  pub at : rows.places.items ≡ places
+  pub stride : rows.stride2 ≡ stride2
+
+-- a number was put into an entry
+pub record HasPut (at number : ℕ) (old new : Rows) : Type 0 where
+  pub trans : new.trans.items ≡ slice_set old.trans.items at number
+  pub places : new.places.items ≡ old.places.items
+  pub stride : new.stride2 ≡ old.stride2
+
+-- an entry of a row has the number of the state to which a byte leads from the row's state
+abbrev pub LeadsByEntry : NFA → Rows → ℕ → ℕ → ℕ → Type 0
+LeadsByEntry nfa rows row byte number =
+    LeadsToNumber (contiguous_dictionary nfa) nfa.table rows.places.items (row_len rows)
+    (slice_index rows.places.items row) byte number
+
+-- In a row so many entries were filled, those for the first of these bytes. No row before it changed.
+pub record HasFilledPart (nfa : NFA) (bytes : List ℕ) (row count : ℕ) (old new : Rows) : Type 0 where
+  pub places : new.places.items ≡ old.places.items
+  pub stride : new.stride2 ≡ old.stride2
+  pub len : length new.trans.items ≡ length old.trans.items
+  pub before : (at : ℕ) → at < row * row_len old → slice_index new.trans.items at ≡ slice_index old.trans.items at
+  pub filled : (k : ℕ) → k < count
+      → LeadsByEntry nfa old row (slice_index bytes k) (slice_index new.trans.items (row * row_len old + k))
+
+-- a row was filled, with an entry for each of these bytes
+abbrev pub HasFilled : NFA → List ℕ → ℕ → Rows → Rows → Type 0
+HasFilled nfa bytes row old new = HasFilledPart nfa bytes row (length bytes) old new
+
+-- The first so many rows were filled.
+pub record HasFilledTo (nfa : NFA) (bytes : List ℕ) (rows : ℕ) (old new : Rows) : Type 0 where
+  pub places : new.places.items ≡ old.places.items
+  pub stride : new.stride2 ≡ old.stride2
+  pub len : length new.trans.items ≡ length old.trans.items
+  pub filled : (row k : ℕ) → row < rows → k < length bytes
+      → LeadsByEntry nfa old row (slice_index bytes k) (slice_index new.trans.items (row * row_len old + k))
+
+-- all rows were filled
+abbrev pub HasFilledAll : NFA → List ℕ → Rows → Rows → Type 0
+HasFilledAll nfa bytes old new = HasFilledTo nfa bytes (length old.places.items) old new

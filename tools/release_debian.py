@@ -27,7 +27,7 @@ PYTHON = "python3-dadofennel"
 PACKAGES = {
     "acsub": (
         {"Section": "text", "Depends": "libc6 (>= {program})", "Multi-Arch": "foreign"},
-        "replace, list or mask what many patterns match in a stream",
+        "replace, list or mask what many patterns match in files and streams",
         " .\n This is the program.\n{needs}",
         [
             ("usr/bin/acsub", ""),

@@ -5,3 +5,4 @@ pub mod PairsLemmas
 pub mod ParseLemmas
 pub mod PlaceLemmas
 pub mod TypedLemmas
+pub mod ValueLemmas

@@ -1,3 +1,5 @@
 pub mod Settings
 pub mod Command
+pub mod Values
+pub mod Misuse
 pub mod Words

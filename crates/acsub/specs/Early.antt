@@ -13,6 +13,7 @@ use Rattle.acsub.specs.declared.args.settings.Settings.{Settings}
 use Rattle.acsub.specs.declared.early.EarlyError.{EarlyError}
 use Rattle.acsub.specs.declared.early.EarlyError.TheVariants as early
 use Rattle.acsub.specs.declared.early.Refusal.{Refusal}
+use Rattle.acsub.specs.declared.error.RunError.{RunError}
 use Rattle.acsub.specs.declared.error.RunError.TheVariants as errors
 use Rattle.acsub.specs.declared.rules.RuleError.TheVariants as rule_errors
 
@@ -30,6 +31,19 @@ abbrev pub IsUnmet : Demand → EarlyError → Type 0
 IsUnmet d (early.Refused refusal) = IsAccepted d.asked d.rules × d.refuses refusal
 IsUnmet d (early.Run (errors.Setting e)) = IsFirstExclusion d.asked d.rules e
 IsUnmet d (early.Run other) = ⊥
+
+-- why such a run is not prepared: the check fails, or the build passes a limit, or memory runs out for it
+abbrev pub IsUnready : Demand → EarlyError → Type 0
+IsUnready d (early.Refused refusal) = IsAccepted d.asked d.rules × d.refuses refusal
+IsUnready d (early.Run (errors.Setting e)) = IsFirstExclusion d.asked d.rules e
+IsUnready d (early.Run (errors.Build kind)) = d.fits × IsNotBuilt d.built d.rules kind
+IsUnready d (early.Run errors.Memory) = d.fits
+IsUnready d (early.Run other) = ⊥
+
+-- the result of such a run, once it was prepared
+abbrev pub as_early : Result (Unit {0}) RunError → Result (Unit {0}) EarlyError
+as_early (Ok done) = Ok done
+as_early (Err e) = Err (early.Run e)
 
 module _ {R W : Type 0} (old new : Watched R × Watched W) where
   -- What each result means; `writes` says what was read and written with the result of a stream. A refused run has touched

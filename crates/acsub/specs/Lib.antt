@@ -6,9 +6,13 @@ pub mod Tool
 pub mod Outcome
 pub mod Served
 pub mod Finder
+pub mod Given
 pub mod Matches
 pub mod Early
 pub mod Masked
 pub mod WordRun
 pub mod Stream
 pub mod Plan
+pub mod Tally
+pub mod Jobs
+pub mod Files

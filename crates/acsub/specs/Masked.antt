@@ -21,8 +21,10 @@ use Rattle.acsub.specs.declared.early.EarlyError.{EarlyError}
 use Rattle.acsub.specs.declared.early.Refusal.{Refusal}
 use Rattle.acsub.specs.declared.early.Refusal.TheVariants as refusals
 use Rattle.acsub.specs.declared.mask.Mask.{Mask}
+use Rattle.acsub.specs.declared.mask.PreparedMask.{PreparedMask}
 use Rattle.acsub.specs.Args.Settings.{HasEmptyPattern, IsAccepted}
 use Rattle.acsub.specs.Early.{AnswersEarly, AnswersEarlyIn, CostsEarly, Demand, IsUnmet}
+use Rattle.acsub.specs.Finder.{IsServing}
 use Rattle.acsub.specs.Plan.{plan_of}
 use Rattle.acsub.specs.Rules.Sides.{rule_patterns}
 use Rattle.acsub.specs.Run.Transformed.{room_in}
@@ -66,6 +68,16 @@ mask_demand settings rules byte =
 -- why a check of rules, settings and mask fails
 abbrev pub NotMaskable : Settings → List Rule → ℕ → EarlyError → Type 0
 NotMaskable settings rules byte error = IsUnmet (mask_demand settings rules byte) error
+
+-- It is prepared for these settings, rules and mask: the rules can be masked by, and the automaton serves them.
+pub record IsMaskOf (settings : Settings) (rules : List Rule) (mask : Mask) (prepared : PreparedMask) : Type 0 where
+  pub maskable : IsMaskable settings rules mask.byte
+  pub serves : IsServing settings rules prepared.automaton
+  pub same : (prepared.settings ≡ settings) × (prepared.rules.now ≡ rules) × (prepared.mask ≡ mask)
+
+-- it is prepared for what it holds
+abbrev pub IsMaskReady : PreparedMask → Type 0
+IsMaskReady prepared = IsMaskOf prepared.settings prepared.rules.now prepared.mask prepared
 
 -- ---- what it writes
 

@@ -1,30 +1,32 @@
 -- What the program did, by its outcome.
-use Rattle.std.specs.Prelude.{◌≡◌, ◌↔◌, ℕ, ◌+◌, Bool, true, false, List, ◌⊎◌, Option, Some, None, IfSome, Result, Ok, Err, String, Vec, map, string_bytes}
+use Rattle.std.specs.Prelude.{◌≡◌, ◌↔◌, ℕ, ◌+◌, true, false, List, [], ◌⊎◌, Option, IfSome, Result, Ok, Err, String, Vec, map, string_bytes}
 use Rattle.std.specs.Io.KnownBytes.{Keeps}
+use Rattle.ac_input.specs.Rules.{Rule}
 use Rattle.std.specs.IoError.{error_kind}
 use Rattle.std.specs.declared.io.Error.{Error}
 use Rattle.std.specs.Vec.Iter.{into_iter_items}
 use Rattle.std.specs.declared.vec.IntoIter.{IntoIter}
-use Rattle.clap.specs.Words.{Text}
+use Rattle.clap.specs.Walk.{texts}
 use Rattle.ac_automaton.specs.Stream.Devices.Watched.{NoneRead, WritesWhole}
 use Rattle.ac_automaton.specs.declared.error.StreamError.{StreamError}
 use Rattle.ac_automaton.specs.declared.stream.devices.watched.Watched.{Watched}
 use Rattle.acsub.specs.declared.error.RunError.{RunError}
 use Rattle.acsub.specs.declared.error.RunError.TheVariants as errors
+use Rattle.acsub.specs.declared.early.EarlyError.{EarlyError}
 use Rattle.acsub.specs.declared.early.EarlyError.TheVariants as early
 use Rattle.acsub.specs.declared.rules.RuleError.TheVariants as rule_errors
 use Rattle.acsub.specs.declared.tool.Fault.{Fault}
 use Rattle.acsub.specs.declared.tool.Fault.TheVariants as faults
+use Rattle.acsub.specs.declared.args.Source.{Source}
+use Rattle.acsub.specs.declared.args.Source.TheVariants.{Given}
 use Rattle.acsub.specs.declared.args.Words.{Words}
 use Rattle.acsub.specs.declared.args.WordsFault.{WordsFault}
 use Rattle.acsub.specs.declared.args.WordsFault.TheVariants.{Help, Bad, Memory, Pairing}
-use Rattle.acsub.specs.Masked.{AnswersMaskIn, mask_of}
-use Rattle.acsub.specs.WordRun.{AnswersWordRunIn}
-use Rattle.acsub.specs.Plan.{plan_of}
-use Rattle.acsub.specs.Rules.File.{asked_form, grammar_of}
-use Rattle.acsub.specs.Run.{RanIn}
+use Rattle.acsub.specs.Given.{form_wanted, given_file}
+use Rattle.acsub.specs.Jobs.{RanInput, RanInputIn}
+use Rattle.acsub.specs.Rules.File.{grammar_of}
 use Rattle.acsub.specs.Stream.{IsReturnedAs}
-use Rattle.acsub.specs.Tool.{IsFaultOf, exit_of, status_of}
+use Rattle.acsub.specs.Tool.{IsFaultOf, early_fault, exit_of, status_of}
 use Rattle.acsub.specs.Args.Words.{Reads}
 
 -- ---- the rule file
@@ -81,62 +83,83 @@ module _ {W : Type 0} (contents : W → Option (List ℕ)) where
     AnswersHelp (Err faults.Flush) = WroteAndFlushed (Ok tt) 1
     AnswersHelp (Err other) = ⊥
 
+-- what an outcome means where the words ask for no run: help is written, or nothing
+abbrev pub AnswersUnasked : {W : Type 0} → (W → Option (List ℕ)) → Watched W → Watched W → WordsFault
+    → Result (Unit {0}) Fault → Type 0
+AnswersUnasked contents before after (Help help) outcome = AnswersHelp contents before after outcome
+AnswersUnasked contents before after Bad outcome = (outcome ≡ Err faults.Words) × (after ≡ before)
+AnswersUnasked contents before after Memory outcome = (outcome ≡ Err (faults.Run errors.Memory)) × (after ≡ before)
+AnswersUnasked contents before after (Pairing e) outcome = (outcome ≡ Err (faults.Pairs e)) × (after ≡ before)
+
+-- ---- a run over standard input
+
+module _ {R W : Type 0} (remaining : R → Option (List ℕ)) (contents : W → Option (List ℕ)) (asked : Words)
+    (old new : Watched R × Watched W) where
+  -- what the run that was asked for read, wrote and returned, by these rules
+  abbrev pub RanByRules : List Rule → Result (Unit {0}) EarlyError → Type 0
+  RanByRules = RanInput remaining contents old new asked.mask asked.word asked.stream asked.settings
+
+  -- the same by the bytes of the rules
+  abbrev pub RanByFile : List ℕ → Result (Unit {0}) EarlyError → Type 0
+  RanByFile file =
+      RanInputIn remaining contents old new ((grammar_of (form_wanted asked)).holds file) asked.mask asked.word asked.stream
+      asked.settings
+
+-- the result of a run as an outcome of the program
+abbrev pub told_as : Result (Unit {0}) EarlyError → Result (Unit {0}) Fault
+told_as (Ok done) = Ok done
+told_as (Err error) = Err (early_fault error)
+
 -- ---- the whole program
 
--- What the run that was asked for read, wrote and returned, by the bytes of a rule file: a run that masks, where a mask
--- was asked for; or one for whole words; or another.
-module _ {R W : Type 0} (remaining : R → Option (List ℕ)) (contents : W → Option (List ℕ)) where
-  abbrev pub RanAsBy : Option ℕ → Bool → Words → Watched R × Watched W → Watched R × Watched W → List ℕ
-      → Result (Unit {0}) Fault → Type 0
-  RanAsBy None false asked old new file (Ok done) =
-      RanIn remaining contents old new ((grammar_of (asked_form asked.text false)).holds file) (plan_of asked.stream asked.settings)
-      (Ok done)
-  RanAsBy None false asked old new file (Err (faults.Run e)) =
-      RanIn remaining contents old new ((grammar_of (asked_form asked.text false)).holds file) (plan_of asked.stream asked.settings) (Err e)
-  RanAsBy None false asked old new file (Err other) = ⊥
-  RanAsBy None true asked old new file (Ok done) =
-      AnswersWordRunIn remaining contents old new ((grammar_of (asked_form asked.text false)).holds file) asked.settings (Ok done)
-  RanAsBy None true asked old new file (Err (faults.Refused refusal)) =
-      AnswersWordRunIn remaining contents old new ((grammar_of (asked_form asked.text false)).holds file) asked.settings
-      (Err (early.Refused refusal))
-  RanAsBy None true asked old new file (Err (faults.Run e)) =
-      AnswersWordRunIn remaining contents old new ((grammar_of (asked_form asked.text false)).holds file) asked.settings (Err (early.Run e))
-  RanAsBy None true asked old new file (Err other) = ⊥
-  RanAsBy (Some byte) word asked old new file (Ok done) =
-      AnswersMaskIn remaining contents old new ((grammar_of (asked_form asked.text false)).holds file) asked.settings
-      (mask_of byte word) (Ok done)
-  RanAsBy (Some byte) word asked old new file (Err (faults.Refused refusal)) =
-      AnswersMaskIn remaining contents old new ((grammar_of (asked_form asked.text false)).holds file) asked.settings (mask_of byte word)
-      (Err (early.Refused refusal))
-  RanAsBy (Some byte) word asked old new file (Err (faults.Run e)) =
-      AnswersMaskIn remaining contents old new ((grammar_of (asked_form asked.text false)).holds file) asked.settings (mask_of byte word)
-      (Err (early.Run e))
-  RanAsBy (Some byte) word asked old new file (Err other) = ⊥
+-- the bytes of the rules, by where they are: a file, or the arguments
+abbrev pub IsRuleText : {F : Type 0} → (F → Option (List ℕ)) → Words → Source → List ℕ → Type 0
+IsRuleText held asked Given bytes = bytes ≡ given_file (texts asked.patterns.items) (texts asked.replacements.items)
+IsRuleText held asked other bytes = IsFile held bytes
 
-  abbrev pub RanAsked : Words → Watched R × Watched W → Watched R × Watched W → List ℕ → Result (Unit {0}) Fault → Type 0
-  RanAsked asked = RanAsBy asked.mask asked.word asked
+-- these bytes; or the file can't be read, or memory ran out for it
+abbrev pub ReadsRuleText : {F Z : Type 0} → (F → Option (List ℕ)) → Words → Result (Vec ℕ Z) Fault → Type 0
+ReadsRuleText held asked (Ok bytes) = IsRuleText held asked asked.source bytes.items
+ReadsRuleText held asked (Err fault) = (fault ≡ faults.RuleFile) ⊎ (fault ≡ faults.Run errors.Memory)
 
--- The rule file has these bytes, in the form that was asked for, and a run by them returned this result. The first bad
+-- The rules have these bytes, in the form that was asked for, and a run by them returned this result. The first bad
 -- line is reported whatever memory does.
 pub record RanFile {F R W : Type 0} (held : F → Option (List ℕ)) (remaining : R → Option (List ℕ))
     (contents : W → Option (List ℕ)) (asked : Words) (old new : Watched R × Watched W)
     (answer : Result (Unit {0}) Fault) : Type 0 where
   pub file : List ℕ
-  pub is_file : IsFile held file
-  pub ran : RanAsked remaining contents asked old new file answer
+  pub is_file : IsRuleText held asked asked.source file
+  pub result : Result (Unit {0}) EarlyError
+  pub told : answer ≡ told_as result
+  pub ran : RanByFile remaining contents asked old new file result
   pub fault : (n : ℕ)
-      → (answer ≡ Err (faults.Run (errors.Rule (rule_errors.Line n)))) ↔ (grammar_of (asked_form asked.text false)).bad file n
+      → (result ≡ Err (early.Run (errors.Rule (rule_errors.Line n)))) ↔ (grammar_of (form_wanted asked)).bad file n
+
+-- standard input alone is run over: there is no FILE, and no report on the rules is asked for
+pub record HasOneInput (asked : Words) : Type 0 where
+  pub files : asked.files.items ≡ []
+  pub check : asked.check ≡ false
+
+-- the status for an outcome: 1 in the place of 0 only where that is asked for
+abbrev pub IsStatusOf : Words → Result (Unit {0}) Fault → ℕ → Type 0
+IsStatusOf asked (Ok done) status = (status ≡ 0) ⊎ ((status ≡ 1) × (asked.fail_if_none ≡ true))
+IsStatusOf asked (Err fault) status = status ≡ status_of fault
+
+-- the status where no fault ended the runs, by the status of what could not be read or written
+pub record IsConcluded (asked : Words) (status ended : ℕ) : Type 0 where
+  pub fault : ended ≡ 0 → status ≡ 0
+  pub alone : status ≡ 0 → IsStatusOf asked (Ok tt) ended
 
 module _ {F R W : Type 0} (held : F → Option (List ℕ)) (remaining : R → Option (List ℕ))
     (contents : W → Option (List ℕ)) (old new : Watched R × Watched W) where
   module _ (asked : Words) where
-    -- A run by the rule file returned this result; then the writer was flushed, and this many flushes failed.
+    -- A run by the rules returned this result; then the writer was flushed, and this many flushes failed.
     abbrev pub RanAndFlushed : Result (Unit {0}) Fault → ℕ → Type 0
     RanAndFlushed answer failed =
         (between : Watched W) × RanFile held remaining contents asked old (new.0, between) answer
         × Flushes contents between new.1 failed
 
-    -- what each outcome means where a run was asked for
+    -- what each outcome means where a run over standard input was asked for
     abbrev pub AnswersFile : Result (Unit {0}) Fault → Type 0
     AnswersFile (Ok done) = RanAndFlushed (Ok tt) 0
     AnswersFile (Err faults.Words) = ⊥
@@ -149,24 +172,25 @@ module _ {F R W : Type 0} (held : F → Option (List ℕ)) (remaining : R → Op
         ⊎ ((e ≡ errors.Memory) × (new ≡ old))
     AnswersFile (Err faults.Flush) = RanAndFlushed (Ok tt) 1
 
-  module _ (words : List Text) (outcome : Result (Unit {0}) Fault) where
-    -- what the outcome means, given what the words were read as
-    abbrev pub AnswersRead : Result Words WordsFault → Type 0
-    AnswersRead (Ok asked) = AnswersFile asked outcome
-    AnswersRead (Err (Help help)) = (new.0 ≡ old.0) × AnswersHelp contents old.1 new.1 outcome
-    AnswersRead (Err Bad) = (outcome ≡ Err faults.Words) × (new ≡ old)
-    AnswersRead (Err Memory) = (outcome ≡ Err (faults.Run errors.Memory)) × (new ≡ old)
-    AnswersRead (Err (Pairing e)) = (outcome ≡ Err (faults.Pairs e)) × (new ≡ old)
+    -- what the status means where a run over standard input was asked for
+    abbrev pub EndsOne : ℕ → Type 0
+    EndsOne status = (outcome : Result (Unit {0}) Fault) × IsStatusOf asked outcome status × AnswersFile outcome
 
-    -- what the outcome means for the words, the rule file, what was read and written, and the flush
-    abbrev pub AnswersTool : Type 0
-    AnswersTool = (asked : Result Words WordsFault) × Reads words asked × AnswersRead asked
+    -- what the status means: nothing is said where FILEs are run over, or a report was asked for
+    abbrev pub EndsAsked : ℕ → Type 0
+    EndsAsked status = HasOneInput asked → EndsOne status
 
-  -- the status is that of an outcome, which means what `AnswersTool` says
+  -- what the status means, given what the words were read as
+  abbrev pub EndsRead : Result Words WordsFault → ℕ → Type 0
+  EndsRead (Ok asked) status = EndsAsked asked status
+  EndsRead (Err fault) status =
+      (outcome : Result (Unit {0}) Fault) × (status ≡ exit_of outcome) × (new.0 ≡ old.0)
+      × AnswersUnasked contents old.1 new.1 fault outcome
+
+  -- what the status means for the words, the rules, what was read and written, and the flush
   abbrev pub EndsTool : {Z : Type 0} → List (String Z) → ℕ → Type 0
   EndsTool words status =
-      (outcome : Result (Unit {0}) Fault) × (status ≡ exit_of outcome)
-      × AnswersTool (map string_bytes words) outcome
+      (asked : Result Words WordsFault) × Reads (map string_bytes words) asked × EndsRead asked status
 
   -- The status for the words that the system gives. If it fails to give them, that is reported, and neither device is
   -- touched.
@@ -174,6 +198,16 @@ module _ {F R W : Type 0} (held : F → Option (List ℕ)) (remaining : R → Op
   EndsProgram (Ok words) status = EndsTool (into_iter_items words) status
   EndsProgram (Err error) status =
       (fault : Fault) × (status ≡ status_of fault) × IsFaultOf (error_kind error) faults.Words fault × (new ≡ old)
+
+-- ---- the error stream
+
+-- a line on the error stream is asked for, whatever the status
+abbrev pub Speaks : Words → Type 0
+Speaks asked = (asked.count ≡ true) × (asked.check ≡ false)
+
+-- the words ask for such a line
+abbrev pub SpeaksOf : {Z : Type 0} → List (String Z) → Type 0
+SpeaksOf words = (asked : Words) × Reads (map string_bytes words) (Ok asked) × Speaks asked
 
 -- all words that the system gives, in their order; or why they were not collected
 abbrev pub Collects : {X Y A : Type 0} → Result (IntoIter X A) Error → Result (Vec X Y) Fault → Type 0

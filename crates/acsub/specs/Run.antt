@@ -139,10 +139,13 @@ abbrev pub not_read : RuleError → RunError
 not_read (rule_errors.Line n) = errors.Rule (rule_errors.Line n)
 not_read rule_errors.Memory = errors.Memory
 
--- the plan, whose settings are accepted and whose automaton can be built; or why it can't be run
+-- the plan's settings are accepted with its rules, and its automaton can be built
+abbrev pub IsPrepared : Plan → Type 0
+IsPrepared plan = IsAccepted plan.settings plan.rules × IsBuildable plan.settings plan.rules
+
+-- the plan, prepared; or why it can't be run
 abbrev pub Prepares : Plan → Result Plan RunError → Type 0
-Prepares asked (Ok plan) =
-    (plan ≡ asked) × IsAccepted asked.settings asked.rules × IsBuildable asked.settings asked.rules
+Prepares asked (Ok plan) = (plan ≡ asked) × IsPrepared asked
 Prepares asked (Err (errors.Setting e)) = IsFirstExclusion asked.settings asked.rules e
 Prepares asked (Err (errors.Build kind)) =
     IsAccepted asked.settings asked.rules × IsNotBuilt asked.settings asked.rules kind

@@ -21,7 +21,9 @@ use Rattle.acsub.specs.declared.early.Refusal.{Refusal}
 use Rattle.acsub.specs.declared.early.Refusal.TheVariants as refusals
 use Rattle.acsub.specs.Args.Settings.{HasEmptyPattern, IsAccepted}
 use Rattle.acsub.specs.Early.{AnswersEarly, AnswersEarlyIn, CostsEarly, Demand, IsUnmet}
+use Rattle.acsub.specs.Finder.{IsServing}
 use Rattle.acsub.specs.Plan.{plan_of}
+use Rattle.acsub.specs.declared.word.PreparedWords.{PreparedWords}
 use Rattle.acsub.specs.Rules.Sides.{replacements_of, rule_patterns}
 use Rattle.acsub.specs.Run.Transformed.{IsDecidedList, text_among}
 use Rattle.acsub.specs.Served.{IsBuildable, dictionary_for}
@@ -59,6 +61,16 @@ word_demand settings rules =
 -- why a check of rules and settings fails
 abbrev pub NotSearchable : Settings → List Rule → EarlyError → Type 0
 NotSearchable settings rules error = IsUnmet (word_demand settings rules) error
+
+-- It is prepared for these settings and rules: words can be searched for, and the automaton serves them.
+pub record AreJobWords (settings : Settings) (rules : List Rule) (prepared : PreparedWords) : Type 0 where
+  pub searchable : IsSearchable settings rules
+  pub serves : IsServing (for_words settings) rules prepared.automaton
+  pub same : (prepared.settings ≡ settings) × (prepared.rules.now ≡ rules)
+
+-- it is prepared for what it holds
+abbrev pub AreWordsReady : PreparedWords → Type 0
+AreWordsReady prepared = AreJobWords prepared.settings prepared.rules.now prepared
 
 -- ---- what it writes
 

@@ -1,23 +1,31 @@
 //! The command line of `acsub`: its words, and the settings that they ask for.
 //!
-//! `acsub MODE RULES [--text] [--stream] [--word] [--with HEX] [--kind K] [--fold] [--pairs HEX] [--engine E]
-//! [--no-prefilter] [--dense-depth N] [--no-byte-classes]`
+//! `acsub MODE RULES [OPTION..] [FILE..]`, or `acsub MODE -e PATTERN [-r REPLACEMENT] .. [OPTION..] [FILE..]`
 //!
-//! clap splits the words, names the values that an argument takes and writes the help; what a value means is said here. The
-//! command stands as data in `specs/Args/Command.antt`. So the contract of `read_words` says of all words what comes of them. It goes
+//! clap splits the words, names the values that an argument takes and writes the help; what a value means is said here, and
+//! which arguments don't go together in [`misuse`]. The command stands as data in `specs/Args/Command.antt`. So the contract of `read_words` says of all words what comes of them. It goes
 //! by clap's own account of which words such a command takes, and which value each argument then has.
-ghost use Rattle.std.specs.Prelude.{◌≡◌, ◌<◌, ℕ, List, [], ◌∷◌, Some, IfOk, MatchResult, false, map, option_map, string_bytes};
+ghost use Rattle.std.specs.Prelude.{◌≡◌, ◌<◌, ℕ, List, [], ◌∷◌, Some, None, IfOk, MatchResult, false, length, map, option_map, string_bytes};
 ghost use Rattle.clap.specs.Words.{first_of, rule_of};
-ghost use Rattle.acsub.specs.Args.Command.{AddsEngine, AddsMatching, IsCommand, Shows, choice, flag, option, placed};
+ghost use Rattle.clap.specs.Walk.{texts};
+ghost use Rattle.acsub.specs.Args.Command.{AddsEngine, AddsFiles, AddsMatching, AddsRules, AddsWriting, IsCommand, Shows, choice, flag, option, placed, repeated};
 ghost use Rattle.ac_input.specs.Rules.{Spells};
-ghost use Rattle.acsub.specs.Args.Words.{AreTwoByTwo, IsMaskedBy, IsPairedBy, IsTyped, IsWordsFault, Misspells, Parses, Reads, ReadsMatches, SpellsPairs, Unmasks, Unpairs, rows_in};
-ghost use Rattle.acsub.specs.Args.Words.{engine_named, engine_of, hex_fault, is_given, is_masking, kind_named, match_kind_of, mode_named, mode_of};
+ghost use Rattle.acsub.specs.Given.{form_wanted};
+ghost use Rattle.acsub.specs.Args.Misuse.{misuse_of};
+ghost use Rattle.acsub.specs.Args.Values.{files_in, first_file, has_values, is_given, is_mode, rows_in, values_in};
+ghost use Rattle.acsub.specs.Args.Words.{AreTwoByTwo, IsMaskedBy, IsPairedBy, IsRuleSource, IsTyped, IsWordsFault, Misspells, Parses, Reads, ReadsMatches, SpellsPairs, Unmasks, Unpairs};
+ghost use Rattle.acsub.specs.Args.Words.{engine_named, engine_of, hex_fault, kind_named, match_kind_of, mode_named, mode_of};
 
+mod help;
+pub mod misuse;
 pub mod settings;
 mod version;
 
+use crate::args::help::{AFTER_HELP, AFTER_LONG_HELP, USAGE};
+use crate::args::misuse::misuse_of;
 use crate::args::settings::{Engine, Mode, Settings};
 use crate::args::version::VERSION;
+use crate::rules::Form;
 use ac_input::pairing::{Pairing, PairingError};
 use ac_input::primitives::GREATEST;
 use ac_input::search::MatchKind;
@@ -36,57 +44,61 @@ static ENGINES: [&str; 5] = ["auto", "noncontiguous", "contiguous", "dfa", "pack
 /// The greatest number that `--dense-depth` takes.
 const MOST_DEPTH: u64 = GREATEST as u64;
 
-/// The end of the short help: an example.
-static AFTER_HELP: &str = "\
-Example:
-  printf 'fox\\tsloth\\n' > words.tsv
-  echo 'The fox ran.' | acsub replace words.tsv --text    # The sloth ran.
-
---help says more: modes, kinds, rule files and statuses.
-";
-
-/// The end of the long help: what each mode writes, which match each kind takes, the forms of a rule file, an example, and the
-/// statuses.
-static AFTER_LONG_HELP: &str = "\
-Modes:
-  replace  The input, with each match replaced
-  list     A line 'number start end' for each match: pattern and places from 0, in bytes
-  overlap  Such a line for each occurrence, overlapping ones too; needs the standard kind
-  mask     The input, with each byte that lies in an occurrence replaced by '*'; needs the standard kind
-
-Kinds:
-  standard          The match that ends first
-  leftmost-first    The one that starts first, and of those the first in the rule file
-  leftmost-longest  The one that starts first, and of those the longest
-
-Rule files:
-  hex     A line 'hex TAB hex' for each pattern and its replacement, two hex digits a byte
-  --text  A line 'pattern TAB replacement', or 'pattern' alone, which is replaced by nothing;
-          CR LF ends a line as LF does, and no byte has another meaning
-
-Example:
-  printf 'fox\\tsloth\\n' > words.tsv
-  echo 'The fox ran.' | acsub replace words.tsv --text    # The sloth ran.
-
-Status:
-  0 done, 2 words or settings, 3 the rule file, 4 a limit of a build or a mask that a pattern has,
-  5 a read failed, 6 a write or the flush failed, 7 out of memory, 8 the input is too long
-";
+/// Where the rules are.
+#[derive(Clone, Copy, Debug, PartialEq, Eq)]
+pub enum Source<'a> {
+    /// In the file at this path.
+    File(&'a str),
+    /// In standard input: `-` where a FILE is given.
+    Input,
+    /// In the patterns of `-e` and the replacements of `-r`.
+    Given,
+}
 
 /// What a command line asks for.
-#[derive(Clone, Copy)]
+#[derive(Drop)]
 pub struct Words<'a> {
     pub settings: Settings,
-    /// Whether the rule file is of plain text, and not of hex.
+    /// Whether the rule file is of plain text, and not of hex. Rules of `-e` always are.
     pub text: bool,
+    /// Whether a backslash in text begins an escape.
+    pub escapes: bool,
     /// Whether the text is asked for while the input is read, under every kind. A mask is always written so.
     pub stream: bool,
     /// Whether whole words alone count. Their text is always written while the input is read.
     pub word: bool,
     /// The byte that masks, in mode `mask`. The settings are then those of a list of all that overlap.
     pub mask: Option<u8>,
-    /// The path of the rule file.
-    pub rules: &'a str,
+    /// Where the rules are.
+    pub source: Source<'a>,
+    /// The patterns of `-e`, in their order.
+    pub patterns: Vec<&'a str>,
+    /// The replacements of `-r`: none, or one for each pattern.
+    pub replacements: Vec<&'a str>,
+    /// What is searched, in order. Where there is none, standard input is.
+    pub files: Vec<&'a str>,
+    /// Whether each file is rewritten.
+    pub in_place: bool,
+    /// Whether the matches are counted.
+    pub count: bool,
+    /// Whether it is a failure if nothing matches.
+    pub fail_if_none: bool,
+    /// Whether the rules are looked at, and no input.
+    pub check: bool,
+    /// Whether to show how far a run is.
+    pub progress: bool,
+}
+
+impl Words<'_> {
+    /// How the rules are written.
+    pub fn form(&self) -> Form
+        ensures { result ≡ form_wanted self.now }
+    {
+        match self.source {
+            Source::Given => Form::of(true, self.escapes),
+            _ => Form::of(self.text, self.escapes),
+        }
+    }
 }
 
 /// Why a command line asks for no run.
@@ -115,7 +127,8 @@ impl From<AllocError> for WordsFault {
 /// Reads the words of the command line, of which the first is the program's name.
 ///
 /// A number takes a `+` before its digits, as Rust's integers do. `--pairs` beside `--fold` is bad, and so are pairs that are
-/// none, `--with` in another mode than `mask`, and a mask that is no byte; whether pairs name a byte twice is looked at last.
+/// none, `--with` in another mode than `mask`, a mask that is no byte, and each [`misuse`]; whether pairs name a byte twice is
+/// looked at last.
 pub fn read_words<'a>(alloc: Global, words: &'a [String]) -> Result<Words<'a>, WordsFault>
     ensures { Reads (map string_bytes words.entry.now) result }
 {
@@ -151,7 +164,7 @@ fn fault_of(error: clap::Error) -> WordsFault
     }
 }
 
-// A word that has its place among those that belong to no option.
+// A word that has its place among those that belong to no option. It may be left out.
 fn placed<'a>(alloc: Global, id: &'a str, name: &'a str, help: &'a str) -> Arg<'a>
     ensures rule { rule_of result ≡ placed id.entry.now }
     ensures own { result.global ≡ false }
@@ -161,7 +174,6 @@ fn placed<'a>(alloc: Global, id: &'a str, name: &'a str, help: &'a str) -> Arg<'
         .value_name(name)
         .help(help)
         .action(ArgAction::Set)
-        .required(true)
 }
 
 // `--id NAME`
@@ -207,22 +219,114 @@ fn flag<'a>(alloc: Global, id: &'a str, help: &'a str) -> Arg<'a>
         .action(ArgAction::SetTrue)
 }
 
+// `-c NAME` or `--id NAME`, any number of times
+fn repeated<'a>(alloc: Global, id: &'a str, short: char, name: &'a str, help: &'a str) -> Arg<'a>
+    ensures rule { rule_of result ≡ repeated id.entry.now short }
+    ensures own { result.global ≡ false }
+    ensures shown { Shows result name.entry help.entry }
+{
+    option(alloc, id, name, help)
+        .short(short)
+        .action(ArgAction::Append)
+}
+
 // The command line, as clap's builder makes it.
 fn command<'a>(alloc: Global) -> Result<Command<'a>, AllocError>
     ensures { IfOk result IsCommand }
 {
     let command = Command::new(alloc, "acsub")
         .version(VERSION)
-        .about("Replaces, masks or lists what the patterns of a rule file match in standard input")
+        .about(
+            "Replaces, masks or lists what the patterns of a rule file match in files or standard input",
+        )
+        .override_usage(USAGE)
         .after_help(AFTER_HELP)
         .after_long_help(AFTER_LONG_HELP)
-        .arg(placed(alloc, "mode", "MODE", "What to write").value_parser(MODES.as_slice()))?
-        .arg(placed(alloc, "rules", "RULES", "The path of the rule file"))?
+        .arg(
+            placed(alloc, "mode", "MODE", "What to write")
+                .value_parser(MODES.as_slice())
+                .required(true),
+        )?;
+    let command = with_rules(alloc, command)?;
+    let command = with_files(alloc, command)?;
+    let command = with_writing(alloc, command)?;
+    with_engine(alloc, with_matching(alloc, command)?)
+}
+
+// The command with the arguments that name the rules, and the inputs, which come after them.
+fn with_rules<'a>(alloc: Global, command: Command<'a>) -> Result<Command<'a>, AllocError>
+    ensures { IfOk result (AddsRules command.entry) }
+{
+    command
+        .arg(placed(
+            alloc,
+            "rules",
+            "RULES",
+            "The path of the rule file; beside a FILE, - is standard input. With -e there is none",
+        ))?
+        .arg(placed(
+            alloc,
+            "file",
+            "FILE",
+            "What to search; - is standard input, which is searched where there is no FILE",
+        )
+        .action(ArgAction::Append))?
+        .arg(repeated(
+            alloc,
+            "pattern",
+            'e',
+            "PATTERN",
+            "Search for this text in place of RULES; can be repeated",
+        ))?
+        .arg(repeated(
+            alloc,
+            "replacement",
+            'r',
+            "REPLACEMENT",
+            "Replace by this text: one for each -e, in their order; without -r by nothing",
+        ))?
         .arg(flag(
             alloc,
             "text",
             "Read RULES as plain text: 'pattern TAB replacement' or 'pattern' a line",
         ))?
+        .arg(flag(
+            alloc,
+            "escapes",
+            "Read \\t, \\n, \\r, \\\\, \\0 and \\xHH in the text of the rules as the bytes that they name",
+        ))
+}
+
+// The command with the options for whole files, and for what is said of a run.
+fn with_files<'a>(alloc: Global, command: Command<'a>) -> Result<Command<'a>, AllocError>
+    ensures { IfOk result (AddsFiles command.entry) }
+{
+    command
+        .arg(flag(
+            alloc,
+            "in-place",
+            "Rewrite each FILE, in modes replace and mask",
+        )
+        .short('i'))?
+        .arg(flag(alloc, "count", "Say on standard error how much matched"))?
+        .arg(flag(
+            alloc,
+            "fail-if-none",
+            "End with status 1 if nothing matched",
+        ))?
+        .arg(flag(
+            alloc,
+            "check",
+            "Look at the rules alone, and write what is odd about them",
+        ))?
+        .arg(flag(alloc, "progress", "Show on a terminal how far the run is"))
+}
+
+// The command with the options that say what is written, and when.
+fn with_writing<'a>(alloc: Global, command: Command<'a>) -> Result<Command<'a>, AllocError>
+    ensures { IfOk result (AddsWriting command.entry) }
+{
+    command
         .arg(flag(
             alloc,
             "stream",
@@ -238,8 +342,7 @@ fn command<'a>(alloc: Global) -> Result<Command<'a>, AllocError>
             "with",
             "HEX",
             "Mask with this byte, two hex digits [default: 2a, which is *]",
-        ))?;
-    with_engine(alloc, with_matching(alloc, command)?)
+        ))
 }
 
 // The command with the options that say what a match is.
@@ -302,10 +405,14 @@ fn asked_for<'a>(alloc: Global, matches: &ArgMatches<'a>) -> Result<Words<'a>, W
     ensures { ReadsMatches (rows_in matches.now) result }
 {
     let mask = mask_of(matches)?;
+    if misuse_of(matches).is_some() {
+        return Err(WordsFault::Bad);
+    }
+    let pairing = pairing_of(alloc, matches)?;
     let settings = Settings {
         mode: mode_of(matches).unwrap(),
         kind: match_kind_of(matches).unwrap(),
-        pairing: pairing_of(alloc, matches)?,
+        pairing,
         engine: engine_of(matches).unwrap(),
         prefilter: !is_given(matches, "no-prefilter"),
         dense_depth: matches.get_one::<usize>("dense-depth"),
@@ -314,11 +421,88 @@ fn asked_for<'a>(alloc: Global, matches: &ArgMatches<'a>) -> Result<Words<'a>, W
     Ok(Words {
         settings,
         text: is_given(matches, "text"),
+        escapes: is_given(matches, "escapes"),
         stream: is_given(matches, "stream"),
         word: is_given(matches, "word"),
         mask,
-        rules: text_of(matches, "rules").unwrap(),
+        source: source_of(matches),
+        patterns: values_of(alloc, matches, "pattern")?,
+        replacements: values_of(alloc, matches, "replacement")?,
+        files: files_of(alloc, matches)?,
+        in_place: is_given(matches, "in-place"),
+        count: is_given(matches, "count"),
+        fail_if_none: is_given(matches, "fail-if-none"),
+        check: is_given(matches, "check"),
+        progress: is_given(matches, "progress"),
     })
+}
+
+// Where the rules are.
+fn source_of<'a>(matches: &ArgMatches<'a>) -> Source<'a>
+    requires { misuse_of (rows_in matches.now) ≡ None }
+    ensures { IsRuleSource (rows_in matches.now) result }
+{
+    if has_values(matches, "pattern") {
+        return Source::Given;
+    }
+    let path = text_of(matches, "rules").unwrap();
+    if path == "-" && has_values(matches, "file") {
+        Source::Input
+    } else {
+        Source::File(path)
+    }
+}
+
+// The inputs: the words after the mode, but for the first where it names the rules.
+fn files_of<'a>(alloc: Global, matches: &ArgMatches<'a>) -> Result<Vec<&'a str>, AllocError>
+    ensures { IfOk result (λ files. texts files.items ≡ files_in (rows_in matches.now)) }
+{
+    let mut files = first_file(alloc, matches)?;
+    let more = values_of(alloc, matches, "file")?;
+    files.extend_from_slice(more.as_slice())?;
+    Ok(files)
+}
+
+// The first word after the mode, where it names no rules.
+fn first_file<'a>(alloc: Global, matches: &ArgMatches<'a>) -> Result<Vec<&'a str>, AllocError>
+    ensures { IfOk result (λ files. texts files.items ≡ first_file (rows_in matches.now)) }
+{
+    if has_values(matches, "pattern") {
+        values_of(alloc, matches, "rules")
+    } else {
+        Ok(Vec::new(alloc))
+    }
+}
+
+// The values of an argument.
+fn values_of<'a>(
+    alloc: Global,
+    matches: &ArgMatches<'a>,
+    id: &str,
+) -> Result<Vec<&'a str>, AllocError>
+    ensures { IfOk result (λ values. texts values.items ≡ values_in id.now (rows_in matches.now)) }
+{
+    match matches.get_strs(id) {
+        Some(values) => Vec::from_slice(alloc, values),
+        None => Ok(Vec::new(alloc)),
+    }
+}
+
+// How many values an argument has.
+pub fn count_of(matches: &ArgMatches<'_>, id: &str) -> usize
+    ensures { result ≡ length (values_in id.now (rows_in matches.now)) }
+{
+    match matches.get_strs(id) {
+        Some(values) => values.len(),
+        None => 0,
+    }
+}
+
+// Whether an argument has a value.
+fn has_values(matches: &ArgMatches<'_>, id: &str) -> bool
+    ensures { result ≡ has_values id.now (rows_in matches.now) }
+{
+    count_of(matches, id) != 0
 }
 
 // The first value of an argument.
@@ -395,7 +579,7 @@ fn is_given(matches: &ArgMatches<'_>, id: &str) -> bool
 fn mask_of(matches: &ArgMatches<'_>) -> Result<Option<u8>, WordsFault>
     ensures { MatchResult result (IsMaskedBy (rows_in matches.now)) (Unmasks (rows_in matches.now)) }
 {
-    match (is_masking(matches), text_of(matches, "with")) {
+    match (is_mode(matches, "mask"), text_of(matches, "with")) {
         (false, None) => Ok(None),
         (true, None) => Ok(Some(b'*')),
         (false, Some(_)) => Err(WordsFault::Bad),
@@ -403,12 +587,12 @@ fn mask_of(matches: &ArgMatches<'_>) -> Result<Option<u8>, WordsFault>
     }
 }
 
-// Whether the mode is `mask`.
-fn is_masking(matches: &ArgMatches<'_>) -> bool
-    ensures { result ≡ is_masking (rows_in matches.now) }
+// Whether the mode has this name.
+fn is_mode(matches: &ArgMatches<'_>, name: &str) -> bool
+    ensures { result ≡ is_mode name.now (rows_in matches.now) }
 {
     match text_of(matches, "mode") {
-        Some(text) => text == "mask",
+        Some(text) => text == name,
         None => false,
     }
 }

@@ -3,12 +3,13 @@
 //! A program reads the line of an error, so that line stands alone. Where standard error is a terminal, or the environment has
 //! `ACSUB_HINTS=1`, `main` writes a second line: what is wrong with the arguments, the settings or the rule file, or what takes less
 //! memory. The hint is made anew after the run, from the arguments and the rule file, so no run pays for it. The file is read again
-//! only if it is a regular one: to open a pipe or a terminal again would wait for its writer. The texts are held by tests: no
+//! only if it is a regular one: to open a pipe or a terminal again would wait for its writer. Rules of standard input are gone. The texts are held by tests: no
 //! clause names them.
 mod arguments;
+mod given;
 
 use crate::args::settings::{Engine, Mode, finds_early};
-use crate::args::{Words, WordsFault, read_words};
+use crate::args::{Source, Words, WordsFault, read_words};
 use crate::rules::{Form, RuleError, read_rules};
 use ac_input::pairing::PairingError;
 use ac_input::search::MatchKind;
@@ -76,7 +77,7 @@ fn hint_for_asked<F: Files>(
     code: ExitCode,
 ) -> Result<Option<String>, AllocError> {
     if code == ExitCode::from(3) {
-        hint_for_file(rt, alloc, asked)
+        hint_for_rules(rt, alloc, asked)
     } else {
         hint_of(alloc, hint_for_run(asked, code))
     }
@@ -171,26 +172,36 @@ fn hint_for_memory(asked: &Words<'_>) -> Option<&'static str> {
     }
 }
 
-/// Why the rule file can't be read, or what is wrong with its first bad line. Only a regular file is opened.
-fn hint_for_file<F: Files>(
+/// What is wrong with the rules. Those of standard input are gone.
+fn hint_for_rules<F: Files>(
     rt: &F,
     alloc: Global,
     asked: &Words<'_>,
 ) -> Result<Option<String>, AllocError> {
-    let path = asked.rules;
+    match asked.source {
+        Source::File(path) => hint_for_file(rt, alloc, path, asked.form()),
+        Source::Input => hint_of(alloc, Some(form_of(asked.form()))),
+        Source::Given => given::hint_for(alloc, asked),
+    }
+}
+
+/// Why the rule file can't be read, or what is wrong with its first bad line. Only a regular file is opened.
+fn hint_for_file<F: Files>(
+    rt: &F,
+    alloc: Global,
+    path: &str,
+    form: Form,
+) -> Result<Option<String>, AllocError> {
     match fs::metadata(rt, path) {
         _ if path.is_empty() => hint_of(alloc, Some("the path of the rule file is empty")),
         Ok(found) if found.is_dir() => Ok(Some(format!(in alloc; "{path} is a folder")?)),
-        Ok(found) if !found.is_file() => hint_of(alloc, Some(form_of(asked.text))),
+        Ok(found) if !found.is_file() => hint_of(alloc, Some(form_of(form))),
         Ok(_) => match bytes_of(rt, alloc, path) {
-            Ok(bytes) => hint_of(
-                alloc,
-                reason(alloc, Form::of(asked.text, false), bytes.as_slice()),
-            ),
+            Ok(bytes) => hint_of(alloc, reason(alloc, form, bytes.as_slice())),
             Err(error) => Ok(Some(format!(in alloc; "{path}: {error}")?)),
         },
         Err(error) if path == "-" => Ok(Some(format!(in alloc;
-            "-: {error}; RULES is a path, and standard input is what is searched"
+            "-: {error}; RULES is standard input only beside a FILE, as else standard input is searched"
         )?)),
         Err(error) => Ok(Some(format!(in alloc; "{path}: {error}")?)),
     }
@@ -205,11 +216,12 @@ fn bytes_of<F: Files>(rt: &F, alloc: Global, path: &str) -> io::Result<Vec<u8>> 
 }
 
 /// What a rule is, where the bad line can't be looked at.
-fn form_of(text: bool) -> &'static str {
-    if text {
-        "a rule is pattern TAB replacement, or a pattern alone; no line is empty"
-    } else {
-        "a rule is hex TAB hex, two digits a byte; for plain text give --text"
+fn form_of(form: Form) -> &'static str {
+    match form {
+        Form::Hex => "a rule is hex TAB hex, two digits a byte; for plain text give --text",
+        Form::Text => "a rule is pattern TAB replacement, or a pattern alone; no line is empty",
+        Form::Escaped =>
+            "a rule is pattern TAB replacement, or a pattern alone; a backslash begins \\t, \\n, \\r, \\\\, \\0 or \\xHH",
     }
 }
 

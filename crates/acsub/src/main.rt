@@ -6,47 +6,71 @@
 #![tactic(auto)]
 
 mod args;
+mod check;
 mod early;
 mod error;
+mod files;
+mod given;
 mod hint;
+mod in_place;
 mod input;
+mod job;
+mod labelled;
 mod line;
 mod mask;
 mod matches;
 mod prepared;
+mod progress;
 mod rewrite;
 mod rules;
 mod run;
 #[cfg(test)]
 mod scripted;
 mod stream;
+mod tally;
+mod task;
 mod tool;
 mod word;
 
+use crate::error::RunError;
+use crate::progress::{Meter, Metered};
+use crate::tool::Fault;
 use ac_automaton::watched::Watched;
+use std::alloc::AllocError;
 use std::env;
 use std::io::{IsTerminal, Stderr, Stdin, Stdout};
 use std::process::ExitCode;
+use std::rc::Rc;
+
+/// Runs the program over the standard streams.
+fn main(rt: HostRuntime) -> ExitCode {
+    let mut errors: Stderr = rt.stderr();
+    match start(rt, &mut errors) {
+        Ok(code) => code,
+        Err(_) => ExitCode::from(tool::tell(&Fault::Run(RunError::Memory), &mut errors)),
+    }
+}
 
 /// Gives [`tool::program`] the words and the standard streams, which their types keep apart: no contract can say which is which.
 /// Where a person reads the line of an error, on a terminal or by `ACSUB_HINTS=1`, a hint follows it.
-fn main(rt: HostRuntime) -> ExitCode {
-    let mut reader: Watched<Stdin> = Watched::new(rt.stdin());
-    let mut writer: Watched<Stdout> = Watched::new(rt.stdout());
-    let mut errors: Stderr = rt.stderr();
+fn start(rt: HostRuntime, errors: &mut Stderr) -> Result<ExitCode, AllocError> {
     let alloc = rt.alloc();
-    let code = tool::program(
-        &rt,
-        alloc,
-        env::args(&rt),
-        &mut reader,
-        &mut writer,
-        &mut errors,
-    );
-    if code != ExitCode::SUCCESS && (errors.is_terminal() || hint::is_asked_for(&rt)) {
-        let words = tool::collected(alloc, env::args(&rt));
+    let meter = Rc::new(alloc, Meter::new(rt, errors.is_terminal()))?;
+    let rt = meter.runtime();
+    let mut reader: Watched<Metered<Stdin, HostRuntime>> = Watched::new(Metered::new(
+        rt.stdin(),
+        meter.clone()?,
+    ));
+    let mut writer: Watched<Metered<Stdout, HostRuntime>> = Watched::new(Metered::new(
+        rt.stdout(),
+        meter.clone()?,
+    ));
+    let words = env::args(rt);
+    let code = tool::program(&meter, alloc, words, &mut reader, &mut writer, errors);
+    if code != ExitCode::SUCCESS && (errors.is_terminal() || hint::is_asked_for(rt)) {
+        let words = tool::collected(alloc, env::args(rt));
         let words = words.as_ref().map(|words| words.as_slice());
-        hint::write_hint(&rt, alloc, words, code, &mut errors);
+        hint::write_hint(rt, alloc, words, code, errors);
     }
-    code
+    Ok(code)
 }

@@ -9,10 +9,11 @@
 //!
 //! It always writes while it reads. Before each read it has written everything but the last bytes that may still be covered: fewer
 //! than the longest pattern has. It takes memory for what is built of the rules, and for one buffer.
-ghost use Rattle.std.specs.Prelude.{◌≡◌, ◌↔◌, ℕ, IsTrue, OnOk, IfErr, Err, false};
+ghost use Rattle.std.specs.Prelude.{◌≡◌, ◌↔◌, ℕ, IsTrue, OnOk, IfOk, IfErr, Err, false};
 ghost use Rattle.ac_automaton.specs.Stream.Overlapping.{AcceptsListing};
 ghost use Rattle.aho_corasick.specs.AhoCorasick.{as_built, supported_by};
-ghost use Rattle.acsub.specs.Masked.{AnswersMask, AnswersMaskIn, CostsMaskRun, CostsMasking, IsInNoPattern, IsMaskable, LeavesNone, MasksBy, NotMaskable};
+ghost use Rattle.acsub.specs.Early.{IsUnready, as_early};
+ghost use Rattle.acsub.specs.Masked.{AnswersMask, AnswersMaskIn, CostsMaskRun, CostsMasking, IsInNoPattern, IsMaskOf, IsMaskReady, IsMaskable, LeavesNone, MasksBy, NotMaskable, mask_demand};
 ghost use Rattle.acsub.specs.Rules.File.{grammar_of};
 ghost use Rattle.acsub.specs.declared.error.RunError.TheVariants.{Rule};
 ghost use Rattle.acsub.specs.declared.early.EarlyError.TheVariants.{Run};
@@ -38,6 +39,15 @@ use std::io::{Read, Write};
 pub struct Mask {
     pub byte: u8,
     pub word: bool,
+}
+
+/// What masks, settled before an input is read.
+#[derive(Drop)]
+pub struct PreparedMask<'r> {
+    settings: Settings,
+    rules: &'r Rules,
+    mask: Mask,
+    automaton: AhoCorasick,
 }
 
 /// Reads the input to its end, and writes it masked.
@@ -77,10 +87,47 @@ pub fn run_mask_counted<R: Read, W: Write>(
         settings.now rules.now mask result }
     ensures cost { CostsMaskRun mask.word settings.now rules.now reader.old reader.new steps.old steps.new result }
 {
+    let prepared = prepare_mask(alloc, settings, mask, rules)?;
+    Ok(run_prepared_mask(alloc, &prepared, reader, writer, steps)?)
+}
+
+/// Makes all that a mask has before it reads, if the settings, the mask and the rules go together.
+pub fn prepare_mask<'r>(
+    alloc: Global,
+    settings: &Settings,
+    mask: Mask,
+    rules: &'r Rules,
+) -> Result<PreparedMask<'r>, EarlyError>
+    ensures ready { IfOk result (IsMaskOf settings.now rules.entry.now mask) }
+    ensures refused { IfErr result (IsUnready (mask_demand settings.now rules.entry.now mask.byte)) }
+{
     check_mask(settings, mask.byte, rules)?;
     let automaton = automaton_for(alloc, settings, rules)?;
-    let masked = mask_stream(alloc, mask, &automaton, reader, writer, steps);
-    Ok(told(masked)?)
+    Ok(PreparedMask {
+        settings: *settings,
+        rules,
+        mask,
+        automaton,
+    })
+}
+
+/// Masks an input by what was prepared before.
+pub fn run_prepared_mask<R: Read, W: Write>(
+    alloc: Global,
+    prepared: &PreparedMask<'_>,
+    reader: &mut Watched<R>,
+    writer: &mut Watched<W>,
+    steps: &mut Steps,
+) -> Result<(), RunError>
+    requires open { reader.old.ended ≡ false }
+    requires ready { IsMaskReady prepared.now }
+    ensures answered { AnswersMask R.remaining W.contents (reader.old, writer.old) (reader.new, writer.new)
+        prepared.now.settings prepared.now.rules.now prepared.now.mask (as_early result) }
+    ensures cost { CostsMaskRun prepared.now.mask.word prepared.now.settings prepared.now.rules.now
+        reader.old reader.new steps.old steps.new (as_early result) }
+{
+    let automaton = &prepared.automaton;
+    told(mask_stream(alloc, prepared.mask, automaton, reader, writer, steps))
 }
 
 /// Masks the stream, each occurrence or whole words alone.

@@ -21,9 +21,10 @@ ghost use Rattle.ac_input.specs.Rules.{FirstBadLine, IsRuleFile};
 ghost use Rattle.acsub.specs.Matches.{IsHeldCost};
 ghost use Rattle.acsub.specs.Plan.{plan_of};
 ghost use Rattle.acsub.specs.Rules.File.{grammar_of};
-ghost use Rattle.acsub.specs.Run.{CostsIn, CostsRun, Ran, RanIn, RanRules, WroteText, not_read};
+ghost use Rattle.acsub.specs.Run.{CostsIn, CostsRun, IsPrepared, Ran, RanIn, RanRules, WroteText, not_read};
 ghost use Rattle.acsub.specs.Run.RunLaws.{RunsWriteAlike};
 ghost use Rattle.acsub.specs.Run.Sending.{SendsText};
+ghost use Rattle.acsub.specs.Tally.{Counts, grown, plan_matches};
 ghost use Rattle.acsub.specs.Args.Settings.{IsAccepted};
 ghost use Rattle.acsub.specs.declared.error.RunError.TheVariants.{Rule};
 ghost use Rattle.acsub.specs.declared.rules.RuleError.TheVariants.{Line};
@@ -35,6 +36,7 @@ use crate::prepared::{Prepared, prepare};
 use crate::rewrite::{send_list, send_replaced};
 use crate::rules::{Form, RuleError, Rules, read_rules};
 use crate::stream::{stream_text, told};
+use crate::tally::Tally;
 use ac_automaton::error::StreamError;
 use ac_automaton::output::Output;
 use ac_automaton::watched::Watched;
@@ -171,12 +173,39 @@ pub fn run_rules_counted<R: Read, W: Write>(
         steps.old steps.new result }
 {
     let prepared = prepare(alloc, settings, stream, rules)?;
+    let mut tally = Tally::new();
+    run_prepared(alloc, &prepared, reader, writer, steps, &mut tally)
+}
+
+/// The same, by what was prepared before: one build serves any number of inputs. Counts the matches in each, too.
+pub fn run_prepared<R: Read, W: Write>(
+    alloc: Global,
+    prepared: &Prepared<'_>,
+    reader: &mut Watched<R>,
+    writer: &mut Watched<W>,
+    steps: &mut Steps,
+    tally: &mut Tally,
+) -> Result<(), RunError>
+    requires open { reader.old.ended ≡ false }
+    requires prepared { IsPrepared prepared.now }
+    ensures answered { RanRules R.remaining W.contents (reader.old, writer.old) (reader.new, writer.new)
+        prepared.now result }
+    ensures cost { CostsRun prepared.now reader.old reader.new steps.old steps.new result }
+    ensures counts { OnOk result (Counts (plan_matches prepared.now) reader.old reader.new tally.old tally.new) }
+{
     match prepared.streamed() {
-        Some(automaton) => stream_text(alloc, &prepared, automaton, reader, writer, steps),
+        Some(automaton) => stream_text(alloc, prepared, automaton, reader, writer, steps, tally),
         None => {
             let mut output = Output::new(alloc)?;
             let input = read_whole(alloc, reader)?;
-            let text = write_text(&prepared, input.as_slice(), &mut output, writer, steps);
+            let text = write_text(
+                prepared,
+                input.as_slice(),
+                &mut output,
+                writer,
+                steps,
+                tally,
+            );
             told(text)
         }
     }
@@ -206,19 +235,29 @@ fn write_text<W: Write>(
     output: &mut Output,
     writer: &mut Watched<W>,
     steps: &mut Steps,
+    tally: &mut Tally,
 ) -> Result<(), StreamError>
     requires accepted { IsAccepted prepared.now.settings prepared.now.rules }
     requires fresh { output.old ≡ [] }
     ensures sent { SendsText W.contents prepared.now input.now writer.old writer.new result }
     ensures cost { IsHeldCost prepared.now (length input.now) steps.old steps.new }
+    ensures counts { OnOk result (tally.new.found
+        ≡ grown tally.old.found (length (plan_matches prepared.now input.now))) }
 {
     match prepared.mode() {
         Mode::Replace => {
             let mut picks = prepared.picks(input);
-            send_replaced(&mut picks, input, prepared.rules(), output, writer, steps)
+            let rules = prepared.rules();
+            send_replaced(&mut picks, input, rules, output, writer, steps, tally)
         }
-        Mode::List => send_list(&mut prepared.picks(input), output, writer, steps),
-        Mode::Overlap => send_list(&mut prepared.overlapping(input), output, writer, steps),
+        Mode::List => send_list(&mut prepared.picks(input), output, writer, steps, tally),
+        Mode::Overlap => send_list(
+            &mut prepared.overlapping(input),
+            output,
+            writer,
+            steps,
+            tally,
+        ),
     }
 }
 

@@ -4,16 +4,18 @@
 //! it is decided. All that is decided is written before the next read, so a run over a pipe writes as soon as it can. It holds no
 //! more than one buffer of the input and one of the text, and takes both before the first read. All that overlap in what was read
 //! can't be changed by what is read later, either.
-ghost use Rattle.std.specs.Prelude.{◌≡◌, IfErr, false};
+ghost use Rattle.std.specs.Prelude.{◌≡◌, IfErr, OnOk, false};
 ghost use Rattle.acsub.specs.Finder.{IsServing};
 ghost use Rattle.acsub.specs.Run.{CostsRun, RanRules};
 ghost use Rattle.acsub.specs.Run.Transformed.{IsStreamed};
 ghost use Rattle.acsub.specs.Args.Settings.{IsAccepted};
 ghost use Rattle.acsub.specs.Stream.{IsNoRefusal, IsReturnedAs};
+ghost use Rattle.acsub.specs.Tally.{Counts, plan_matches};
 
 use crate::args::settings::Mode;
 use crate::error::RunError;
 use crate::prepared::Prepared;
+use crate::tally::Tally;
 use ac_automaton::error::StreamError;
 use ac_automaton::watched::Watched;
 use ac_input::steps::Steps;
@@ -22,9 +24,11 @@ use std::alloc::Global;
 use std::io::{Read, Write};
 
 mod list;
+mod replace;
 pub(crate) mod words;
 
 use list::{list_every, list_stream};
+use replace::replace_stream;
 
 /// Reads the input, and writes what the settings' mode makes of it while it reads.
 pub fn stream_text<R: Read, W: Write>(
@@ -34,6 +38,7 @@ pub fn stream_text<R: Read, W: Write>(
     reader: &mut Watched<R>,
     writer: &mut Watched<W>,
     steps: &mut Steps,
+    tally: &mut Tally,
 ) -> Result<(), RunError>
     requires open { reader.old.ended ≡ false }
     requires accepted { IsAccepted prepared.now.settings prepared.now.rules }
@@ -42,18 +47,16 @@ pub fn stream_text<R: Read, W: Write>(
     ensures ran { RanRules R.remaining W.contents (reader.old, writer.old) (reader.new, writer.new)
         prepared.now result }
     ensures cost { CostsRun prepared.now reader.old reader.new steps.old steps.new result }
+    ensures counts { OnOk result (Counts (plan_matches prepared.now) reader.old reader.new tally.old tally.new) }
 {
     match prepared.mode() {
         Mode::Replace => {
-            let replacements = prepared.rules().replacements(alloc)?;
-            let texts = replacements.as_slice();
-            let replaced = engine.try_stream_replace_all_any_kind_counted(
-                alloc, reader, writer, texts, steps,
-            );
+            let rules = prepared.rules();
+            let replaced = replace_stream(alloc, rules, engine, reader, writer, steps, tally);
             told(replaced)
         }
-        Mode::List => told(list_stream(alloc, engine, reader, writer, steps)),
-        Mode::Overlap => told(list_every(alloc, engine, reader, writer, steps)),
+        Mode::List => told(list_stream(alloc, engine, reader, writer, steps, tally)),
+        Mode::Overlap => told(list_every(alloc, engine, reader, writer, steps, tally)),
     }
 }
 

@@ -5,32 +5,41 @@
 //!
 //! A fault is reported by one line on the error stream, and by the status. Faults are found in this order: words, rule file, run,
 //! flush. After a fault of the run the writer is still flushed, and the fault of the run is the one that is reported.
-ghost use Rattle.std.specs.Prelude.{◌≡◌, ◌↔◌, ℕ, Err, false, map, string_bytes};
+ghost use Rattle.std.specs.Prelude.{◌≡◌, ◌↔◌, ◌⊎◌, ℕ, Err, false, map, string_bytes, IfOk, OnOk};
 ghost use Rattle.std.specs.IoError.{error_kind};
 ghost use Rattle.std.specs.Process.{exit_status};
-ghost use Rattle.acsub.specs.Outcome.{AnswersHelp, AnswersTool, Collects, EndsProgram, EndsTool, Finishes, RanAsked, ReadsFile, WritesText};
-ghost use Rattle.acsub.specs.Rules.File.{asked_form, grammar_of};
+ghost use Rattle.std.specs.Vec.Iter.{into_iter_items};
+ghost use Rattle.acsub.specs.Outcome.{AnswersFile, AnswersHelp, AnswersUnasked, Collects, EndsAsked, EndsOne, EndsProgram, EndsTool, Finishes, IsConcluded, RanByFile, RanByRules, ReadsFile, ReadsRuleText, Speaks, SpeaksOf, WritesText, told_as};
+ghost use Rattle.acsub.specs.Early.{as_early};
+ghost use Rattle.acsub.specs.Given.{form_wanted};
+ghost use Rattle.acsub.specs.Rules.File.{grammar_of};
+ghost use Rattle.acsub.specs.declared.early.EarlyError.TheVariants as early;
 ghost use Rattle.acsub.specs.declared.error.RunError.TheVariants.{Rule};
 ghost use Rattle.acsub.specs.declared.rules.RuleError.TheVariants.{Line};
-ghost use Rattle.acsub.specs.declared.tool.Fault.TheVariants.{Run};
 ghost use Rattle.acsub.specs.Tool.{IsFaultOf, WritesLine, status_of};
 
-use crate::args::{Words, WordsFault, read_words};
+use crate::args::{Source, Words, WordsFault, read_words};
+use crate::check::report_of;
 use crate::early::{EarlyError, Refusal};
 use crate::error::RunError;
-use crate::mask::{Mask, run_mask_in};
-use crate::rules::Form;
-use crate::run::{Request, run_in};
+use crate::files::{Report, run_files, run_over};
+use crate::given::rule_file;
+use crate::input::read_whole;
+use crate::progress::Meter;
+use crate::rules::{Rules, read_rules};
+use crate::run::unread;
 use crate::stream::told;
-use crate::word::run_words_in;
+use crate::tally::Tally;
+use crate::task::Task;
 use ac_automaton::watched::{Watched, write_whole};
 use ac_input::pairing::PairingError;
-use ac_input::steps::Steps;
-use std::alloc::Global;
+use std::alloc::{AllocError, Global};
 use std::env::Args;
 use std::io::{ErrorKind, Read, Write};
 use std::process::ExitCode;
+use std::rc::Rc;
 use std::rt::Files;
+use std::time::Clock;
 use std::{fmt, fs, io};
 
 /// Why the program ends with another status than 0.
@@ -100,6 +109,17 @@ impl From<RunError> for Fault {
     }
 }
 
+impl From<AllocError> for Fault {
+    ghost use Rattle.acsub.specs.declared.tool.Fault.TheVariants.{Run};
+    ghost use Rattle.acsub.specs.declared.error.RunError.TheVariants.{Memory};
+
+    ghost from_gives = { λ _ fault. fault ≡ Run Memory };
+
+    fn from(_error: AllocError) -> Fault {
+        Fault::Run(RunError::Memory)
+    }
+}
+
 impl From<EarlyError> for Fault {
     ghost use Rattle.acsub.specs.Tool.{early_fault};
 
@@ -116,8 +136,8 @@ impl From<EarlyError> for Fault {
 /// The program, on the words that the system gives: the whole of `main` but the standard streams.
 ///
 /// Words that are no text are bad words.
-pub fn program<F: Files, R: Read, W: Write, E: Write>(
-    rt: &F,
+pub fn program<F: Files + Clock + Drop + Eprint, R: Read, W: Write, E: Write>(
+    meter: &Rc<Meter<F>>,
     alloc: Global,
     words: io::Result<Args>,
     reader: &mut Watched<R>,
@@ -127,10 +147,10 @@ pub fn program<F: Files, R: Read, W: Write, E: Write>(
     requires { reader.old.ended ≡ false }
     ensures ended { EndsProgram F.File.remaining R.remaining W.contents
         (reader.old, writer.old) (reader.new, writer.new) words (exit_status result) }
-    ensures quiet { exit_status result ≡ 0 → errors.new ≡ errors.old }
+    ensures quiet { exit_status result ≡ 0 → (errors.new ≡ errors.old) ⊎ IfOk words (λ all. SpeaksOf (into_iter_items all)) }
 {
     let status = match collect(alloc, words) {
-        Ok(words) => tool(rt, alloc, words.as_slice(), reader, writer, errors),
+        Ok(words) => tool(meter, alloc, words.as_slice(), reader, writer, errors),
         Err(why) => tell(&why, errors),
     };
     ExitCode::from(status)
@@ -157,8 +177,8 @@ pub fn collected(alloc: Global, words: io::Result<Args>) -> Option<Vec<String>> 
 
 /// Runs the program, of which the first word is the name, and returns its status. A fault is one line on the error stream; where
 /// that can't be written, the status stands alone.
-pub fn tool<F: Files, R: Read, W: Write, E: Write>(
-    rt: &F,
+pub fn tool<F: Files + Clock + Drop + Eprint, R: Read, W: Write, E: Write>(
+    meter: &Rc<Meter<F>>,
     alloc: Global,
     words: &[String],
     reader: &mut Watched<R>,
@@ -169,11 +189,21 @@ pub fn tool<F: Files, R: Read, W: Write, E: Write>(
     // The status is that of an outcome, which goes with the words, with what was read and written, and with the flush.
     ensures ended { EndsTool F.File.remaining R.remaining W.contents
         (reader.old, writer.old) (reader.new, writer.new) words.now result }
-    ensures quiet { result ≡ 0 → errors.new ≡ errors.old }
+    ensures quiet { result ≡ 0 → (errors.new ≡ errors.old) ⊎ SpeaksOf words.now }
 {
-    match work(rt, alloc, words, reader, writer) {
-        Ok(()) => 0,
-        Err(fault) => tell(&fault, errors),
+    match read_words(alloc, words) {
+        Ok(asked) => {
+            let task = Task {
+                alloc,
+                asked: &asked,
+                meter,
+            };
+            serve(&task, reader, writer, errors)
+        }
+        Err(fault) => match answer(alloc, &fault, writer) {
+            Ok(()) => 0,
+            Err(fault) => tell(&fault, errors),
+        },
     }
 }
 
@@ -194,61 +224,211 @@ fn write_line<E: Write>(fault: &Fault, errors: &mut E) -> io::Result<()>
     writeln!(errors, "acsub: {fault}")
 }
 
-/// The program but for its last line: reads the words and the rule file, runs, and flushes; or shows the help.
-fn work<F: Files, R: Read, W: Write>(
-    rt: &F,
-    alloc: Global,
-    words: &[String],
-    reader: &mut Watched<R>,
-    writer: &mut Watched<W>,
-) -> Result<(), Fault>
-    requires { reader.old.ended ≡ false }
-    ensures { AnswersTool F.File.remaining R.remaining W.contents
-        (reader.old, writer.old) (reader.new, writer.new) (map string_bytes words.now) result }
+/// Shows the help, where the words ask for it; otherwise they are no command line.
+fn answer<W: Write>(alloc: Global, fault: &WordsFault, writer: &mut Watched<W>) -> Result<(), Fault>
+    ensures { AnswersUnasked W.contents writer.old writer.new fault.now result }
 {
-    match read_words(alloc, words) {
-        Ok(asked) => {
-            let rules = read_file(rt, alloc, asked.rules)?;
-            let ran = serve(alloc, &asked, rules.as_slice(), reader, writer);
-            finish(ran, writer)
-        }
-        Err(WordsFault::Help(help)) => show_help(alloc, &help, writer),
-        Err(WordsFault::Bad) => Err(Fault::Words),
-        Err(WordsFault::Memory) => Err(Fault::Run(RunError::Memory)),
-        Err(WordsFault::Pairing(error)) => Err(Fault::Pairs(error)),
+    match fault {
+        WordsFault::Help(help) => show_help(alloc, help, writer),
+        WordsFault::Bad => Err(Fault::Words),
+        WordsFault::Memory => Err(Fault::Run(RunError::Memory)),
+        WordsFault::Pairing(error) => Err(Fault::Pairs(*error)),
     }
 }
 
-/// The run that the words ask for, by the bytes of the rule file.
-fn serve<R: Read, W: Write>(
-    alloc: Global,
-    asked: &Words<'_>,
+/// Does what was asked for, and returns the status.
+fn serve<F: Files + Clock + Drop + Eprint, R: Read, W: Write, E: Write>(
+    task: &Task<'_, '_, '_, F>,
+    reader: &mut Watched<R>,
+    writer: &mut Watched<W>,
+    errors: &mut E,
+) -> u8
+    requires { reader.old.ended ≡ false }
+    ensures ended { EndsAsked F.File.remaining R.remaining W.contents
+        (reader.old, writer.old) (reader.new, writer.new) task.now.asked.now result }
+    ensures quiet { result ≡ 0 → (errors.new ≡ errors.old) ⊎ Speaks task.now.asked.now }
+{
+    if task.has_one_input() {
+        serve_one(task, reader, writer, errors)
+    } else {
+        serve_all(task, reader, writer, errors)
+    }
+}
+
+/// Runs over standard input, and returns the status.
+fn serve_one<F: Files + Clock + Drop + Eprint, R: Read, W: Write, E: Write>(
+    task: &Task<'_, '_, '_, F>,
+    reader: &mut Watched<R>,
+    writer: &mut Watched<W>,
+    errors: &mut E,
+) -> u8
+    requires { reader.old.ended ≡ false }
+    ensures ended { EndsOne F.File.remaining R.remaining W.contents
+        (reader.old, writer.old) (reader.new, writer.new) task.now.asked.now result }
+    ensures quiet { result ≡ 0 → (errors.new ≡ errors.old) ⊎ Speaks task.now.asked.now }
+{
+    let mut tally = Tally::new();
+    match run_alone(task, reader, writer, &mut tally) {
+        Ok(()) => conclude(task.asked, tally.found(), 0, errors),
+        Err(fault) => tell(&fault, errors),
+    }
+}
+
+/// Runs over all FILEs, or reports on the rules, and returns the status.
+fn serve_all<F: Files + Clock + Drop + Eprint, R: Read, W: Write, E: Write>(
+    task: &Task<'_, '_, '_, F>,
+    reader: &mut Watched<R>,
+    writer: &mut Watched<W>,
+    errors: &mut E,
+) -> u8
+    requires { reader.old.ended ≡ false }
+    ensures { result ≡ 0 → (errors.new ≡ errors.old) ⊎ Speaks task.now.asked.now }
+{
+    let mut report = Report::new();
+    match run_all(task, reader, writer, errors, &mut report) {
+        Ok(()) => conclude(task.asked, report.tally.found(), report.status, errors),
+        Err(fault) => tell(&fault, errors),
+    }
+}
+
+/// Reads the rules, runs over standard input, and flushes.
+fn run_alone<F: Files + Clock + Drop + Eprint, R: Read, W: Write>(
+    task: &Task<'_, '_, '_, F>,
+    reader: &mut Watched<R>,
+    writer: &mut Watched<W>,
+    tally: &mut Tally,
+) -> Result<(), Fault>
+    requires { reader.old.ended ≡ false }
+    ensures { AnswersFile F.File.remaining R.remaining W.contents
+        (reader.old, writer.old) (reader.new, writer.new) task.now.asked.now result }
+{
+    match read_rule_file(task) {
+        Ok(file) => {
+            let ran = run_by_file(task, file.as_slice(), reader, writer, tally);
+            finish(told_as(ran), writer)
+        }
+        Err(fault) => Err(fault),
+    }
+}
+
+/// The run over standard input that is asked for, by the bytes of the rules.
+fn run_by_file<F: Files + Clock + Drop + Eprint, R: Read, W: Write>(
+    task: &Task<'_, '_, '_, F>,
     file: &[u8],
     reader: &mut Watched<R>,
     writer: &mut Watched<W>,
-) -> Result<(), Fault>
+    tally: &mut Tally,
+) -> Result<(), EarlyError>
     requires { reader.old.ended ≡ false }
-    ensures ran { RanAsked R.remaining W.contents asked.now (reader.old, writer.old) (reader.new, writer.new)
+    ensures ran { RanByFile R.remaining W.contents task.now.asked.now (reader.old, writer.old) (reader.new, writer.new)
         file.now result }
-    ensures fault { (n : ℕ) → (result ≡ Err (Run (Rule (Line n))))
-        ↔ (grammar_of (asked_form asked.now.text false)).bad file.now n }
+    ensures fault { (n : ℕ) → (result ≡ Err (early.Run (Rule (Line n)))) ↔ (grammar_of (form_wanted task.now.asked.now)).bad file.now n }
 {
-    let wanted = Request {
-        settings: asked.settings,
-        form: Form::of(asked.text, false),
-        stream: asked.stream,
+    match read_rules(task.alloc, task.asked.form(), file) {
+        Ok(rules) => run_by_rules(task, &rules, reader, writer, tally),
+        Err(error) => Err(EarlyError::Run(unread(error))),
+    }
+}
+
+/// The run over standard input that is asked for, by these rules.
+fn run_by_rules<F: Files + Clock + Drop + Eprint, R: Read, W: Write>(
+    task: &Task<'_, '_, '_, F>,
+    rules: &Rules,
+    reader: &mut Watched<R>,
+    writer: &mut Watched<W>,
+    tally: &mut Tally,
+) -> Result<(), EarlyError>
+    requires { reader.old.ended ≡ false }
+    ensures { RanByRules R.remaining W.contents task.now.asked.now (reader.old, writer.old) (reader.new, writer.new)
+        rules.now result }
+{
+    match task.job(rules) {
+        Ok(job) => {
+            task.start_input();
+            let ran = run_over(task, &job, reader, writer, tally);
+            task.meter.stop();
+            as_early(ran)
+        }
+        Err(error) => Err(error),
+    }
+}
+
+/// The result of a job that ran.
+fn as_early(ran: Result<(), RunError>) -> Result<(), EarlyError>
+    ensures { result ≡ as_early ran }
+{
+    match ran {
+        Ok(()) => Ok(()),
+        Err(error) => Err(EarlyError::Run(error)),
+    }
+}
+
+/// The result of a run as an outcome of the program.
+fn told_as(ran: Result<(), EarlyError>) -> Result<(), Fault>
+    ensures { result ≡ told_as ran }
+{
+    match ran {
+        Ok(()) => Ok(()),
+        Err(error) => Err(Fault::from(error)),
+    }
+}
+
+/// Reads the rules, runs over all FILEs or reports on the rules, and flushes.
+fn run_all<F: Files + Clock + Drop + Eprint, R: Read, W: Write, E: Write>(
+    task: &Task<'_, '_, '_, F>,
+    reader: &mut Watched<R>,
+    writer: &mut Watched<W>,
+    errors: &mut E,
+    report: &mut Report,
+) -> Result<(), Fault>
+    requires open { reader.old.ended ≡ false }
+    requires fine { report.old.status ≡ 0 }
+    ensures { OnOk result (report.new.status ≡ 0 → errors.new ≡ errors.old) }
+{
+    let file = match task.asked.source {
+        Source::Input => read_input(task.alloc, reader)?,
+        _ => read_rule_file(task)?,
     };
-    let word = asked.word;
-    match asked.mask {
-        Some(byte) => {
-            let mask = Mask { byte, word };
-            Ok(run_mask_in(alloc, wanted, mask, file, reader, writer)?)
-        }
-        None if word => Ok(run_words_in(alloc, wanted, file, reader, writer)?),
-        None => {
-            let mut steps = Steps::new();
-            Ok(run_in(alloc, wanted, file, reader, writer, &mut steps)?)
-        }
+    let ran = match read_rules(task.alloc, task.asked.form(), file.as_slice()) {
+        Ok(rules) if task.asked.check => report_on(task, &rules, writer),
+        Ok(rules) => run_files(task, &rules, reader, writer, errors, report),
+        Err(error) => Err(Fault::Run(unread(error))),
+    };
+    finish(ran, writer)
+}
+
+/// Writes what is odd about rules by which a job can be made.
+fn report_on<F: Files + Clock + Drop + Eprint, W: Write>(
+    task: &Task<'_, '_, '_, F>,
+    rules: &Rules,
+    writer: &mut Watched<W>,
+) -> Result<(), Fault> {
+    drop(task.job(rules)?);
+    let text = report_of(task.alloc, task.asked, rules)?;
+    Ok(write_text(text.as_str(), writer)?)
+}
+
+/// The status where no fault ended the runs; and the line that says how much was found, if it is asked for.
+fn conclude<E: Write>(asked: &Words<'_>, found: u64, status: u8, errors: &mut E) -> u8
+    ensures status { IsConcluded asked.now status result }
+    ensures quiet { (errors.new ≡ errors.old) ⊎ Speaks asked.now }
+{
+    if asked.check {
+        return status;
+    }
+    if asked.count {
+        let what = match (asked.mask, found) {
+            (None, 1) => "match",
+            (None, _) => "matches",
+            (Some(_), 1) => "masked byte",
+            (Some(_), _) => "masked bytes",
+        };
+        let _ = writeln!(errors, "acsub: {found} {what}");
+    }
+    if status == 0 && asked.fail_if_none && found == 0 {
+        1
+    } else {
+        status
     }
 }
 
@@ -285,6 +465,37 @@ fn finish<W: Write>(ran: Result<(), Fault>, writer: &mut Watched<W>) -> Result<(
     match flushed {
         Ok(()) => Ok(()),
         Err(_) => Err(Fault::Flush),
+    }
+}
+
+/// The bytes of the rules: of a file, or of the arguments. Without a FILE `-` is the path of a file.
+fn read_rule_file<F: Files + Clock + Drop + Eprint>(
+    task: &Task<'_, '_, '_, F>,
+) -> Result<Vec<u8>, Fault>
+    ensures { ReadsRuleText F.File.remaining task.now.asked.now result }
+{
+    let asked = task.asked;
+    match asked.source {
+        Source::File(path) => read_file(task.rt(), task.alloc, path),
+        Source::Input => read_file(task.rt(), task.alloc, "-"),
+        Source::Given => {
+            let (patterns, by) = (asked.patterns.as_slice(), asked.replacements.as_slice());
+            match rule_file(task.alloc, patterns, by) {
+                Ok(bytes) => Ok(bytes),
+                Err(_) => Err(Fault::Run(RunError::Memory)),
+            }
+        }
+    }
+}
+
+/// The bytes of the rules on standard input.
+fn read_input<R: Read>(alloc: Global, reader: &mut Watched<R>) -> Result<Vec<u8>, Fault>
+    requires { reader.old.ended ≡ false }
+{
+    match read_whole(alloc, reader) {
+        Ok(bytes) => Ok(bytes),
+        Err(RunError::Read(_)) => Err(Fault::RuleFile),
+        Err(error) => Err(Fault::Run(error)),
     }
 }
 

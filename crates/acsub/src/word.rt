@@ -6,9 +6,11 @@
 //! It always writes while it reads. Whether an occurrence is a whole word isn't known before the next byte is read, so before each read
 //! it has written everything but the last bytes in which a word may still begin: no more than the longest pattern has, or one. It takes
 //! memory for what is built of the rules, and for two buffers.
-ghost use Rattle.std.specs.Prelude.{◌≡◌, ◌↔◌, ℕ, IfErr, OnOk, Err, false};
+ghost use Rattle.std.specs.Prelude.{◌≡◌, ◌↔◌, ℕ, IfOk, IfErr, OnOk, Err, false};
+ghost use Rattle.acsub.specs.Early.{IsUnready, as_early};
 ghost use Rattle.acsub.specs.Rules.File.{grammar_of};
-ghost use Rattle.acsub.specs.WordRun.{AnswersWordRun, AnswersWordRunIn, CostsWordRun, IsSearchable, NotSearchable, for_words};
+ghost use Rattle.acsub.specs.Tally.{Counts, plan_words};
+ghost use Rattle.acsub.specs.WordRun.{AnswersWordRun, AnswersWordRunIn, AreJobWords, AreWordsReady, CostsWordRun, IsSearchable, NotSearchable, for_words, word_demand};
 ghost use Rattle.acsub.specs.declared.early.EarlyError.TheVariants.{Run};
 ghost use Rattle.acsub.specs.declared.error.RunError.TheVariants.{Rule};
 ghost use Rattle.acsub.specs.declared.rules.RuleError.TheVariants.{Line};
@@ -21,11 +23,21 @@ use crate::rules::{Rules, read_rules};
 use crate::run::{Request, unread};
 use crate::stream::told;
 use crate::stream::words::stream_words;
+use crate::tally::Tally;
 use ac_automaton::watched::Watched;
 use ac_input::search::MatchKind;
 use ac_input::steps::Steps;
+use aho_corasick::AhoCorasick;
 use std::alloc::Global;
 use std::io::{Read, Write};
+
+/// What finds whole words, settled before an input is read. The automaton is of the standard kind, whatever the settings ask for.
+#[derive(Drop)]
+pub struct PreparedWords<'r> {
+    pub(crate) settings: Settings,
+    pub(crate) rules: &'r Rules,
+    pub(crate) automaton: AhoCorasick,
+}
 
 /// Reads the input to its end, and writes the text that settings and rules make of its whole words.
 ///
@@ -60,10 +72,48 @@ pub fn run_words_counted<R: Read, W: Write>(
         settings.now rules.now result }
     ensures cost { CostsWordRun settings.now rules.now reader.old reader.new steps.old steps.new result }
 {
+    let prepared = prepare_words(alloc, settings, rules)?;
+    let mut tally = Tally::new();
+    Ok(run_prepared_words(alloc, &prepared, reader, writer, steps, &mut tally)?)
+}
+
+/// Makes all that a run for words has before it reads, if the settings and the rules go together.
+pub fn prepare_words<'r>(
+    alloc: Global,
+    settings: &Settings,
+    rules: &'r Rules,
+) -> Result<PreparedWords<'r>, EarlyError>
+    ensures ready { IfOk result (AreJobWords settings.now rules.entry.now) }
+    ensures refused { IfErr result (IsUnready (word_demand settings.now rules.entry.now)) }
+{
     check_words(settings, rules)?;
     let automaton = automaton_for(alloc, &for_words(settings), rules)?;
-    let written = stream_words(alloc, settings, rules, &automaton, reader, writer, steps);
-    Ok(told(written)?)
+    Ok(PreparedWords {
+        settings: *settings,
+        rules,
+        automaton,
+    })
+}
+
+/// Writes the text of an input by what was prepared before, and counts the words.
+pub fn run_prepared_words<R: Read, W: Write>(
+    alloc: Global,
+    prepared: &PreparedWords<'_>,
+    reader: &mut Watched<R>,
+    writer: &mut Watched<W>,
+    steps: &mut Steps,
+    tally: &mut Tally,
+) -> Result<(), RunError>
+    requires open { reader.old.ended ≡ false }
+    requires ready { AreWordsReady prepared.now }
+    ensures answered { AnswersWordRun R.remaining W.contents (reader.old, writer.old) (reader.new, writer.new)
+        prepared.now.settings prepared.now.rules.now (as_early result) }
+    ensures cost { CostsWordRun prepared.now.settings prepared.now.rules.now reader.old reader.new
+        steps.old steps.new (as_early result) }
+    ensures counts { OnOk result (Counts (plan_words prepared.now.settings prepared.now.rules.now)
+        reader.old reader.new tally.old tally.new) }
+{
+    told(stream_words(alloc, prepared, reader, writer, steps, tally))
 }
 
 /// The same, by a rule file. Which bad line comes first is reported before all else.

@@ -1,5 +1,5 @@
 -- How each step of a builder changes an argument's rule.
-use Rattle.std.proofs.Common.{◌≡◌, ◌∙◌, ap, true, false, Some}
+use Rattle.std.proofs.Common.{◌≡◌, ◌∙◌, ℕ, ap, true, false, Some}
 use Rattle.std.specs.Borrow.{Bor}
 use Rattle.clap.specs.Words.{Rule, Text, rule_of}
 use Rattle.clap.specs.declared.builder.arg.Arg.{Arg}
@@ -26,6 +26,11 @@ acting_rule a b r action same is = ap rule_of same ∙ ap (λ (s : Rule). record
 pub long_rule : (a b : Arg) (r : Rule) (name : Bor Text) → b ≡ record a { long = Some name } → rule_of a ≡ r
     → rule_of b ≡ record r { long = Some name.now }
 long_rule a b r name same is = ap rule_of same ∙ ap (λ (s : Rule). record s { long = Some name.now }) is
+
+-- the argument is given a short name
+pub short_rule : (a b : Arg) (r : Rule) (name : ℕ) → b ≡ record a { short = Some name } → rule_of a ≡ r
+    → rule_of b ≡ record r { short = Some name }
+short_rule a b r name same is = ap rule_of same ∙ ap (λ (s : Rule). record s { short = Some name }) is
 
 -- the argument becomes required
 pub required_rule : (a b : Arg) (r : Rule) → b ≡ record a { required = true } → rule_of a ≡ r

@@ -24,12 +24,12 @@ use Rattle.clap.proofs.FaultLemmas.{free_args}
 use Rattle.clap.proofs.WalkLemmas.{first_value-rows, list_any-map, one_text-rows}
 use Rattle.clap.specs.Words.{IsUnsignedIn, same_text}
 use Rattle.clap.specs.declared.builder.value_parser.ValueParser.TheVariants as parser
-use Rattle.acsub.specs.Args.Command.{HasNames, Lists, Names, command, command_with, depth_rule, engine_names, engine_rule, greatest_depth, kind_names, kind_rule, mode_names, mode_rule, placed}
+use Rattle.acsub.specs.Args.Command.{HasNames, Lists, Names, command, command_with, depth_rule, engine_names, engine_rule, greatest_depth, kind_names, kind_rule, mode_names, mode_rule}
 use Rattle.clap.specs.declared.error.Error.{Error}
 use Rattle.clap.specs.declared.error.kind.ErrorKind.TheVariants as kind
 use Rattle.acsub.specs.declared.args.WordsFault.{WordsFault}
 use Rattle.acsub.specs.declared.args.WordsFault.TheVariants.{Help, Bad, Memory, Pairing}
-use Rattle.acsub.specs.Args.Words.{IsShown, IsWordsFault, IsTyped, Parses, engine_named, engine_of, kind_named, match_kind_of, mode_named, mode_of, rules_path}
+use Rattle.acsub.specs.Args.Words.{IsShown, IsWordsFault, IsTyped, Parses, engine_named, engine_of, kind_named, match_kind_of, mode_named, mode_of}
 use Rattle.std.proofs.Common.{lit<}
 use Rattle.acsub.proofs.args.PlaceLemmas.{same_fault, same_matches}
 use Rattle.acsub.proofs.args.TypedLemmas.{IsOwn, entry_there, first_accepted, has_value, same_reading}
@@ -56,19 +56,21 @@ module _ (old : Command) (lists : Lists) (is : app_of old ≡ command_with lists
   rules_is : map rule_of (args_of old) ≡ (command_with lists).top.rules
   rules_is = ap (λ a. a.top.rules) is
 
-  thirteen : length (args_of old) ≡ 13
-  thirteen = sym (length-map (args_of old) rule_of) ∙ ap length rules_is
+  arg_count : length (args_of old) ≡ 22
+  arg_count = sym (length-map (args_of old) rule_of) ∙ ap length rules_is
 
-  rule_at : (k : ℕ) (d : Arg) → k < 13
+  rule_at : (k : ℕ) (d : Arg) → k < 22
       → rule_of (slice_index_or (args_of old) k d) ≡ slice_index_or (command_with lists).top.rules k (rule_of d)
   rule_at k d lt =
-      let low : k < length (args_of old) = omega (arith, thirteen) in
+      let low : k < length (args_of old) = omega (arith, arg_count) in
       sym (get_or-map rule_of (args_of old) k d (rule_of d) low) ∙ ap (λ rs. slice_index_or rs k (rule_of d)) rules_is
 
 -- the ids of the command's arguments, in order
 abbrev ids : List Text
-ids = codes "mode" ∷ codes "rules" ∷ codes "text" ∷ codes "stream" ∷ codes "word" ∷ codes "with" ∷ codes "kind"
-    ∷ codes "fold" ∷ codes "pairs" ∷ codes "engine" ∷ codes "no-prefilter" ∷ codes "dense-depth" ∷ codes "no-byte-classes" ∷ []
+ids = codes "mode" ∷ codes "rules" ∷ codes "file" ∷ codes "pattern" ∷ codes "replacement" ∷ codes "text" ∷ codes "escapes"
+    ∷ codes "in-place" ∷ codes "count" ∷ codes "fail-if-none" ∷ codes "check" ∷ codes "progress" ∷ codes "stream" ∷ codes "word"
+    ∷ codes "with" ∷ codes "kind" ∷ codes "fold" ∷ codes "pairs" ∷ codes "engine" ∷ codes "no-prefilter" ∷ codes "dense-depth"
+    ∷ codes "no-byte-classes" ∷ []
 
 -- among the first n ids, none but that of argument k is this text
 abbrev only_at : ℕ → ℕ → Text → Bool
@@ -97,16 +99,16 @@ differs a b h e = let same : bytes_eq a b ≡ true = (bytes_eq-Decides a b).1 e 
     let bad : false ≡ true = rw same at h in true≢false (sym bad)
 
 module _ (old : Command) (lists : Lists) (is : app_of old ≡ command_with lists) where
-  id_at : (k : ℕ) (d : Arg) → k < 13 → (slice_index_or (args_of old) k d).id.now ≡ get_or ids k []
+  id_at : (k : ℕ) (d : Arg) → k < 22 → (slice_index_or (args_of old) k d).id.now ≡ get_or ids k []
   id_at k d lt =
       ap (λ r. r.id) (rule_at old lists is k d lt)
       ∙ sym (get_or-map (λ (r : Rule). r.id) (command_with lists).top.rules k (rule_of d) [] lt)
 
   -- each argument of the command has an id of its own
-  own_at : (k : ℕ) (d : Arg) → k < 13 → only_at 13 k (get_or ids k []) ≡ true → is_apart (get_or ids k []) ≡ true
+  own_at : (k : ℕ) (d : Arg) → k < 22 → only_at 22 k (get_or ids k []) ≡ true → is_apart (get_or ids k []) ≡ true
       → IsOwn old k (slice_index_or (args_of old) k d)
   own_at k d lt only apart =
-      let len = thirteen old lists is in
+      let len = arg_count old lists is in
       let low : k < length (args_of old) = omega arith in
       let id = id_at k d lt in
       let parts = and_parts _ _ apart in
@@ -115,8 +117,8 @@ module _ (old : Command) (lists : Lists) (is : app_of old ≡ command_with lists
         lt = low;
         at = λ e. get_or_default (args_of old) k e d low;
         unique = λ j e high same.
-            let small : j < 13 = subst (λ n. j < n) len high in
-            only_there 13 k j (get_or ids k []) only small (rw (← id_at j e small, ← id) same);
+            let small : j < 22 = subst (λ n. j < n) len high in
+            only_there 22 k j (get_or ids k []) only small (rw (← id_at j e small, ← id) same);
         named = λ e. differs _ _ parts.0 (sym id ∙ e);
         no_flag =
             λ auto. elim auto [ inl h ↦ differs _ _ flags.0 (sym id ∙ h) | inr h ↦ differs _ _ flags.1 (sym id ∙ h) ];
@@ -165,7 +167,7 @@ module _ (old : Command) (lists : Lists) (names : HasNames lists) (is : app_of o
   negates = ap (λ a. a.top.subcommand_negates_reqs) is
 
   -- an argument that takes a value, and has an entry, has a value
-  with_value : (k : ℕ) (d : Arg) → k < 13 → IsOwn old k (slice_index_or (args_of old) k d)
+  with_value : (k : ℕ) (d : Arg) → k < 22 → IsOwn old k (slice_index_or (args_of old) k d)
       → (slice_index_or (args_of old) k d).action ≡ Some Set → (slice_index_or (args_of old) k d).num_vals ≡ None
       → is_some (matched_of (found_of m) (slice_index_or (args_of old) k d).id.now) ≡ true
       → is_some (first_value (found_of m) (slice_index_or (args_of old) k d).id.now) ≡ true
@@ -173,7 +175,7 @@ module _ (old : Command) (lists : Lists) (names : HasNames lists) (is : app_of o
       has_value old m p plain local k (slice_index_or (args_of old) k d) own set (simple.args k d own.lt).delimiter
       (least_is (slice_index_or (args_of old) k d) range) has
 
-  required_value : (k : ℕ) (d : Arg) → k < 13 → IsOwn old k (slice_index_or (args_of old) k d)
+  required_value : (k : ℕ) (d : Arg) → k < 22 → IsOwn old k (slice_index_or (args_of old) k d)
       → (slice_index_or (args_of old) k d).action ≡ Some Set → (slice_index_or (args_of old) k d).num_vals ≡ None
       → (slice_index_or (args_of old) k d).required ≡ true
       → is_some (first_value (found_of m) (slice_index_or (args_of old) k d).id.now) ≡ true
@@ -181,7 +183,7 @@ module _ (old : Command) (lists : Lists) (names : HasNames lists) (is : app_of o
       with_value k d lt own set range
       (present_has_entry (found_of m) _ (required_present old m p plain local negates k d own.lt required))
 
-  default_value : (k : ℕ) (d : Arg) (t : Text) → k < 13 → IsOwn old k (slice_index_or (args_of old) k d)
+  default_value : (k : ℕ) (d : Arg) (t : Text) → k < 22 → IsOwn old k (slice_index_or (args_of old) k d)
       → (slice_index_or (args_of old) k d).action ≡ Some Set → (slice_index_or (args_of old) k d).num_vals ≡ None
       → texts (items_of (slice_index_or (args_of old) k d).default_vals) ≡ t ∷ []
       → is_some (first_value (found_of m) (slice_index_or (args_of old) k d).id.now) ≡ true
@@ -213,7 +215,7 @@ module _ (old : Command) (lists : Lists) (names : HasNames lists) (is : app_of o
       rw first (any_named list (λ n. is_some (what n)) some.0 one all)
 
   an_arg : Arg
-  an_arg = head (args_of old) (subst (λ n. 0 < n) (sym (thirteen old lists is)) (lit< tt))
+  an_arg = head (args_of old) (subst (λ n. 0 < n) (sym (arg_count old lists is)) (lit< tt))
 
   mode_rule_is : rule_of (slice_index_or (args_of old) 0 an_arg) ≡ mode_rule lists.modes
   mode_rule_is = rule_at old lists is 0 an_arg (lit< tt)
@@ -226,55 +228,44 @@ module _ (old : Command) (lists : Lists) (names : HasNames lists) (is : app_of o
       (ap (λ x. x.id) r, ap (λ x. x.parser) r, ap (λ x. x.ignore_case) r) names.modes refl
       (required_value 0 an_arg (lit< tt) own (ap (λ x. x.action) r) (ap (λ x. x.range) r) (ap (λ x. x.required) r))
 
-  rules_typed : is_some (rules_path (rows_of (found_of m))) ≡ true
-  rules_typed =
-      let r : rule_of (slice_index_or (args_of old) 1 an_arg) ≡ placed (codes "rules") =
-      rule_at old lists is 1 an_arg (lit< tt) in
-      let own = own_at old lists is 1 an_arg (lit< tt) refl refl in
-      let has =
-      required_value 1 an_arg (lit< tt) own (ap (λ x. x.action) r) (ap (λ x. x.range) r) (ap (λ x. x.required) r) in
-      ap (λ o. is_some o) (sym (first_value-rows (found_of m) (codes "rules")))
-      ∙ subst (λ i. is_some (first_value (found_of m) i) ≡ true) (ap (λ x. x.id) r) has
-
   kind_typed : is_some (match_kind_of (rows_of (found_of m))) ≡ true
   kind_typed =
-      let r : rule_of (slice_index_or (args_of old) 6 an_arg) ≡ kind_rule lists.kinds =
-      rule_at old lists is 6 an_arg (lit< tt) in
-      let own = own_at old lists is 6 an_arg (lit< tt) refl refl in
-      choice kind_named 6 an_arg (codes "kind") lists.kinds kind_names own
+      let r : rule_of (slice_index_or (args_of old) 15 an_arg) ≡ kind_rule lists.kinds =
+      rule_at old lists is 15 an_arg (lit< tt) in
+      let own = own_at old lists is 15 an_arg (lit< tt) refl refl in
+      choice kind_named 15 an_arg (codes "kind") lists.kinds kind_names own
       (ap (λ x. x.id) r, ap (λ x. x.parser) r, ap (λ x. x.ignore_case) r) names.kinds refl
-      (default_value 6 an_arg (codes "standard") (lit< tt) own (ap (λ x. x.action) r) (ap (λ x. x.range) r)
+      (default_value 15 an_arg (codes "standard") (lit< tt) own (ap (λ x. x.action) r) (ap (λ x. x.range) r)
       (ap (λ x. x.defaults) r))
 
   engine_typed : is_some (engine_of (rows_of (found_of m))) ≡ true
   engine_typed =
-      let r : rule_of (slice_index_or (args_of old) 9 an_arg) ≡ engine_rule lists.engines =
-      rule_at old lists is 9 an_arg (lit< tt) in
-      let own = own_at old lists is 9 an_arg (lit< tt) refl refl in
-      choice engine_named 9 an_arg (codes "engine") lists.engines engine_names own
+      let r : rule_of (slice_index_or (args_of old) 18 an_arg) ≡ engine_rule lists.engines =
+      rule_at old lists is 18 an_arg (lit< tt) in
+      let own = own_at old lists is 18 an_arg (lit< tt) refl refl in
+      choice engine_named 18 an_arg (codes "engine") lists.engines engine_names own
       (ap (λ x. x.id) r, ap (λ x. x.parser) r, ap (λ x. x.ignore_case) r) names.engines refl
-      (default_value 9 an_arg (codes "auto") (lit< tt) own (ap (λ x. x.action) r) (ap (λ x. x.range) r)
+      (default_value 18 an_arg (codes "auto") (lit< tt) own (ap (λ x. x.action) r) (ap (λ x. x.range) r)
       (ap (λ x. x.defaults) r))
 
   depth_typed : (t : Text) → one_of (codes "dense-depth") (rows_of (found_of m)) ≡ Some t
       → IsUnsignedIn 0 greatest_depth t
   depth_typed t e =
-      let r : rule_of (slice_index_or (args_of old) 11 an_arg) ≡ depth_rule = rule_at old lists is 11 an_arg (lit< tt) in
-      let own = own_at old lists is 11 an_arg (lit< tt) refl refl in
+      let r : rule_of (slice_index_or (args_of old) 20 an_arg) ≡ depth_rule = rule_at old lists is 20 an_arg (lit< tt) in
+      let own = own_at old lists is 20 an_arg (lit< tt) refl refl in
       let q = parser.Unsigned 0 greatest_depth in
-      let id : (slice_index_or (args_of old) 11 an_arg).id.now ≡ codes "dense-depth" = ap (λ x. x.id) r in
+      let id : (slice_index_or (args_of old) 20 an_arg).id.now ≡ codes "dense-depth" = ap (λ x. x.id) r in
       let same =
-      same_reading old m p plain local 11 (slice_index_or (args_of old) 11 an_arg) own q (ap (λ x. x.parser) r) refl in
-      let here : one_text (found_of m) (slice_index_or (args_of old) 11 an_arg).id.now ≡ Some t =
+      same_reading old m p plain local 20 (slice_index_or (args_of old) 20 an_arg) own q (ap (λ x. x.parser) r) refl in
+      let here : one_text (found_of m) (slice_index_or (args_of old) 20 an_arg).id.now ≡ Some t =
       subst (λ i. one_text (found_of m) i ≡ Some t) (sym id) (one_text-rows (found_of m) (codes "dense-depth") ∙ e) in
-      first_accepted old m p plain local 11 (slice_index_or (args_of old) 11 an_arg) own q (ap (λ x. x.parser) r) t
+      first_accepted old m p plain local 20 (slice_index_or (args_of old) 20 an_arg) own q (ap (λ x. x.parser) r) t
       (sym same ∙ here)
 
   -- the values that clap lets through are those that the program asks for
   pub typed : IsTyped (rows_of (found_of m))
   typed = record {
     mode = mode_typed;
-    rules = rules_typed;
     kind = kind_typed;
     engine = engine_typed;
     dense_depth = depth_typed;

@@ -8,7 +8,7 @@ use Rattle.ac_automaton.specs.Stream.Devices.Moved.{NoneTouched}
 use Rattle.ac_automaton.specs.declared.error.StreamError.{StreamError}
 use Rattle.ac_automaton.specs.declared.error.StreamError.TheVariants as stream
 use Rattle.ac_automaton.specs.declared.stream.devices.watched.Watched.{Watched}
-use Rattle.acsub.specs.Early.{AnswersEarly, CostsEarly, Demand, IsUnmet}
+use Rattle.acsub.specs.Early.{AnswersEarly, CostsEarly, Demand, IsUnmet, IsUnready, as_early}
 use Rattle.acsub.specs.Finder.{FailsToBuild}
 use Rattle.acsub.specs.Plan.{Plan}
 use Rattle.acsub.specs.Stream.{IfStreamMemory, IsReturnedAs}
@@ -18,67 +18,71 @@ use Rattle.acsub.specs.declared.error.RunError.{RunError}
 use Rattle.acsub.specs.declared.error.RunError.TheVariants as errors
 use Rattle.acsub.proofs.run.CountLemmas.{no-looks}
 
+-- ---- why none is prepared
+
+-- a check that fails is a reason
+pub unmet-unready : (d : Demand) (e : EarlyError) → IsUnmet d e → IsUnready d e
+unmet-unready d (early.Refused refusal) why = why
+unmet-unready d (early.Run (errors.Setting e)) why = why
+unmet-unready d (early.Run (errors.Rule e)) why = absurd why
+unmet-unready d (early.Run (errors.Build kind)) why = absurd why
+unmet-unready d (early.Run (errors.Read e)) why = absurd why
+unmet-unready d (early.Run (errors.Write e)) why = absurd why
+unmet-unready d (early.Run errors.WriteZero) why = absurd why
+unmet-unready d (early.Run errors.Memory) why = absurd why
+unmet-unready d (early.Run errors.Position) why = absurd why
+
+-- so is a build that fails
+pub unbuilt-unready : (d : Demand) → d.fits → (e : RunError) → FailsToBuild d.built d.rules e
+    → IsUnready d (early.Run e)
+unbuilt-unready d fits (errors.Build kind) fails = (fits, fails)
+unbuilt-unready d fits errors.Memory fails = fits
+unbuilt-unready d fits (errors.Rule e) fails = absurd fails
+unbuilt-unready d fits (errors.Setting e) fails = absurd fails
+unbuilt-unready d fits (errors.Read e) fails = absurd fails
+unbuilt-unready d fits (errors.Write e) fails = absurd fails
+unbuilt-unready d fits errors.WriteZero fails = absurd fails
+unbuilt-unready d fits errors.Position fails = absurd fails
+
+-- ---- the result of a run
+
 module _ {R W : Type 0} (old new : Watched R × Watched W) (d : Demand) (writes : Result (Unit {0}) StreamError → Type 0) where
-  -- a demand that isn't met touches neither device
-  pub early-refused : (e : EarlyError) → IsUnmet d e → new ≡ old → AnswersEarly old new d writes (Err e)
-  early-refused (early.Refused refusal) why same = (why.0, why.1, same)
-  early-refused (early.Run (errors.Setting e)) why same = (why, same)
-  early-refused (early.Run (errors.Rule e)) why same = absurd why
-  early-refused (early.Run (errors.Build kind)) why same = absurd why
-  early-refused (early.Run (errors.Read e)) why same = absurd why
-  early-refused (early.Run (errors.Write e)) why same = absurd why
-  early-refused (early.Run errors.WriteZero) why same = absurd why
-  early-refused (early.Run errors.Memory) why same = absurd why
-  early-refused (early.Run errors.Position) why same = absurd why
+  -- a run that wasn't prepared touches neither device
+  pub early-unready : (e : EarlyError) → IsUnready d e → new ≡ old → AnswersEarly old new d writes (Err e)
+  early-unready (early.Refused refusal) why same = (why.0, why.1, same)
+  early-unready (early.Run (errors.Setting e)) why same = (why, same)
+  early-unready (early.Run (errors.Build kind)) why same = (why.0, why.1, same)
+  early-unready (early.Run errors.Memory) why same = (why, same)
+  early-unready (early.Run (errors.Rule e)) why same = absurd why
+  early-unready (early.Run (errors.Read e)) why same = absurd why
+  early-unready (early.Run (errors.Write e)) why same = absurd why
+  early-unready (early.Run errors.WriteZero) why same = absurd why
+  early-unready (early.Run errors.Position) why same = absurd why
 
-  module _ (fits : d.fits) where
-    -- nor does a build that failed
-    pub early-unbuilt : (e : RunError) → FailsToBuild d.built d.rules e → new ≡ old
-        → AnswersEarly old new d writes (Err (early.Run e))
-    early-unbuilt (errors.Build kind) fails same = (fits, fails, same)
-    early-unbuilt errors.Memory fails same = (fits, same)
-    early-unbuilt (errors.Rule e) fails same = absurd fails
-    early-unbuilt (errors.Setting e) fails same = absurd fails
-    early-unbuilt (errors.Read e) fails same = absurd fails
-    early-unbuilt (errors.Write e) fails same = absurd fails
-    early-unbuilt errors.WriteZero fails same = absurd fails
-    early-unbuilt errors.Position fails same = absurd fails
+  -- one that was returns the result of the stream
+  pub early-says : d.fits → (searched : Result (Unit {0}) StreamError) (told : Result (Unit {0}) RunError)
+      → IsReturnedAs searched told → writes searched
+      → IfStreamMemory searched (NoneTouched old.0 new.0 old.1 new.1)
+      → AnswersEarly old new d writes (as_early told)
+  early-says fits (Ok done) told returned did memory =
+      subst (λ t. AnswersEarly old new d writes (as_early t)) (sym returned) did
+  early-says fits (Err (stream.Config error)) told returned did memory = absurd returned
+  early-says fits (Err (stream.Read error)) told returned did memory =
+      subst (λ t. AnswersEarly old new d writes (as_early t)) (sym returned) did
+  early-says fits (Err (stream.Write error)) told returned did memory =
+      subst (λ t. AnswersEarly old new d writes (as_early t)) (sym returned) did
+  early-says fits (Err stream.WriteZero) told returned did memory =
+      subst (λ t. AnswersEarly old new d writes (as_early t)) (sym returned) did
+  early-says fits (Err stream.Memory) told returned did memory =
+      subst (λ t. AnswersEarly old new d writes (as_early t)) (sym returned)
+      (let same = memory refl in (fits, Σ_path same.0 same.1))
+  early-says fits (Err stream.Position) told returned did memory =
+      subst (λ t. AnswersEarly old new d writes (as_early t)) (sym returned) did
 
-    -- the run returns the result of the stream
-    pub early-says : (searched : Result (Unit {0}) StreamError) (told : Result (Unit {0}) RunError)
-        → IsReturnedAs searched told → writes searched
-        → IfStreamMemory searched (NoneTouched old.0 new.0 old.1 new.1)
-        → ((e : RunError) → told ≡ Err e → AnswersEarly old new d writes (Err (early.Run e)))
-        × (told ≡ Ok tt → AnswersEarly old new d writes (Ok tt))
-    early-says (Ok done) told returned did memory = (λ e same. cc, λ _. did)
-    early-says (Err (stream.Config error)) told returned did memory = absurd returned
-    early-says (Err (stream.Read error)) told returned did memory = (
-      λ e same. let which : errors.Read error ≡ e = cc in
-          subst (λ f. AnswersEarly old new d writes (Err (early.Run f))) which did,
-      λ same. cc,
-    )
-    early-says (Err (stream.Write error)) told returned did memory = (
-      λ e same. let which : errors.Write error ≡ e = cc in
-          subst (λ f. AnswersEarly old new d writes (Err (early.Run f))) which did,
-      λ same. cc,
-    )
-    early-says (Err stream.WriteZero) told returned did memory = (
-      λ e same. let which : errors.WriteZero ≡ e = cc in
-          subst (λ f. AnswersEarly old new d writes (Err (early.Run f))) which did,
-      λ same. cc,
-    )
-    early-says (Err stream.Memory) told returned did memory = (
-      λ e same. let which : errors.Memory ≡ e = cc in
-          let same_devices = memory refl in
-          subst (λ f. AnswersEarly old new d writes (Err (early.Run f))) which
-          (fits, Σ_path same_devices.0 same_devices.1),
-      λ same. cc,
-    )
-    early-says (Err stream.Position) told returned did memory = (
-      λ e same. let which : errors.Position ≡ e = cc in
-          subst (λ f. AnswersEarly old new d writes (Err (early.Run f))) which did,
-      λ same. cc,
-    )
+-- an `Ok` of the one is one of the other
+pub early-ok : (told : Result (Unit {0}) RunError) → as_early told ≡ Ok tt → told ≡ Ok tt
+early-ok (Ok done) is = refl
+early-ok (Err e) is = cc
 
 -- ---- what it costs
 

@@ -29,7 +29,7 @@ use Rattle.ac_automaton.specs.declared.stream.devices.watched.Watched.{Watched}
 use Rattle.aho_corasick.specs.AhoCorasick.{as_built, supported_by}
 use Rattle.aho_corasick.specs.declared.ahocorasick.AhoCorasick.{AhoCorasick}
 use Rattle.acsub.specs.Finder.{IsServing}
-use Rattle.acsub.specs.Masked.{AnswersMask, CostsMaskRun, CostsMasking, IsMaskable, LeavesNone, MasksBy, MasksInput, for_every, mask_of}
+use Rattle.acsub.specs.Masked.{AnswersMask, CostsMaskRun, CostsMasking, IsMaskOf, IsMaskable, LeavesNone, MasksBy, MasksInput, for_every, mask_of}
 use Rattle.acsub.specs.Plan.{plan_of}
 use Rattle.acsub.specs.Rules.Sides.{rule_patterns}
 use Rattle.acsub.specs.Served.{IsBuildable, dictionary_for}
@@ -38,6 +38,8 @@ use Rattle.acsub.specs.declared.args.settings.Engine.TheVariants.{Packed}
 use Rattle.acsub.specs.declared.args.settings.SettingError.TheVariants.{PackedStandard}
 use Rattle.acsub.specs.declared.args.settings.Settings.{Settings}
 use Rattle.acsub.specs.declared.early.EarlyError.{EarlyError}
+use Rattle.acsub.specs.declared.mask.Mask.{Mask}
+use Rattle.acsub.specs.declared.mask.PreparedMask.{PreparedMask}
 use Rattle.acsub.specs.declared.prepared.Finder.TheVariants as finders
 use Rattle.acsub.proofs.early.EarlyLemmas.{early-some}
 use Rattle.acsub.proofs.prepared.FinderLemmas.{overlap-standard}
@@ -65,6 +67,24 @@ module _ (settings : Settings) (rules : List Rule) (byte : ℕ) (maskable : IsMa
     ap (λ m. m.kind) serves.built.dictionary ∙ mask-standard,
     subst (λ m. 1 ≤ shortest m.patterns) (sym serves.built.dictionary) (filled-shortest rules maskable.filled),
   )
+
+-- ---- what is prepared
+
+module _ (settings : Settings) (rules : List Rule) (mask : Mask) (prepared : PreparedMask)
+    (is : IsMaskOf settings rules mask prepared) (P : Settings → List Rule → Mask → Type 0) where
+  -- what holds for what is asked for holds for what it holds
+  pub mask-held : P settings rules mask → P prepared.settings prepared.rules.now prepared.mask
+  mask-held p =
+      subst (λ k. P prepared.settings prepared.rules.now k) (sym is.same.2)
+      (subst (λ rs. P prepared.settings rs mask) (sym is.same.1)
+      (subst (λ s. P s rules mask) (sym is.same.0) p))
+
+  -- and the other way round
+  pub mask-asked : P prepared.settings prepared.rules.now prepared.mask → P settings rules mask
+  mask-asked p =
+      subst (λ k. P settings rules k) is.same.2
+      (subst (λ rs. P settings rs prepared.mask) is.same.1
+      (subst (λ s. P s prepared.rules.now prepared.mask) is.same.0 p))
 
 -- the patterns for which there is an automaton pass no limit
 pub mask-within : (settings : Settings) (rules : List Rule) (ac : AhoCorasick) → IsServing settings rules ac

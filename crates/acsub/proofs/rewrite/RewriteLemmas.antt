@@ -1,12 +1,14 @@
 -- How the text of an input grows by one match, or by one occurrence.
-use Rattle.std.proofs.Common.{◌≡◌, ℕ, ◌<◌, List, [], ◌∷◌, ◌++◌, length, get_or, sym, ap, ◌∙◌, append_assoc}
-use Rattle.std.specs.Prelude.{slice_range}
+use Rattle.std.proofs.Common.{◌≡◌, ℕ, ◌<◌, List, [], ◌∷◌, ◌++◌, length, get_or, Result, Ok, Err, sym, ap, ◌∙◌, append_assoc}
+use Rattle.std.specs.Prelude.{OnOk, slice_range}
 use Rattle.std.proofs.lemmas.List.{append-nil, get_or-map}
 use Rattle.ac_input.specs.Occurrence.{Occurrence}
 use Rattle.ac_input.specs.Rules.{Rule}
 use Rattle.ac_input.specs.Text.{replaced_from, line, listed}
 use Rattle.acsub.specs.Rules.Lines.{rule_at}
 use Rattle.acsub.specs.Rules.Sides.{replacements_of}
+use Rattle.acsub.specs.Tally.{grown}
+use Rattle.acsub.proofs.stream.CountedLemmas.{grown-none, grown-then}
 
 -- the replacement of rule n is the n-th of the replacements
 pub replacement_of_rule : (rules : List Rule) (n : ℕ) → n < length rules
@@ -36,3 +38,23 @@ listed-step o os rest front text is e =
 -- no further line
 pub listed-end : (os : List Occurrence) (front text : List ℕ) → os ≡ [] → front ++ listed os ≡ text → front ≡ text
 listed-end os front text is e = sym (append-nil front) ∙ ap (λ t. front ++ listed t) (sym is) ∙ e
+
+-- ---- how the number of matches grows
+
+-- by one match
+pub counted-step : (n m all : ℕ) (o : Occurrence) (os rest : List Occurrence) → os ≡ o ∷ rest → m ≡ grown n 1
+    → grown n (length os) ≡ all → grown m (length rest) ≡ all
+counted-step n m all o os rest is one e =
+    ap (λ k. grown k (length rest)) one
+    ∙ grown-then n (length rest)
+    ∙ ap (λ xs. grown n (length xs)) (sym is)
+    ∙ e
+
+-- by no further one
+pub counted-end : (n all : ℕ) (os : List Occurrence) → os ≡ [] → grown n (length os) ≡ all → n ≡ all
+counted-end n all os is e = sym (grown-none n) ∙ ap (λ xs. grown n (length xs)) (sym is) ∙ e
+
+-- what holds anyway holds on `Ok`
+pub on-ok : {T E : Type 0} (P : Type 0) (result : Result T E) → P → OnOk result P
+on-ok P (Ok done) p = p
+on-ok P (Err error) p = tt

@@ -1,6 +1,6 @@
 -- What a list over a stream has read, written and cost, and that it is the text of a plan.
 use Rattle.std.proofs.Common.{◌≡◌, inl, inr, ℕ, ◌≤◌, List, [], ◌∷◌, ◌++◌, length, Option, Result, Ok, Err, refl, sym, ap, ◌∙◌, subst, arith}
-use Rattle.std.specs.Prelude.{IfErr}
+use Rattle.std.specs.Prelude.{IfErr, OnOk}
 use Rattle.ac_input.specs.declared.search.Anchored.{Anchored}
 use Rattle.ac_input.specs.declared.search.MatchKind.{MatchKind}
 use Rattle.ac_input.specs.declared.search.MatchKind.TheVariants.{Standard}
@@ -12,7 +12,7 @@ use Rattle.ac_automaton.specs.Automaton.{Built}
 use Rattle.ac_automaton.specs.Stream.Devices.Moved.{NoneTouched}
 use Rattle.ac_automaton.specs.Stream.{AllWords, CanStream, Decides, DecidesMatches, Occurrences, Picks, Sequence, Words, items_of, room_of}
 use Rattle.ac_automaton.specs.Stream.Overlapping.{IsListingConfigRefusal, IsListingRefusal}
-use Rattle.ac_automaton.specs.Stream.Pump.{HasComeToCut, IsUntouched, PumpsAt, PumpsMatches, PumpsOccurrences}
+use Rattle.ac_automaton.specs.Stream.Pump.{Handling, HasComeToCut, IsUntouched, PumpsAt, PumpsMatches, PumpsOccurrences}
 use Rattle.ac_automaton.specs.Stream.Replace.{CostsItems, IsBegun}
 use Rattle.ac_automaton.specs.Stream.Texts.{sending, text_between}
 use Rattle.ac_automaton.specs.Stream.WholeWords.{PumpsAllWords, PumpsWords, asked_for}
@@ -29,18 +29,21 @@ use Rattle.acsub.specs.Plan.{Plan}
 use Rattle.acsub.specs.Served.{dictionary_for}
 use Rattle.acsub.specs.Stream.{IfStreamMemory, IsNoRefusal, WritesPlan}
 use Rattle.acsub.specs.Stream.StreamList.{ListsStream, lines-piecewise, lines_of, listing_lines}
+use Rattle.acsub.specs.Tally.{Counts, tallying}
+use Rattle.acsub.specs.declared.tally.Tally.{Tally}
 use Rattle.acsub.specs.Run.Transformed.{IsDecidedList, IsOutputFront, IsStreamed, output_of, room_in}
 use Rattle.acsub.specs.Args.Settings.{IsAccepted}
 use Rattle.acsub.specs.declared.args.settings.Mode.{Mode}
 use Rattle.acsub.specs.declared.args.settings.Mode.TheVariants as modes
 use Rattle.acsub.proofs.prepared.FinderLemmas.{overlap-standard}
 use Rattle.acsub.proofs.run.RunLemmas.{HasMoved-nothing, nothing_moved}
+use Rattle.acsub.proofs.stream.CountedLemmas.{plain, whole-counted}
 use Rattle.acsub.proofs.stream.StreamedLemmas.{cost-nothing, filled-shortest, output-in, refused-memory, room-in, writes-plan}
 
 -- ---- errors that come after the first read
 
 -- such an error is no refusal of the search
-begun-accepted : (result : Result (Unit {0}) StreamError) → IfErr result IsBegun → IfErr result IsNoRefusal
+pub begun-accepted : (result : Result (Unit {0}) StreamError) → IfErr result IsBegun → IfErr result IsNoRefusal
 begun-accepted (Ok done) begun = tt
 begun-accepted (Err error) begun = λ refusal e. subst IsBegun e begun
 
@@ -69,7 +72,7 @@ can-list b supports refusal can (inl (inr other)) = other.1 can.1
 can-list b supports refusal can (inr empty) = let some = can.2 in let none = empty.2 in absurd (omega arith)
 
 -- a supported search that fails to begin is out of memory
-refused-every : (b : Built) (supports : Anchored → Type 0) (error : StreamError) → CanStream OnlyStandard b supports
+pub refused-every : (b : Built) (supports : Anchored → Type 0) (error : StreamError) → CanStream OnlyStandard b supports
     → IsListingRefusal b supports error → error ≡ reads.Memory
 refused-every b supports (reads.Config refusal) can refused = absurd (can-list b supports refusal can refused)
 refused-every b supports (reads.Read error) can refused = absurd refused
@@ -80,13 +83,14 @@ refused-every b supports reads.Position can refused = absurd refused
 
 -- ---- what was pumped into the lines
 
--- What a list over a stream read, wrote and cost. No error is a refusal of the search, and where memory ran out, no
+-- What a list over a stream read, wrote, cost and counted. No error is a refusal of the search, and where memory ran out, no
 -- device was touched.
 pub record HasListed {R W : Type 0} (q : Sequence) (remaining : R → Option (List ℕ)) (contents : W → Option (List ℕ))
-    (b : Built) (old new : Watched R × Watched W) (before after : Steps)
+    (b : Built) (old new : Watched R × Watched W) (before after : Steps) (tallied counting : Tally)
     (result : Result (Unit {0}) StreamError) : Type 0 where
   pub lists : ListsStream q remaining contents b old new result
   pub costs : CostsItems q b old.0 new.0 before after result
+  pub counts : OnOk result (Counts (items_of q b.dictionary) old.0 new.0 tallied counting)
   pub memory : IfStreamMemory result (NoneTouched old.0 new.0 old.1 new.1)
   pub accepted : IfErr result IsNoRefusal
 
@@ -96,35 +100,48 @@ lines-between : (q : Sequence) (x : List ℕ) (at : ℕ) (os : List Occurrence) 
 lines-between q x at [] to = refl
 lines-between q x at (o ∷ os) to = ap (λ t. line o ++ t) (lines-between q x o.end os to)
 
-module _ {K W : Type 0} (contents : W → Option (List ℕ)) (output : K → List ℕ) (accepts : ℕ → K → Type 0)
-    (z : K × Watched W) (empty : output z.0 ≡ []) {R : Type 0} (remaining : R → Option (List ℕ)) (b : Built)
-    (supports : Anchored → Type 0) (r0 r1 : Watched R) (last : K × Watched W) (before after : Steps) where
+module _ {K W : Type 0} (contents : W → Option (List ℕ)) (output : K → List ℕ) (tally : K → Tally)
+    (accepts : ℕ → K → Type 0) (z : K × Watched W) (empty : output z.0 ≡ []) {R : Type 0}
+    (remaining : R → Option (List ℕ)) (b : Built) (supports : Anchored → Type 0) (r0 r1 : Watched R)
+    (last : K × Watched W) (before after : Steps) where
+  -- what lists, without counting
+  abbrev lining : Handling (K × Watched W)
+  lining = sending contents output (λ k. listing_lines) accepts
+
+  -- and counting
+  abbrev counting_lines : Handling (K × Watched W)
+  counting_lines = tallying (λ y. (tally y.0).found) lining
+
   -- memory ran out before anything happened
   unlisted : (q : Sequence) (error : StreamError) → error ≡ reads.Memory
-      → IsUntouched (sending contents output (λ k. listing_lines) accepts) r0 r1 z last before after
-      → HasListed q remaining contents b (r0, z.1) (r1, last.1) before after (Err error)
+      → IsUntouched counting_lines r0 r1 z last before after
+      → HasListed q remaining contents b (r0, z.1) (r1, last.1) before after (tally z.0) (tally last.0) (Err error)
   unlisted q error is same =
-      subst (λ e. HasListed q remaining contents b (r0, z.1) (r1, last.1) before after (Err e)) (sym is)
-      (subst (λ r. HasListed q remaining contents b (r0, z.1) (r, last.1) before after (Err reads.Memory)) (sym same.0)
-      (subst
-      (λ (y : K × Watched W). HasListed q remaining contents b (r0, z.1) (r0, y.1) before after (Err reads.Memory))
-      (sym same.1)
-      (subst (λ s. HasListed q remaining contents b (r0, z.1) (r0, z.1) before s (Err reads.Memory)) (sym same.2)
+      subst (λ e. HasListed q remaining contents b (r0, z.1) (r1, last.1) before after (tally z.0) (tally last.0) (Err e))
+      (sym is)
+      (subst (λ r. HasListed q remaining contents b (r0, z.1) (r, last.1) before after (tally z.0) (tally last.0)
+      (Err reads.Memory)) (sym same.0)
+      (subst (λ (y : K × Watched W). HasListed q remaining contents b (r0, z.1) (r0, y.1) before after (tally z.0)
+      (tally y.0) (Err reads.Memory)) (sym same.1)
+      (subst (λ s. HasListed q remaining contents b (r0, z.1) (r0, z.1) before s (tally z.0) (tally z.0)
+      (Err reads.Memory)) (sym same.2)
       (record {
         lists = lists-nothing q remaining contents b (r0, z.1);
         costs = cost-nothing q b r0 before reads.Memory;
+        counts = tt;
         memory = λ e. (refl, refl);
         accepted = λ refusal e. let apart : reads.Memory ≡ reads.Config refusal = e in cc;
       }))))
 
   -- the stream was pumped
   listed-stream : (q : Sequence) (result : Result (Unit {0}) StreamError)
-      → PumpsAt (sending contents output (λ k. listing_lines) accepts) q remaining b r0 r1 z last before after result
-      → HasListed q remaining contents b (r0, z.1) (r1, last.1) before after result
-  listed-stream q result pumps =
+      → PumpsAt counting_lines q remaining b r0 r1 z last before after result
+      → HasListed q remaining contents b (r0, z.1) (r1, last.1) before after (tally z.0) (tally last.0) result
+  listed-stream q result counting =
+      let pumps = plain (λ y. (tally y.0).found) lining q b remaining r0 r1 z last before after result counting in
       let whole = λ (x : List ℕ). lines-between q x 0 (items_of q b.dictionary x) (length x) in
       let front = λ (x : List ℕ) (cut : ℕ) (done : List Occurrence) (to : K × Watched W)
-      (came : HasComeToCut (sending contents output (λ k. listing_lines) accepts) q b x cut done z to).
+      (came : HasComeToCut lining q b x cut done z to).
       let decided : IsDecidedList (Decides q b.dictionary x) (text_between listing_lines q x 0 done cut) =
       (done, came.decides, lines-between q x 0 done cut) in
       decided in
@@ -136,14 +153,15 @@ module _ {K W : Type 0} (contents : W → Option (List ℕ)) (output : K → Lis
             (lines_of q b.dictionary) (λ x text. IsDecidedList (Decides q b.dictionary x) text) whole front last result
             pumps.0;
         costs = pumps.1;
+        counts = whole-counted (λ y. tally y.0) lining remaining b supports r0 r1 z last before after q result counting;
         memory = never-memory _ result begun;
         accepted = begun-accepted result begun;
       }
 
   -- the matches were pumped, of a stream that can be searched
   pub matches-listed : CanStream AnyKind b supports → (result : Result (Unit {0}) StreamError)
-      → PumpsMatches (sending contents output (λ k. listing_lines) accepts) remaining AnyKind b supports r0 r1 z last
-      before after result → HasListed Picks remaining contents b (r0, z.1) (r1, last.1) before after result
+      → PumpsMatches counting_lines remaining AnyKind b supports r0 r1 z last before after result
+      → HasListed Picks remaining contents b (r0, z.1) (r1, last.1) before after (tally z.0) (tally last.0) result
   matches-listed can (Ok done) pumps = listed-stream Picks (Ok done) pumps.1
   matches-listed can (Err error) (inl none) =
       unlisted Picks error (refused-memory b supports can error none.0) none.1
@@ -151,8 +169,8 @@ module _ {K W : Type 0} (contents : W → Option (List ℕ)) (output : K → Lis
 
   -- every occurrence was pumped, of a stream that can be searched for them
   pub occurrences-listed : CanStream OnlyStandard b supports → (result : Result (Unit {0}) StreamError)
-      → PumpsOccurrences (sending contents output (λ k. listing_lines) accepts) remaining b supports r0 r1 z last before
-      after result → HasListed Occurrences remaining contents b (r0, z.1) (r1, last.1) before after result
+      → PumpsOccurrences counting_lines remaining b supports r0 r1 z last before after result
+      → HasListed Occurrences remaining contents b (r0, z.1) (r1, last.1) before after (tally z.0) (tally last.0) result
   occurrences-listed can (Ok done) pumps = listed-stream Occurrences (Ok done) pumps.1
   occurrences-listed can (Err error) (inl none) =
       unlisted Occurrences error (refused-every b supports error can none.0) none.1
@@ -160,30 +178,32 @@ module _ {K W : Type 0} (contents : W → Option (List ℕ)) (output : K → Lis
 
   -- every whole word was pumped
   pub all_words-listed : CanStream OnlyStandard b supports → (result : Result (Unit {0}) StreamError)
-      → PumpsAllWords (sending contents output (λ k. listing_lines) accepts) remaining b supports r0 r1 z last before
-      after result → HasListed AllWords remaining contents b (r0, z.1) (r1, last.1) before after result
+      → PumpsAllWords counting_lines remaining b supports r0 r1 z last before after result
+      → HasListed AllWords remaining contents b (r0, z.1) (r1, last.1) before after (tally z.0) (tally last.0) result
   all_words-listed can (Ok done) pumps = listed-stream AllWords (Ok done) pumps.1
   all_words-listed can (Err error) (inl none) =
       unlisted AllWords error (refused-every b supports error can none.0) none.1
   all_words-listed can (Err error) (inr pumps) = listed-stream AllWords (Err error) pumps.1
 
-module _ {K W : Type 0} (contents : W → Option (List ℕ)) (output : K → List ℕ) (accepts : ℕ → K → Type 0)
-    (z : K × Watched W) (empty : output z.0 ≡ []) {R : Type 0} (remaining : R → Option (List ℕ)) (kind : MatchKind)
-    (b : Built) (supports : Anchored → Type 0) (r0 r1 : Watched R) (last : K × Watched W) (before after : Steps) where
+module _ {K W : Type 0} (contents : W → Option (List ℕ)) (output : K → List ℕ) (tally : K → Tally)
+    (accepts : ℕ → K → Type 0) (z : K × Watched W) (empty : output z.0 ≡ []) {R : Type 0}
+    (remaining : R → Option (List ℕ)) (kind : MatchKind) (b : Built) (supports : Anchored → Type 0) (r0 r1 : Watched R)
+    (last : K × Watched W) (before after : Steps) where
   -- the words under a kind were pumped
   pub words-listed : CanStream OnlyStandard b supports → (result : Result (Unit {0}) StreamError)
-      → PumpsWords (sending contents output (λ k. listing_lines) accepts) remaining kind b supports r0 r1 z last before
-      after result
-      → HasListed Words remaining contents (asked_for kind b) (r0, z.1) (r1, last.1) before after result
+      → PumpsWords (tallying (λ y. (tally y.0).found) (sending contents output (λ k. listing_lines) accepts)) remaining
+      kind b supports r0 r1 z last before after result
+      → HasListed Words remaining contents (asked_for kind b) (r0, z.1) (r1, last.1) before after (tally z.0)
+      (tally last.0) result
   words-listed can (Ok done) pumps =
-      listed-stream contents output accepts z empty remaining (asked_for kind b) supports r0 r1 last before after Words
-      (Ok done) pumps.1
+      listed-stream contents output tally accepts z empty remaining (asked_for kind b) supports r0 r1 last before after
+      Words (Ok done) pumps.1
   words-listed can (Err error) (inl none) =
-      unlisted contents output accepts z empty remaining (asked_for kind b) supports r0 r1 last before after Words error
-      (refused-every b supports error can none.0) none.1
+      unlisted contents output tally accepts z empty remaining (asked_for kind b) supports r0 r1 last before after Words
+      error (refused-every b supports error can none.0) none.1
   words-listed can (Err error) (inr pumps) =
-      listed-stream contents output accepts z empty remaining (asked_for kind b) supports r0 r1 last before after Words
-      (Err error) pumps.1
+      listed-stream contents output tally accepts z empty remaining (asked_for kind b) supports r0 r1 last before after
+      Words (Err error) pumps.1
 
 -- ---- what settings and rules say
 

@@ -316,7 +316,7 @@ streamed_answer remaining contents plan r r' w w' searched result accepted withi
     )
 
 -- what an `Ok` of the search means, an `Ok` of the run means
-returned-ok : (P : Type 0) (searched : Result (Unit {0}) StreamError) (result : Result (Unit {0}) RunError)
+pub returned-ok : (P : Type 0) (searched : Result (Unit {0}) StreamError) (result : Result (Unit {0}) RunError)
     → IsReturnedAs searched result → OnOk searched P → OnOk result P
 returned-ok P (Ok done) result is p = subst (λ r. OnOk r P) (sym is) p
 returned-ok P (Err (stream.Config error)) result is p = absurd is

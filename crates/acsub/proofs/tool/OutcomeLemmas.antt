@@ -1,16 +1,21 @@
 -- What the outcome of the program says of the run, the help and the flush.
-use Rattle.std.proofs.Common.{◌≡◌, ◌⊎◌, inl, inr, ℕ, Bool, true, false, List, Option, Some, None, Result, Ok, Err, refl, sym, ap, ◌∙◌, subst}
-use Rattle.std.specs.Prelude.{IfErr, String, Vec}
+use Rattle.std.proofs.Common.{◌≡◌, ◌≢◌, ◌⊎◌, inl, inr, ℕ, Bool, true, false, List, Option, Some, None, Result, Ok, Err, refl, sym, ap, ◌∙◌, subst}
+use Rattle.std.proofs.Math.Nat.{suc-ne-zero}
+use Rattle.std.specs.Prelude.{IfErr, IfOk, String, Vec}
 use Rattle.std.specs.declared.alloc.Global.{Global}
 use Rattle.std.specs.declared.io.Error.{Error}
 use Rattle.std.specs.declared.vec.IntoIter.{IntoIter}
-use Rattle.ac_input.specs.declared.pairing.PairingError.{PairingError}
+use Rattle.std.specs.Vec.Iter.{into_iter_items}
 use Rattle.ac_automaton.specs.Stream.Devices.Watched.{IsOfWrite, WritesWhole}
 use Rattle.ac_automaton.specs.declared.error.StreamError.{StreamError}
 use Rattle.ac_automaton.specs.declared.stream.devices.watched.Watched.{Watched}
-use Rattle.acsub.specs.Outcome.{AnswersFile, AnswersHelp, Collects, EndsProgram, EndsTool, Finishes, Flushes, RanAsBy, RanFile, ReadsFile, WritesText}
+use Rattle.acsub.specs.Outcome.{AnswersFile, AnswersHelp, Collects, EndsProgram, EndsTool, Finishes, Flushes, RanFile, ReadsRuleText, WritesText, told_as, SpeaksOf}
 use Rattle.acsub.specs.Stream.{IsNoRefusal}
 use Rattle.acsub.specs.Tool.{status_of}
+use Rattle.acsub.specs.declared.early.EarlyError.{EarlyError}
+use Rattle.acsub.specs.declared.early.EarlyError.TheVariants as early
+use Rattle.acsub.specs.declared.early.Refusal.{Refusal}
+use Rattle.acsub.specs.declared.early.Refusal.TheVariants as refusals
 use Rattle.acsub.specs.declared.error.RunError.{RunError}
 use Rattle.acsub.specs.declared.error.RunError.TheVariants as errors
 use Rattle.acsub.specs.declared.args.Words.{Words}
@@ -44,32 +49,12 @@ module _ {W : Type 0} (contents : W → Option (List ℕ)) (before between after
   help-failed e writes (Err fault) (told, inr flush) =
       subst (λ f. AnswersHelp contents before after (Err f)) (sym told) (inr (inl (text, between, writes, flush)))
 
--- no run returns a fault of the words, of the rule file or of the flush
-module _ {R W : Type 0} (remaining : R → Option (List ℕ)) (contents : W → Option (List ℕ)) (asked : Words)
-    (old new : Watched R × Watched W) (file : List ℕ) where
-  never-words : (mask : Option ℕ) (word : Bool)
-      → ¬ RanAsBy remaining contents mask word asked old new file (Err faults.Words)
-  never-words None false ran = ran
-  never-words None true ran = ran
-  never-words (Some mask) word ran = ran
-
-  never-pairs : (mask : Option ℕ) (word : Bool) (e : PairingError)
-      → ¬ RanAsBy remaining contents mask word asked old new file (Err (faults.Pairs e))
-  never-pairs None false e ran = ran
-  never-pairs None true e ran = ran
-  never-pairs (Some mask) word e ran = ran
-
-  never-file : (mask : Option ℕ) (word : Bool)
-      → ¬ RanAsBy remaining contents mask word asked old new file (Err faults.RuleFile)
-  never-file None false ran = ran
-  never-file None true ran = ran
-  never-file (Some mask) word ran = ran
-
-  never-flush : (mask : Option ℕ) (word : Bool)
-      → ¬ RanAsBy remaining contents mask word asked old new file (Err faults.Flush)
-  never-flush None false ran = ran
-  never-flush None true ran = ran
-  never-flush (Some mask) word ran = ran
+-- a run returns no fault of the words, of the rule file or of the flush
+told-some : (fault : Fault) (result : Result (Unit {0}) EarlyError) → Err fault ≡ told_as result
+    → ((refusal : Refusal) × (fault ≡ faults.Refused refusal)) ⊎ ((e : RunError) × (fault ≡ faults.Run e))
+told-some fault (Ok done) is = cc
+told-some fault (Err (early.Refused refusal)) is = inl (refusal, cc)
+told-some fault (Err (early.Run e)) is = inr (e, cc)
 
 module _ {F R W : Type 0} (held : F → Option (List ℕ)) (remaining : R → Option (List ℕ))
     (contents : W → Option (List ℕ)) (asked : Words) where
@@ -77,19 +62,26 @@ module _ {F R W : Type 0} (held : F → Option (List ℕ)) (remaining : R → Op
   run-stopped : (old : Watched R × Watched W) (r' : Watched R) (between after : Watched W) (stopped : Fault)
       → RanFile held remaining contents asked old (r', between) (Err stopped)
       → Flushes contents between after 0 ⊎ Flushes contents between after 1
+      → ((refusal : Refusal) × (stopped ≡ faults.Refused refusal)) ⊎ ((e : RunError) × (stopped ≡ faults.Run e))
       → AnswersFile held remaining contents old (r', after) asked (Err stopped)
-  run-stopped old r' between after faults.Words ran flush =
-      absurd (never-words remaining contents asked old (r', between) ran.file asked.mask asked.word ran.ran)
-  run-stopped old r' between after (faults.Pairs e) ran flush =
-      absurd (never-pairs remaining contents asked old (r', between) ran.file asked.mask asked.word e ran.ran)
-  run-stopped old r' between after faults.RuleFile ran flush =
-      absurd (never-file remaining contents asked old (r', between) ran.file asked.mask asked.word ran.ran)
-  run-stopped old r' between after faults.Flush ran flush =
-      absurd (never-flush remaining contents asked old (r', between) ran.file asked.mask asked.word ran.ran)
-  run-stopped old r' between after (faults.Refused refusal) ran (inl flush) = inl (between, ran, flush)
-  run-stopped old r' between after (faults.Refused refusal) ran (inr flush) = inr (between, ran, flush)
-  run-stopped old r' between after (faults.Run e) ran (inl flush) = inl (between, ran, flush)
-  run-stopped old r' between after (faults.Run e) ran (inr flush) = inr (inl (between, ran, flush))
+  run-stopped old r' between after stopped ran flush (inl (refusal, is)) =
+      subst (λ f. AnswersFile held remaining contents old (r', after) asked (Err f)) (sym is)
+      (go flush (subst (λ f. RanFile held remaining contents asked old (r', between) (Err f)) is ran))
+    where
+      go : Flushes contents between after 0 ⊎ Flushes contents between after 1
+          → RanFile held remaining contents asked old (r', between) (Err (faults.Refused refusal))
+          → AnswersFile held remaining contents old (r', after) asked (Err (faults.Refused refusal))
+      go (inl flush) ran = inl (between, ran, flush)
+      go (inr flush) ran = inr (between, ran, flush)
+  run-stopped old r' between after stopped ran flush (inr (e, is)) =
+      subst (λ f. AnswersFile held remaining contents old (r', after) asked (Err f)) (sym is)
+      (go flush (subst (λ f. RanFile held remaining contents asked old (r', between) (Err f)) is ran))
+    where
+      go : Flushes contents between after 0 ⊎ Flushes contents between after 1
+          → RanFile held remaining contents asked old (r', between) (Err (faults.Run e))
+          → AnswersFile held remaining contents old (r', after) asked (Err (faults.Run e))
+      go (inl flush) ran = inl (between, ran, flush)
+      go (inr flush) ran = inr (inl (between, ran, flush))
 
   -- the outcome after a run and a flush
   pub run-finished : (old : Watched R × Watched W) (r' : Watched R) (between after : Watched W)
@@ -104,10 +96,10 @@ module _ {F R W : Type 0} (held : F → Option (List ℕ)) (remaining : R → Op
   run-finished old r' between after (Err stopped) (Ok none) ran flush = absurd flush
   run-finished old r' between after (Err stopped) (Err fault) ran flush =
       subst (λ f. AnswersFile held remaining contents old (r', after) asked (Err f)) (sym flush.0)
-      (run-stopped old r' between after stopped ran flush.1)
+      (run-stopped old r' between after stopped ran flush.1 (told-some stopped ran.result ran.told))
 
-  -- if the rule file can't be read, that is the fault, and no device is touched
-  pub file-unread : (old : Watched R × Watched W) (fault : Fault) → ReadsFile {F = F} {Z = Global} held (Err fault)
+  -- if the rules can't be read, that is the fault, and no device is touched
+  pub file-unread : (old : Watched R × Watched W) (fault : Fault) → ReadsRuleText {F = F} {Z = Global} held asked (Err fault)
       → AnswersFile held remaining contents old old asked (Err fault)
   file-unread old fault (inl is) =
       subst (λ f. AnswersFile held remaining contents old old asked (Err f)) (sym is) refl
@@ -132,5 +124,32 @@ module _ {F R W Z A : Type 0} (held : F → Option (List ℕ)) (remaining : R �
       (old : Watched R × Watched W) (status : ℕ) → Collects {Y = Global} words (Err fault)
       → status ≡ status_of fault → EndsProgram held remaining contents old old words status
   ends-uncollected (Ok words) fault old status memory told =
-      (Err (faults.Run errors.Memory), told ∙ ap status_of memory, (Err Memory, tt, (refl, refl)))
+      (Err Memory, tt, (Err (faults.Run errors.Memory), told ∙ ap status_of memory, refl, (refl, refl)))
   ends-uncollected (Err error) fault old status why told = (fault, told, why, refl)
+
+-- ---- what is said at status 0
+
+-- the status of a fault is not 0
+pub told-nonzero : (fault : Fault) → status_of fault ≢ 0
+told-nonzero faults.Words same = suc-ne-zero 1 same
+told-nonzero (faults.Pairs e) same = suc-ne-zero 1 same
+told-nonzero faults.RuleFile same = suc-ne-zero 2 same
+told-nonzero (faults.Refused refusals.EmptyMasked) same = suc-ne-zero 3 same
+told-nonzero (faults.Refused (refusals.Occurs byte)) same = suc-ne-zero 3 same
+told-nonzero (faults.Refused refusals.PackedWord) same = suc-ne-zero 1 same
+told-nonzero (faults.Refused refusals.EmptyWord) same = suc-ne-zero 3 same
+told-nonzero (faults.Run (errors.Rule e)) same = suc-ne-zero 2 same
+told-nonzero (faults.Run (errors.Setting e)) same = suc-ne-zero 1 same
+told-nonzero (faults.Run (errors.Build e)) same = suc-ne-zero 3 same
+told-nonzero (faults.Run (errors.Read e)) same = suc-ne-zero 4 same
+told-nonzero (faults.Run (errors.Write e)) same = suc-ne-zero 5 same
+told-nonzero (faults.Run errors.WriteZero) same = suc-ne-zero 5 same
+told-nonzero (faults.Run errors.Memory) same = suc-ne-zero 6 same
+told-nonzero (faults.Run errors.Position) same = suc-ne-zero 7 same
+told-nonzero faults.Flush same = suc-ne-zero 5 same
+
+-- what the collected words ask for, those that were given ask for
+pub speaks-collected : {Z A : Type 0} (words : Result (IntoIter (String Z) A) Error) (all : Vec (String Z) Global)
+    → Collects words (Ok all) → SpeaksOf all.items → IfOk words (λ given. SpeaksOf (into_iter_items given))
+speaks-collected (Ok words) all same speaks = subst SpeaksOf same speaks
+speaks-collected (Err error) all none speaks = absurd none

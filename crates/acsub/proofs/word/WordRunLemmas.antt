@@ -25,11 +25,12 @@ use Rattle.acsub.specs.Rules.Sides.{replacements_of}
 use Rattle.acsub.specs.Run.Transformed.{IsDecidedList, text_among}
 use Rattle.acsub.specs.Served.{IsBuildable, dictionary_for}
 use Rattle.acsub.specs.Stream.StreamList.{ListsStream, lines_of}
-use Rattle.acsub.specs.WordRun.{CostsWordRun, IsSearchable, IsWordOutputFront, WritesWordText, for_words, looks_for_words, sequence_of, words_output_of}
+use Rattle.acsub.specs.WordRun.{AreJobWords, CostsWordRun, IsSearchable, IsWordOutputFront, WritesWordText, for_words, looks_for_words, sequence_of, words_output_of}
 use Rattle.acsub.specs.declared.args.settings.Mode.{Mode}
 use Rattle.acsub.specs.declared.args.settings.Mode.TheVariants as modes
 use Rattle.acsub.specs.declared.args.settings.Settings.{Settings}
 use Rattle.acsub.specs.declared.early.EarlyError.{EarlyError}
+use Rattle.acsub.specs.declared.word.PreparedWords.{PreparedWords}
 use Rattle.acsub.specs.declared.prepared.Finder.TheVariants as finders
 use Rattle.acsub.proofs.early.EarlyLemmas.{early-some}
 use Rattle.acsub.proofs.prepared.FinderLemmas.{overlap-standard}
@@ -62,6 +63,18 @@ module _ (settings : Settings) (rules : List Rule) (ac : AhoCorasick) (serves : 
   -- the patterns pass no limit
   pub words-within : IsBuildable (for_words settings) rules
   words-within = finder-buildable (for_words settings) rules (finders.Automaton ac) serves
+
+-- ---- what is prepared
+
+module _ (settings : Settings) (rules : List Rule) (prepared : PreparedWords) (is : AreJobWords settings rules prepared)
+    (P : Settings → List Rule → Type 0) where
+  -- what holds for what is asked for holds for what it holds
+  pub words-held : P settings rules → P prepared.settings prepared.rules.now
+  words-held p = subst (λ rs. P prepared.settings rs) (sym is.same.1) (subst (λ s. P s rules) (sym is.same.0) p)
+
+  -- and the other way round
+  pub words-wanted : P prepared.settings prepared.rules.now → P settings rules
+  words-wanted p = subst (λ rs. P settings rs) is.same.1 (subst (λ s. P s prepared.rules.now) is.same.0 p)
 
 -- ---- the text
 

@@ -3,7 +3,7 @@ use Rattle.std.specs.Prelude.{◌≡◌, ℕ, List, [], ◌∷◌, Some, true, c
 use Rattle.std.specs.Borrow.{Bor}
 use Rattle.clap.specs.Words.{App, Rule, Text, app_of, items_of, new_app, new_rule, with_rule}
 use Rattle.clap.specs.Walk.{texts}
-use Rattle.clap.specs.declared.builder.action.ArgAction.TheVariants.{Set, SetTrue}
+use Rattle.clap.specs.declared.builder.action.ArgAction.TheVariants.{Append, Set, SetTrue}
 use Rattle.clap.specs.declared.builder.arg.Arg.{Arg}
 use Rattle.clap.specs.declared.builder.command.Command.{Command}
 use Rattle.clap.specs.declared.builder.value_parser.ValueParser.TheVariants as parser
@@ -42,9 +42,13 @@ pub record HasNames (lists : Lists) : Type 0 where
   pub kinds : texts lists.kinds.now ≡ kind_names
   pub engines : texts lists.engines.now ≡ engine_names
 
--- a positional argument: the first or the second word that belongs to no option
+-- a positional argument: a word that belongs to no option
 abbrev pub placed : Text → Rule
-placed id = record (new_rule id) { action = Some Set; required = true; value_names = 1 }
+placed id = record (new_rule id) { action = Some Set; value_names = 1 }
+
+-- all words of that kind that are left
+abbrev pub file_rule : Rule
+file_rule = record (placed (codes "file")) { action = Some Append }
 
 -- `--id VALUE`
 abbrev pub option : Text → Rule
@@ -58,8 +62,16 @@ choice id names default = record (option id) { defaults = default ∷ []; parser
 abbrev pub flag : Text → Rule
 flag id = record (new_rule id) { long = Some id; action = Some SetTrue }
 
+-- `-c VALUE` or `--id VALUE`, any number of times
+abbrev pub repeated : Text → ℕ → Rule
+repeated id short = record (option id) { short = Some short; action = Some Append }
+
 abbrev pub mode_rule : Names → Rule
-mode_rule names = record (placed (codes "mode")) { parser = Some (parser.Names names) }
+mode_rule names = record (placed (codes "mode")) { parser = Some (parser.Names names); required = true }
+
+-- `-i` or `--in-place`
+abbrev pub in_place_rule : Rule
+in_place_rule = record (flag (codes "in-place")) { short = Some 105 }
 
 abbrev pub kind_rule : Names → Rule
 kind_rule names = choice (codes "kind") names (codes "standard")
@@ -73,6 +85,28 @@ greatest_depth = 2147483646
 
 abbrev pub depth_rule : Rule
 depth_rule = record (option (codes "dense-depth")) { parser = Some (parser.Unsigned 0 greatest_depth) }
+
+-- an application with the arguments that name the rules added, and the inputs after them
+abbrev pub with_rules : App → App
+with_rules a =
+    with_rule
+    (with_rule
+    (with_rule
+    (with_rule (with_rule (with_rule a (placed (codes "rules"))) file_rule) (repeated (codes "pattern") 101))
+    (repeated (codes "replacement") 114)) (flag (codes "text"))) (flag (codes "escapes"))
+
+-- an application with the options for whole files added, and for what is said of a run
+abbrev pub with_files : App → App
+with_files a =
+    with_rule
+    (with_rule
+    (with_rule (with_rule (with_rule a in_place_rule) (flag (codes "count"))) (flag (codes "fail-if-none")))
+    (flag (codes "check"))) (flag (codes "progress"))
+
+-- an application with the options that say what is written, and when, added
+abbrev pub with_writing : App → App
+with_writing a =
+    with_rule (with_rule (with_rule a (flag (codes "stream"))) (flag (codes "word"))) (option (codes "with"))
 
 -- an application with the options for matching added: `--kind`, `--fold` and `--pairs`
 abbrev pub with_matching : Names → App → App
@@ -93,14 +127,11 @@ abbrev pub command_with : Lists → App
 command_with lists =
     with_engine lists.engines
     (with_matching lists.kinds
-    (with_rule
-    (with_rule
-    (with_rule
-    (with_rule (with_rule (with_rule versioned (mode_rule lists.modes)) (placed (codes "rules"))) (flag (codes "text")))
-    (flag (codes "stream"))) (flag (codes "word"))) (option (codes "with"))))
+    (with_writing (with_files (with_rules (with_rule versioned (mode_rule lists.modes))))))
 
--- acsub MODE RULES [--text] [--stream] [--word] [--with HEX] [--kind K] [--fold] [--pairs HEX] [--engine E]
--- [--no-prefilter] [--dense-depth N] [--no-byte-classes]
+-- acsub MODE [RULES] [FILE..] [-e PATTERN].. [-r REPLACEMENT].. [--text] [--escapes] [-i] [--count] [--fail-if-none] [--check]
+-- [--progress] [--stream] [--word] [--with HEX] [--kind K] [--fold] [--pairs HEX] [--engine E] [--no-prefilter]
+-- [--dense-depth N] [--no-byte-classes]
 abbrev pub command : App
 command =
     command_with (record { modes = as_names mode_names; kinds = as_names kind_names; engines = as_names engine_names })
@@ -110,6 +141,16 @@ command =
 -- the program's command, with its names at some address
 abbrev pub IsCommand : Command → Type 0
 IsCommand made = (lists : Lists) × HasNames lists × (app_of made ≡ command_with lists)
+
+-- the second command is the first with these arguments added
+abbrev pub AddsRules : Command → Command → Type 0
+AddsRules before made = app_of made ≡ with_rules (app_of before)
+
+abbrev pub AddsFiles : Command → Command → Type 0
+AddsFiles before made = app_of made ≡ with_files (app_of before)
+
+abbrev pub AddsWriting : Command → Command → Type 0
+AddsWriting before made = app_of made ≡ with_writing (app_of before)
 
 -- the second command is the first with the options for matching added
 abbrev pub AddsMatching : Command → Command → Type 0

@@ -1,6 +1,5 @@
 -- What the words of a command line ask for.
 use Rattle.std.specs.Prelude.{◌++◌, ◌∷◌, ◌||◌, ◌<◌, length, ◌≡◌, ◌≢◌, ◌⊎◌, ℕ, Bool, true, false, not, if◌then◌else◌, List, [], Option, Some, None, Result, Ok, Err, codes, option_map, option_and_then, is_some}
-use Rattle.std.specs.Option.{option_map_or}
 use Rattle.std.specs.Str.{bytes_eq}
 use Rattle.std.specs.Str.Parse.{digits_value, without_leading_plus}
 use Rattle.hex.specs.declared.error.FromHexError.{FromHexError}
@@ -17,7 +16,12 @@ use Rattle.ac_input.specs.declared.pairing.PairingError.{PairingError}
 use Rattle.ac_input.specs.declared.pairing.PairingError.TheVariants.{Twice}
 use Rattle.ac_input.specs.declared.search.MatchKind.{MatchKind}
 use Rattle.ac_input.specs.declared.search.MatchKind.TheVariants.{Standard, LeftmostFirst, LeftmostLongest}
+use Rattle.clap.specs.Walk.{texts}
 use Rattle.acsub.specs.Args.Command.{command, greatest_depth}
+use Rattle.acsub.specs.Args.Misuse.{is_in_place, misuse_of}
+use Rattle.acsub.specs.Args.Values.{files_in, is_given, is_mode, given_patterns, replacements_in, values_in}
+use Rattle.acsub.specs.declared.args.Source.{Source}
+use Rattle.acsub.specs.declared.args.Source.TheVariants.{File, Input, Given}
 use Rattle.acsub.specs.declared.args.settings.Mode.{Mode}
 use Rattle.acsub.specs.declared.args.settings.Mode.TheVariants as mode
 use Rattle.acsub.specs.declared.args.settings.Engine.{Engine}
@@ -56,10 +60,6 @@ number_of digits = digits_value 10 (without_leading_plus digits)
 abbrev pub SpellsPairs : Text → List (ℕ × ℕ) → Type 0
 SpellsPairs hex pairs = (pairs ≢ []) × Spells hex (named pairs)
 
--- the values that each argument was given
-abbrev pub rows_in : ArgMatches → List Row
-rows_in matches = rows_of (found_of matches)
-
 -- ---- what the matches give, by the ids of the arguments
 
 abbrev pub mode_of : List Row → Option Mode
@@ -77,16 +77,12 @@ engine_of rows = option_and_then engine_named (first_of (codes "engine") rows)
 abbrev pub pairs_text : List Row → Option Text
 pairs_text rows = first_of (codes "pairs") rows
 
--- the flag was given
-abbrev pub is_given : Text → List Row → Bool
-is_given id rows = option_map_or (λ text. bytes_eq text (codes "true")) (first_of id rows) false
-
 abbrev pub folds : List Row → Bool
 folds rows = is_given (codes "fold") rows
 
 -- the mode is `mask`
 abbrev pub is_masking : List Row → Bool
-is_masking rows = option_map_or (λ text. bytes_eq text (codes "mask")) (first_of (codes "mode") rows) false
+is_masking rows = is_mode (codes "mask") rows
 
 -- ---- the mask, by whether the mode is `mask` and the value of `--with`
 
@@ -154,13 +150,32 @@ Misspells hex Bad = (pairs : List (ℕ × ℕ)) → ¬ SpellsPairs hex pairs
 Misspells hex Memory = Unit {0}
 Misspells hex (Pairing e) = ⊥
 
+-- ---- where the rules are
+
+-- the rules are in a file, in standard input, or in the arguments
+abbrev pub IsRuleSource : List Row → Source → Type 0
+IsRuleSource rows (File path) =
+    (given_patterns rows ≡ []) × (rules_path rows ≡ Some path.now) × (path.now ≡ codes "-" → values_in (codes "file") rows ≡ [])
+IsRuleSource rows Input = (given_patterns rows ≡ []) × (rules_path rows ≡ Some (codes "-")) × (values_in (codes "file") rows ≢ [])
+IsRuleSource rows Given = given_patterns rows ≢ []
+
 -- ---- the result
 
--- the settings, the rule file's path and form, whether to stream, whether words alone count, and the mask, are those that
--- the matches give
+-- The settings, where the rules are and how they are written, the inputs, and what is written when, are those that the
+-- matches give, which don't misuse the arguments.
 pub record AsksFor (rows : List Row) (w : Words) : Type 0 where
+  pub proper : misuse_of rows ≡ None
   pub mode : mode_of rows ≡ Some w.settings.mode
-  pub rules : rules_path rows ≡ Some w.rules.now
+  pub source : IsRuleSource rows w.source
+  pub patterns : texts w.patterns.items ≡ given_patterns rows
+  pub replacements : texts w.replacements.items ≡ replacements_in rows
+  pub files : texts w.files.items ≡ files_in rows
+  pub escapes : w.escapes ≡ is_given (codes "escapes") rows
+  pub in_place : w.in_place ≡ is_in_place rows
+  pub count : w.count ≡ is_given (codes "count") rows
+  pub fail_if_none : w.fail_if_none ≡ is_given (codes "fail-if-none") rows
+  pub check : w.check ≡ is_given (codes "check") rows
+  pub progress : w.progress ≡ is_given (codes "progress") rows
   pub text : w.text ≡ is_given (codes "text") rows
   pub stream : w.stream ≡ is_given (codes "stream") rows
   pub word : w.word ≡ is_given (codes "word") rows
@@ -175,18 +190,20 @@ pub record AsksFor (rows : List Row) (w : Words) : Type 0 where
 -- each value is one that its argument takes, as clap has checked
 pub record IsTyped (rows : List Row) : Type 0 where
   pub mode : is_some (mode_of rows) ≡ true
-  pub rules : is_some (rules_path rows) ≡ true
   pub kind : is_some (match_kind_of rows) ≡ true
   pub engine : is_some (engine_of rows) ≡ true
   pub dense_depth : (text : Text) → one_of (codes "dense-depth") rows ≡ Some text → IsUnsignedIn 0 greatest_depth text
 
--- why the matches ask for nothing: the mask, or else the pairing
+-- the arguments don't go together, or else make no pairing
+abbrev pub Misasks : List Row → WordsFault → Type 0
+Misasks rows fault = ((misuse_of rows ≢ None) × (fault ≡ Bad)) ⊎ ((misuse_of rows ≡ None) × Unpairs rows fault)
+
+-- why the matches ask for nothing: the mask, or else a misuse, or else the pairing
 abbrev pub AsksNothing : List Row → WordsFault → Type 0
 AsksNothing rows fault =
-    Unmasks rows fault
-    ⊎ (¬ MasksBadly (is_masking rows) (first_of (codes "with") rows) × Unpairs rows fault)
+    Unmasks rows fault ⊎ (¬ MasksBadly (is_masking rows) (first_of (codes "with") rows) × Misasks rows fault)
 
--- the words that these matches ask for, or the fault in their mask or pairing
+-- the words that these matches ask for, or the fault in their mask, use or pairing
 abbrev pub ReadsMatches : List Row → Result Words WordsFault → Type 0
 ReadsMatches rows (Ok w) = AsksFor rows w
 ReadsMatches rows (Err fault) = AsksNothing rows fault

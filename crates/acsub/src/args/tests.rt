@@ -1,6 +1,7 @@
 //! Command lines, and what they ask for.
 use crate::args::settings::{Engine, Mode};
-use crate::args::{WordsFault, read_words};
+use crate::args::{Source, Words, WordsFault, read_words};
+use crate::rules::Form;
 use crate::scripted::{PLAIN, Same, Told, command_line, equal};
 use ac_input::pairing::PairingError;
 use ac_input::search::MatchKind;
@@ -208,20 +209,226 @@ const ROWS: &[Row] = &[
         &["list", "rules", "--pairs", "3030", "--engine", "nope"],
         Bad,
     ),
-    // A mode and a rule file, and no word more.
+    // A mode and a rule file, or patterns.
     Row(&[], Bad),
     Row(&["list"], Bad),
     Row(&["find", "rules"], Bad),
-    Row(&["list", "rules", "more"], Bad),
     // An option twice, and a kind that isn't there.
     Row(&["list", "rules", "--fold", "--fold"], Bad),
     Row(&["list", "rules", "--kind", "longest"], Bad),
+    Row(&["-e", "a"], Bad),
+    Row(&["list", "-e"], Bad),
+    Row(&["list", "-e", "-x"], Bad),
+    Row(&["list", "-q", "rules"], Bad),
+    // A replacement for each pattern, or none.
+    Row(&["replace", "-r", "b"], Bad),
+    Row(&["replace", "rules", "-r", "b"], Bad),
+    Row(&["replace", "-e", "a", "-e", "b", "-r", "c"], Bad),
+    Row(&["replace", "-e", "a", "-r", "b", "-r", "c"], Bad),
+    // What ends a side in a rule file.
+    Row(&["replace", "-e", "a\tb"], Bad),
+    Row(&["replace", "-e", "a\nb"], Bad),
+    Row(&["replace", "-e", "a", "-r", "b\r"], Bad),
+    Row(
+        &["replace", "-e", "a", "-e", "b", "-r", "b", "-r", "\t"],
+        Bad,
+    ),
+    // Escapes in hex.
+    Row(&["replace", "rules", "--escapes"], Bad),
+    // In place, without a file, and in a mode that lists.
+    Row(&["replace", "rules", "-i"], Bad),
+    Row(&["replace", "-e", "a", "-i"], Bad),
+    Row(&["list", "rules", "file", "-i"], Bad),
+    Row(&["overlap", "rules", "file", "-i"], Bad),
+    Row(&["mask", "rules", "file", "-i", "-i"], Bad),
+    // Each of these comes before a byte that is named twice.
+    Row(&["replace", "rules", "-i", "--pairs", "3030"], Bad),
+    Row(
+        &["replace", "rules", "file", "-i", "--pairs", "3030"],
+        Twice(48),
+    ),
     // Help, beside other words too.
     Row(&["--help"], Help),
     Row(&["list", "-h"], Help),
     Row(&["--version"], Help),
     Row(&["list", "-V"], Help),
 ];
+
+/// Where the rules are and how they are written, what is searched, and which flags stand there.
+struct Placed {
+    words: &'static [&'static str],
+    source: Source<'static>,
+    form: Form,
+    patterns: &'static [&'static str],
+    replacements: &'static [&'static str],
+    files: &'static [&'static str],
+    /// `-i`, `--count`, `--fail-if-none`, `--check` and `--progress`.
+    flags: [bool; 5],
+}
+
+/// Rules of a file.
+const FILED: Placed = Placed {
+    words: &[],
+    source: Source::File("rules"),
+    form: Form::Hex,
+    patterns: &[],
+    replacements: &[],
+    files: &[],
+    flags: [false; 5],
+};
+
+/// Rules of the arguments.
+const GIVEN: Placed = Placed {
+    source: Source::Given,
+    form: Form::Text,
+    patterns: &["a"],
+    ..FILED
+};
+
+const PLACED: &[Placed] = &[
+    // Rules of a file, in each form.
+    Placed {
+        words: &["replace", "rules"],
+        ..FILED
+    },
+    Placed {
+        words: &["replace", "--text", "rules"],
+        form: Form::Text,
+        ..FILED
+    },
+    Placed {
+        words: &["replace", "--escapes", "rules", "--text"],
+        form: Form::Escaped,
+        ..FILED
+    },
+    // Files, with options in between, and after `--` words that begin with a hyphen.
+    Placed {
+        words: &["replace", "rules", "a b", "--count", "c"],
+        files: &["a b", "c"],
+        flags: [false, true, false, false, false],
+        ..FILED
+    },
+    Placed {
+        words: &["mask", "--", "rules", "-i", "-"],
+        files: &["-i", "-"],
+        ..FILED
+    },
+    // Standard input as the rules, where there is a file.
+    Placed {
+        words: &["replace", "-", "a"],
+        source: Source::Input,
+        files: &["a"],
+        ..FILED
+    },
+    Placed {
+        words: &["replace", "-"],
+        source: Source::File("-"),
+        ..FILED
+    },
+    Placed {
+        words: &["replace", "-e", "a", "-"],
+        files: &["-"],
+        ..GIVEN
+    },
+    // Patterns, whose form is text in any case; the words after the mode are files.
+    Placed {
+        words: &["replace", "-e", "a"],
+        ..GIVEN
+    },
+    Placed {
+        words: &["replace", "-e", "a", "--text", "--escapes", "b"],
+        form: Form::Escaped,
+        files: &["b"],
+        ..GIVEN
+    },
+    Placed {
+        words: &["list", "--escapes", "-ea", "b", "c", "d"],
+        form: Form::Escaped,
+        files: &["b", "c", "d"],
+        ..GIVEN
+    },
+    // Patterns and replacements go together by their order.
+    Placed {
+        words: &[
+            "replace", "-e", "a", "x", "-r", "c", "-r", "d", "-e", "b", "y",
+        ],
+        patterns: &["a", "b"],
+        replacements: &["c", "d"],
+        files: &["x", "y"],
+        ..GIVEN
+    },
+    // Empty ones, and those that begin with a hyphen, also in a bundle.
+    Placed {
+        words: &[
+            "replace",
+            "--pattern=",
+            "-e",
+            "",
+            "-r=",
+            "--replacement",
+            "",
+        ],
+        patterns: &["", ""],
+        replacements: &["", ""],
+        ..GIVEN
+    },
+    Placed {
+        words: &["--pattern=-x", "mask", "-ir=-y", "z"],
+        patterns: &["-x"],
+        replacements: &["-y"],
+        files: &["z"],
+        flags: [true, false, false, false, false],
+        ..GIVEN
+    },
+    // The other flags.
+    Placed {
+        words: &["replace", "rules", "x", "--in-place"],
+        files: &["x"],
+        flags: [true, false, false, false, false],
+        ..FILED
+    },
+    Placed {
+        words: &["list", "rules", "--fail-if-none"],
+        flags: [false, false, true, false, false],
+        ..FILED
+    },
+    Placed {
+        words: &["list", "rules", "--check"],
+        flags: [false, false, false, true, false],
+        ..FILED
+    },
+    Placed {
+        words: &["list", "rules", "--progress"],
+        flags: [false, false, false, false, true],
+        ..FILED
+    },
+];
+
+/// Whether the arguments were read as those.
+fn is_placed(read: &Words<'_>, placed: &Placed) -> bool {
+    let flags = [
+        read.in_place,
+        read.count,
+        read.fail_if_none,
+        read.check,
+        read.progress,
+    ];
+    read.patterns.as_slice() == placed.patterns
+        && read.replacements.as_slice() == placed.replacements
+        && read.files.as_slice() == placed.files
+        && (read.source, read.form(), flags) == (placed.source, placed.form, placed.flags)
+}
+
+/// Asserts where the rules and the inputs are.
+fn places(rt: &impl Abort, alloc: Global, placed: &Placed) -> Result<(), Fail> {
+    let line = command_line(alloc, placed.words)?;
+    let same = match read_words(alloc, line.as_slice()) {
+        Ok(read) => is_placed(&read, placed),
+        Err(_) => false,
+    };
+    equal(rt, &(placed.words, same), &(placed.words, true), "places");
+    Ok(())
+}
 
 /// Asserts that the words ask for that.
 fn asks_for(rt: &impl Abort, alloc: Global, row: &Row) -> Result<(), Fail> {
@@ -235,7 +442,7 @@ fn asks_for(rt: &impl Abort, alloc: Global, row: &Row) -> Result<(), Fail> {
                 matches!(asks, Word(_)),
             );
             let same = (read.text, read.stream, read.word) == forms && read.mask.is_none();
-            read.rules == "rules" && same && read.settings == told.settings()?
+            read.source == Source::File("rules") && same && read.settings == told.settings()?
         }
         (Mask(byte), Ok(read)) => {
             (read.mask, read.word) == (Some(*byte), false)
@@ -254,6 +461,9 @@ fn asks_for(rt: &impl Abort, alloc: Global, row: &Row) -> Result<(), Fail> {
 fn reads_each_line(rt: HostRuntime) -> Result<(), Fail> {
     for row in ROWS {
         asks_for(&rt, rt.alloc(), row)?;
+    }
+    for placed in PLACED {
+        places(&rt, rt.alloc(), placed)?;
     }
     Ok(())
 }

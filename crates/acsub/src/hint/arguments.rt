@@ -1,7 +1,9 @@
 //! What is wrong with arguments that are no command line, and what to write.
 //!
-//! clap says why it refuses them. Where it takes them, the value of an option is bad: of `--with` or of `--pairs`.
-use crate::args::taken;
+//! clap says why it refuses them. Where it takes them, the value of an option is bad, of `--with` or of `--pairs`, or arguments
+//! don't go together.
+use crate::args::misuse::{Misuse, misuse_of};
+use crate::args::{count_of, taken};
 use clap::ArgMatches;
 use clap::error::ErrorKind;
 use std::alloc::{AllocError, Global};
@@ -38,25 +40,20 @@ fn unexpected(text: &str) -> Option<&str> {
         .strip_suffix("' found")
 }
 
-/// The hint for a word that is no argument: a long or short option that there isn't, a number, or the path of an input.
+/// The hint for a word that is no argument: a long or short option that there isn't, or a number.
 fn unknown(alloc: Global, word: &str, text: &str) -> Result<String, AllocError> {
     match word.as_bytes() {
-        [b'-', b'-', ..] => reworded(alloc, text, SEE),
         [b'-', b'0'..=b'9', ..] => {
             format!(in alloc;
-                "'{word}' is no option; --dense-depth takes a whole number from 0 to 2147483646"
+                "'{word}' is no option: --dense-depth takes a whole number from 0 to 2147483646, and a pattern '{word}' is --pattern={word}"
             )
         }
-        [b'-', _, ..] => {
+        [b'-', letter, ..] if *letter != b'-' => {
             format!(in alloc;
-                "there is no option '{word}': acsub reads standard input and writes standard output{SEE}"
+                "there is no option '{word}'; a pattern that begins with - is written --pattern=-.., and a path ./-..{SEE}"
             )
         }
-        _ => {
-            format!(in alloc;
-                "unexpected argument '{word}': the input is standard input, as in acsub .. < FILE{SEE}"
-            )
-        }
+        _ => reworded(alloc, text, SEE),
     }
 }
 
@@ -64,7 +61,7 @@ fn unknown(alloc: Global, word: &str, text: &str) -> Result<String, AllocError> 
 fn advice(kind: ErrorKind) -> &'static str {
     match kind {
         ErrorKind::MissingRequiredArgument => {
-            "; write acsub MODE RULES [OPTION..] < INPUT, and see acsub --help"
+            "; write acsub MODE RULES [OPTION..] [FILE..], and see acsub --help"
         }
         ErrorKind::ValueValidation => "; N is a whole number from 0 to 2147483646",
         ErrorKind::ArgumentConflict => "; give it once",
@@ -100,19 +97,60 @@ fn push_reason(line: &mut String, text: &str) -> Result<(), AllocError> {
     Ok(())
 }
 
-/// The hint where clap takes the arguments, and a value is bad.
+/// The hint where clap takes the arguments, and a value is bad, or they don't go together.
 fn hint_for_values(alloc: Global, matches: &ArgMatches<'_>) -> Result<Option<String>, AllocError> {
     let hint = match (matches.get_str("mode"), matches.get_str("with")) {
         (Some("mask"), Some(hex)) if !is_byte(hex) => {
             format!(in alloc; "--with takes a byte as two hex digits, as 23 for #, not '{hex}'")?
         }
-        (Some("mask"), _) | (_, None) => pairs_hint(alloc, matches)?,
+        (Some("mask"), _) | (_, None) => match misuse_of(matches) {
+            Some(misuse) => misuse_hint(alloc, misuse, matches)?,
+            None => pairs_hint(alloc, matches)?,
+        },
         _ => String::from_str(
             alloc,
             "--with goes with mode mask alone; leave it out, or give mode mask",
         )?,
     };
     Ok(Some(hint))
+}
+
+/// The hint where arguments don't go together.
+fn misuse_hint(
+    alloc: Global,
+    misuse: Misuse,
+    matches: &ArgMatches<'_>,
+) -> Result<String, AllocError> {
+    let hint = match misuse {
+        Misuse::NoRules => {
+            "there are no rules; write acsub MODE RULES [OPTION..] [FILE..], or -e PATTERN in place of RULES"
+        }
+        Misuse::Unpaired => return unpaired_hint(alloc, matches),
+        Misuse::Broken => {
+            "a pattern of -e or a replacement of -r has a TAB, LF or CR; write \\t, \\n or \\r, and give --escapes"
+        }
+        Misuse::HexEscaped => "--escapes goes with --text or -e; in hex any byte is two digits",
+        Misuse::NoFile => "-i rewrites each FILE, and there is none; give the files after RULES",
+        Misuse::Unwritten =>
+            "-i goes with modes replace and mask; list and overlap rewrite nothing",
+    };
+    String::from_str(alloc, hint)
+}
+
+/// The hint where there isn't one `-r` for each `-e`.
+fn unpaired_hint(alloc: Global, matches: &ArgMatches<'_>) -> Result<String, AllocError> {
+    let patterns = count_of(matches, "pattern");
+    let replacements = count_of(matches, "replacement");
+    if patterns == 0 {
+        String::from_str(
+            alloc,
+            "-r goes with -e; the replacements of RULES stand in it",
+        )
+    } else {
+        format!(in alloc;
+            "-e stands {patterns} times and -r {replacements}; give one -r for each -e, or none"
+        )
+    }
 }
 
 /// Whether a text is two hex digits.

@@ -24,7 +24,7 @@ const BAD: Row = Row {
     words: &[],
     rules: "61\t62\n",
     status: 2,
-    hint: "acsub: hint: the following required arguments were not provided: <MODE> <RULES>; write acsub MODE RULES [OPTION..] < INPUT, and see acsub --help\n",
+    hint: "acsub: hint: the following required arguments were not provided: <MODE>; write acsub MODE RULES [OPTION..] [FILE..], and see acsub --help\n",
 };
 
 /// A rule file with a bad line.
@@ -42,11 +42,12 @@ const FULL: Row = Row {
     ..BAD
 };
 
-const ROWS: &[Row] = &[
+/// Mistakes in the arguments and the settings.
+const OF_ARGUMENTS: &[Row] = &[
     BAD,
     Row {
         words: &["list"],
-        hint: "acsub: hint: the following required arguments were not provided: <RULES>; write acsub MODE RULES [OPTION..] < INPUT, and see acsub --help\n",
+        hint: "acsub: hint: there are no rules; write acsub MODE RULES [OPTION..] [FILE..], or -e PATTERN in place of RULES\n",
         ..BAD
     },
     Row {
@@ -71,12 +72,12 @@ const ROWS: &[Row] = &[
     },
     Row {
         words: &["list", PATH, "-z"],
-        hint: "acsub: hint: there is no option '-z': acsub reads standard input and writes standard output; see acsub --help\n",
+        hint: "acsub: hint: there is no option '-z'; a pattern that begins with - is written --pattern=-.., and a path ./-..; see acsub --help\n",
         ..BAD
     },
     Row {
-        words: &["list", PATH, "h.txt"],
-        hint: "acsub: hint: unexpected argument 'h.txt': the input is standard input, as in acsub .. < FILE; see acsub --help\n",
+        words: &["list", "-e"],
+        hint: "acsub: hint: a value is required for '--pattern <PATTERN>' but none was supplied; see acsub --help\n",
         ..BAD
     },
     Row {
@@ -91,7 +92,7 @@ const ROWS: &[Row] = &[
     },
     Row {
         words: &["list", PATH, "--dense-depth", "-1"],
-        hint: "acsub: hint: '-1' is no option; --dense-depth takes a whole number from 0 to 2147483646\n",
+        hint: "acsub: hint: '-1' is no option: --dense-depth takes a whole number from 0 to 2147483646, and a pattern '-1' is --pattern=-1\n",
         ..BAD
     },
     Row {
@@ -122,6 +123,37 @@ const ROWS: &[Row] = &[
     Row {
         words: &["mask", PATH, "--with", "23", "--pairs", "zz"],
         hint: "acsub: hint: --pairs takes four hex digits a pair, as 3031 for 0 and 1, not 'zz'\n",
+        ..BAD
+    },
+    // Arguments that don't go together, each before pairs that are none.
+    Row {
+        words: &["replace", PATH, "-r", "b", "--pairs", "zz"],
+        hint: "acsub: hint: -r goes with -e; the replacements of RULES stand in it\n",
+        ..BAD
+    },
+    Row {
+        words: &["replace", "-e", "a", "-e", "b", "-r", "c"],
+        hint: "acsub: hint: -e stands 2 times and -r 1; give one -r for each -e, or none\n",
+        ..BAD
+    },
+    Row {
+        words: &["replace", "-e", "a\tb"],
+        hint: "acsub: hint: a pattern of -e or a replacement of -r has a TAB, LF or CR; write \\t, \\n or \\r, and give --escapes\n",
+        ..BAD
+    },
+    Row {
+        words: &["mask", PATH, "--escapes"],
+        hint: "acsub: hint: --escapes goes with --text or -e; in hex any byte is two digits\n",
+        ..BAD
+    },
+    Row {
+        words: &["mask", PATH, "-i"],
+        hint: "acsub: hint: -i rewrites each FILE, and there is none; give the files after RULES\n",
+        ..BAD
+    },
+    Row {
+        words: &["list", PATH, "h.txt", "-i"],
+        hint: "acsub: hint: -i goes with modes replace and mask; list and overlap rewrite nothing\n",
         ..BAD
     },
     // Pairs that name a byte twice, one that is no sign among them.
@@ -164,6 +196,10 @@ const ROWS: &[Row] = &[
         hint: "acsub: hint: --engine packed can't be used with --fold or --pairs; every other engine can\n",
         ..BAD
     },
+];
+
+/// Mistakes in rules.
+const OF_RULES: &[Row] = &[
     // Rule files that can't be read; and one that is no regular file, and isn't opened.
     Row {
         words: &["list", ""],
@@ -180,7 +216,7 @@ const ROWS: &[Row] = &[
     Row {
         words: &["list", "-"],
         status: 3,
-        hint: "acsub: hint: -: No such file or directory (os error 2); RULES is a path, and standard input is what is searched\n",
+        hint: "acsub: hint: -: No such file or directory (os error 2); RULES is standard input only beside a FILE, as else standard input is searched\n",
         ..BAD
     },
     Row {
@@ -199,6 +235,50 @@ const ROWS: &[Row] = &[
         words: &["list", "/dev/null", "--text"],
         status: 3,
         hint: "acsub: hint: a rule is pattern TAB replacement, or a pattern alone; no line is empty\n",
+        ..BAD
+    },
+    Row {
+        words: &["list", "/dev/null", "--text", "--escapes"],
+        status: 3,
+        hint: "acsub: hint: a rule is pattern TAB replacement, or a pattern alone; a backslash begins \\t, \\n, \\r, \\\\, \\0 or \\xHH\n",
+        ..BAD
+    },
+    // Rules of standard input, of which nothing is read again, though a file has that name.
+    Row {
+        words: &["list", "-", PATH],
+        status: 3,
+        hint: "acsub: hint: a rule is hex TAB hex, two digits a byte; for plain text give --text\n",
+        ..BAD
+    },
+    // Rules of the arguments.
+    Row {
+        words: &["replace", "-e", "a", "-e", "", "-r", "b", "-r", "c"],
+        status: 3,
+        hint: "acsub: hint: pattern 2 is empty; a pattern has a byte at least\n",
+        ..BAD
+    },
+    Row {
+        words: &["replace", "-e", ""],
+        status: 3,
+        hint: "acsub: hint: pattern 1 is empty; a pattern has a byte at least\n",
+        ..BAD
+    },
+    Row {
+        words: &["replace", "-e", "\u{feff}a"],
+        status: 3,
+        hint: "acsub: hint: pattern 1 begins with a byte order mark; give it as \\xEF\\xBB\\xBF with --escapes\n",
+        ..BAD
+    },
+    Row {
+        words: &["replace", "--escapes", "-e", "a", "-r", "\\q"],
+        status: 3,
+        hint: "acsub: hint: pattern 1 or its replacement has a backslash that is none of \\t, \\n, \\r, \\\\, \\0 and \\xHH; a backslash itself is \\\\\n",
+        ..BAD
+    },
+    Row {
+        words: &["replace", "-e", "a"],
+        status: 3,
+        hint: "",
         ..BAD
     },
     // The first bad line of a rule file, in hex and in plain text.
@@ -256,6 +336,16 @@ const ROWS: &[Row] = &[
         hint: "acsub: hint: line 1 has a NUL, as has a file in UTF-16; save it as UTF-8, or give a NUL as \\0 with --escapes\n",
         ..LINE
     },
+    Row {
+        words: &["list", PATH, "--text", "--escapes"],
+        rules: "a\n\\a\tb\n",
+        hint: "acsub: hint: a backslash is none of \\t, \\n, \\r, \\\\, \\0 and \\xHH; a backslash itself is \\\\\n",
+        ..LINE
+    },
+];
+
+/// Runs that ended otherwise.
+const OF_RUNS: &[Row] = &[
     // Runs that were out of memory: those that write while they read, and those that hold their input.
     FULL,
     Row {
@@ -324,6 +414,17 @@ fn hints<F: Abort + Files>(rt: &F, alloc: Global, row: &Row) -> Result<(), Alloc
     Ok(())
 }
 
+/// Asserts the hint of each row, with its rule file in place.
+fn hints_of<F: Abort + Files>(rt: &F, alloc: Global, rows: &[Row]) -> Result<(), Fail> {
+    fs::create_dir_all(rt, "out")?;
+    for row in rows {
+        fs::write(rt, PATH, row.rules)?;
+        hints(rt, alloc, row)?;
+    }
+    fs::remove_file(rt, PATH)?;
+    Ok(())
+}
+
 /// Arguments that are no text have a hint of their own, unless there was no memory for them.
 fn hints_at_no_text<F: Abort + Files>(rt: &F, alloc: Global) {
     let no_text =
@@ -370,16 +471,20 @@ const REASONS: &[(Form, &[u8], &str)] = &[
 ];
 
 #[test]
-fn says_what_to_write(rt: HostRuntime) -> Result<(), Fail> {
-    fs::create_dir_all(&rt, "out")?;
-    for row in ROWS {
-        fs::write(&rt, PATH, row.rules)?;
-        hints(&rt, rt.alloc(), row)?;
-    }
-    fs::remove_file(&rt, PATH)?;
+fn says_what_is_wrong_with_arguments(rt: HostRuntime) -> Result<(), Fail> {
     hints_at_no_text(&rt, rt.alloc());
+    hints_of(&rt, rt.alloc(), OF_ARGUMENTS)
+}
+
+#[test]
+fn says_what_is_wrong_with_rules(rt: HostRuntime) -> Result<(), Fail> {
     for (form, file, why) in REASONS {
         equal(&rt, &reason(rt.alloc(), *form, file), &Some(*why), why);
     }
-    Ok(())
+    hints_of(&rt, rt.alloc(), OF_RULES)
+}
+
+#[test]
+fn says_what_ended_a_run(rt: HostRuntime) -> Result<(), Fail> {
+    hints_of(&rt, rt.alloc(), OF_RUNS)
 }

@@ -1,7 +1,7 @@
 //! Runs over scripted readers and writers.
 //!
-//! What is written stands in `texts`, and in `repeated` for letters that stand many times over. What is refused stands in
-//! `refusals`, and what becomes of a reader or a writer that stops in `devices`.
+//! What is written stands in `texts`, and in `repeated` for letters that stand many times over; how many matches are counted, in
+//! `counts`. What is refused stands in `refusals`, and what becomes of a reader or a writer that stops in `devices`.
 use super::{run, run_rules};
 use crate::args::settings::{Engine, SettingError, Settings};
 use crate::error::RunError;
@@ -12,6 +12,7 @@ use ac_input::search::MatchKind;
 use std::alloc::{AllocError, Global};
 use std::process::Abort;
 
+mod counts;
 mod devices;
 mod refusals;
 mod repeated;

@@ -1,6 +1,7 @@
 //! The whole program over scripted devices: each status, and each line.
 use super::{Fault, tell, tool};
 use crate::error::RunError;
+use crate::progress::{Meter, Metered};
 use crate::scripted::{Sink, Source, command_line, equal, expecting, whole};
 use ac_automaton::watched::Watched;
 use ac_input::primitives::PatternID;
@@ -9,9 +10,12 @@ use std::alloc::{AllocError, Global};
 use std::fs;
 use std::io::ErrorKind;
 use std::process::Abort;
+use std::rc::Rc;
 use std::rt::Files;
 use std::test::Fail;
+use std::time::Clock;
 
+mod files;
 mod masks;
 mod words;
 
@@ -28,9 +32,10 @@ const LETTERS: &str = "62\t\n616263\t\n61626364\t\n";
 const SLOTH: &str = "666f78\t736c6f7468\n";
 
 const HELP: &str = "\
-Replaces, masks or lists what the patterns of a rule file match in standard input
+Replaces, masks or lists what the patterns of a rule file match in files or standard input
 
-Usage: acsub [OPTIONS] <MODE> <RULES>
+Usage: acsub MODE RULES [OPTION..] [FILE..]
+       acsub MODE -e PATTERN [-r REPLACEMENT] .. [OPTION..] [FILE..]
 
 Arguments:
   <MODE>
@@ -38,12 +43,39 @@ Arguments:
          \x20
           [possible values: replace, list, overlap, mask]
 
-  <RULES>
-          The path of the rule file
+  [RULES]
+          The path of the rule file; beside a FILE, - is standard input. With -e there is none
+
+  [FILE]...
+          What to search; - is standard input, which is searched where there is no FILE
 
 Options:
+  -e, --pattern <PATTERN>
+          Search for this text in place of RULES; can be repeated
+
+  -r, --replacement <REPLACEMENT>
+          Replace by this text: one for each -e, in their order; without -r by nothing
+
       --text
           Read RULES as plain text: 'pattern TAB replacement' or 'pattern' a line
+
+      --escapes
+          Read \\t, \\n, \\r, \\\\, \\0 and \\xHH in the text of the rules as the bytes that they name
+
+  -i, --in-place
+          Rewrite each FILE, in modes replace and mask
+
+      --count
+          Say on standard error how much matched
+
+      --fail-if-none
+          End with status 1 if nothing matched
+
+      --check
+          Look at the rules alone, and write what is odd about them
+
+      --progress
+          Show on a terminal how far the run is
 
       --stream
           Write while reading under every kind and mode, where that can be
@@ -102,14 +134,21 @@ Rule files:
   hex     A line 'hex TAB hex' for each pattern and its replacement, two hex digits a byte
   --text  A line 'pattern TAB replacement', or 'pattern' alone, which is replaced by nothing;
           CR LF ends a line as LF does, and no byte has another meaning
+  --text --escapes
+          The same, where \\t is a TAB, \\n a LF, \\r a CR, \\\\ a backslash, \\0 a NUL, and \\xHH the byte
+          of two hex digits
+  -e, -r  Text, where a pattern or a replacement has no TAB, LF or CR of its own; with --escapes as above
 
 Example:
   printf 'fox\\tsloth\\n' > words.tsv
   echo 'The fox ran.' | acsub replace words.tsv --text    # The sloth ran.
+  echo 'The fox ran.' | acsub replace -e fox -r sloth     # The sloth ran.
+  acsub replace words.tsv --text -i *.txt                 # Rewrites the files
 
 Status:
-  0 done, 2 words or settings, 3 the rule file, 4 a limit of a build or a mask that a pattern has,
-  5 a read failed, 6 a write or the flush failed, 7 out of memory, 8 the input is too long
+  0 done, 1 nothing matched, with --fail-if-none, 2 words or settings, 3 the rule file,
+  4 a limit of a build or a mask that a pattern has, 5 a read failed or a FILE can't be read,
+  6 a write or the flush failed, 7 out of memory, 8 the input is too long
 ";
 
 /// A command line, the rule file and the devices; and what the program does.
@@ -458,8 +497,8 @@ struct Did {
     flushed: usize,
 }
 
-fn try_tool(
-    rt: &impl Files,
+fn try_tool<F: Files + Clock + Clone + Drop + Eprint>(
+    rt: &F,
     alloc: Global,
     words: &[&str],
     source: Source<'_>,
@@ -467,23 +506,24 @@ fn try_tool(
     line: &str,
 ) -> Result<Did, AllocError> {
     let words = command_line(alloc, words)?;
-    let mut reader = Watched::new(source);
-    let mut writer = Watched::new(sink);
+    let meter = Rc::new(alloc, Meter::new(rt.clone()?, false))?;
+    let mut reader = Watched::new(Metered::new(source, meter.clone()?));
+    let mut writer = Watched::new(Metered::new(sink, meter.clone()?));
     let mut errors = expecting(line.as_bytes());
     let status = tool(
-        rt,
+        &meter,
         alloc,
         words.as_slice(),
         &mut reader,
         &mut writer,
         &mut errors,
     );
-    let sink = writer.into_inner();
+    let sink = writer.into_inner().into_inner();
     Ok(Did {
         status,
         told: errors.written(),
         written: sink.written(),
-        reads: reader.into_inner().reads,
+        reads: reader.into_inner().into_inner().reads,
         flushes: sink.flushes,
         flushed: sink.flushed,
     })
@@ -509,7 +549,11 @@ fn shows(rt: &impl Abort, row: &Row, did: &Did) {
     );
 }
 
-fn does<F: Abort + Files>(rt: &F, alloc: Global, row: &Row) -> Result<(), AllocError> {
+fn does<F: Abort + Files + Clock + Clone + Drop + Eprint>(
+    rt: &F,
+    alloc: Global,
+    row: &Row,
+) -> Result<(), AllocError> {
     let source = Source {
         fails: row.read_fails,
         ..whole(row.input, 7)
@@ -613,7 +657,11 @@ fn is_written(rt: &impl Files, rules: &str) -> Result<bool, Fail> {
 
 /// Asserts that the program does what the words say; or that it says that there is no memory, ends with that status, and has written
 /// nothing.
-fn does_in_little<F: Abort + Files>(rt: &F, alloc: Global, row: &Row) {
+fn does_in_little<F: Abort + Files + Clock + Clone + Drop + Eprint>(
+    rt: &F,
+    alloc: Global,
+    row: &Row,
+) {
     let (source, sink) = (whole(row.input, 7), expecting(row.text.as_bytes()));
     let Ok(did) = try_tool(rt, alloc, row.words, source, sink, NO_MEMORY) else {
         return;

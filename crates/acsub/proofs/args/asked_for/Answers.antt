@@ -1,4 +1,4 @@
-use Rattle.std.proofs.Common.{rules, ◌≡◌, ◌∙◌, sym, ap, refl, ℕ, Option, Some, None, Result, Ok, Err, codes}
+use Rattle.std.proofs.Common.{rules, ◌≡◌, ◌∙◌, sym, ap, refl, ℕ, Bool, true, false, Option, Some, None, Result, Ok, Err, codes, is_some}
 use Rattle.std.specs.Prelude.{option_map}
 use Rattle.std.specs.Str.Parse.{ExplainsUnsignedError, HasUnsignedDigitsIfOk, ParsesUnsigned}
 use Rattle.clap.specs.Words.{IsUnsignedIn, ReadsOne, Text, found_of, one_of, rows_of}
@@ -19,13 +19,28 @@ depth_read gives (Some t) None none read parses fits =
     let in_range = fits t refl in
     absurd (parses t (Err failed.0) failed.1 (in_range.0, in_range.1))
 
+-- there is no misuse
+none-of : {X : Type 0} (o : Option X) (some : Bool) → some ≡ is_some o → some ≡ false → o ≡ None
+none-of None some is none = refl
+none-of (Some x) some is none = let bad : true ≡ false = sym is ∙ none in cc
+
 pub returns : goal.returns
 returns c =
     let f = found_of c.args.matches.now in
     let same = one_text-rows f (codes "dense-depth") in
     record {
       mode = search rules;
-      rules = search rules;
+      proper = sym c.misuse_of.ensures ∙ none-of c.misuse_of.result c.is_some.result c.is_some.ensures c.if-is_some.false;
+      source = c.source_of.ensures;
+      patterns = c.in_ok-values_of.ensures;
+      replacements = c.in_ok-values_of-2.ensures;
+      files = c.in_ok-files_of.ensures;
+      escapes = search rules;
+      in_place = search rules;
+      count = search rules;
+      fail_if_none = search rules;
+      check = search rules;
+      progress = search rules;
       text = search rules;
       stream = search rules;
       word = search rules;
@@ -38,6 +53,6 @@ returns c =
           (λ t x g. g.0) c.requires.dense_depth;
       prefilter = search rules;
       byte_classes = search rules;
-      pairing = c.in_ok-pairing_of.ensures;
+      pairing = c.in_ok-pairing.ensures;
       mask = c.in_ok-mask.ensures;
     }

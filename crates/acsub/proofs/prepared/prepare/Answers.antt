@@ -16,7 +16,8 @@ returns-in_err-finder-in-Ok c =
 pub returns-in_ok-finder-in-Ok : goal.returns-in_ok-finder-in-Ok
 returns-in_ok-finder-in-Ok c = (
   refl,
-  c.in-Ok.ensures.accepted,
-  finder-buildable c.args.settings.now c.args.rules.now c.in_ok-finder-in-Ok.finder
-      c.in_ok-finder-in-Ok.ensures.finds,
+  (
+    c.in-Ok.ensures.accepted,
+    finder-buildable c.args.settings.now c.args.rules.now c.in_ok-finder-in-Ok.finder c.in_ok-finder-in-Ok.ensures.finds,
+  ),
 )

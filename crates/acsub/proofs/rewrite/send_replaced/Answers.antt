@@ -7,7 +7,7 @@ use Rattle.acsub.specs.Rules.Lines.{rule_at}
 use Rattle.acsub.specs.Matches.{left_in}
 use Rattle.acsub.specs.Rules.Sides.{replacements_of}
 use Rattle.ac_automaton.proofs.stream.devices.OutputLemmas.{Sent-none, Sent-then}
-use Rattle.acsub.proofs.rewrite.RewriteLemmas.{replaced-step, replacement_of_rule}
+use Rattle.acsub.proofs.rewrite.RewriteLemmas.{counted-end, counted-step, on-ok, replaced-step, replacement_of_rule}
 use Rattle.ac_automaton.proofs.lemmas.ReplaceLemmas.{lies-first, replaced-end}
 use Rattle.acsub.proofs.rewrite.SendingLemmas.{sends-last, sends-stopped}
 use Rattle.acsub.proofs.rewrite.send_replaced.Goals as goal
@@ -21,6 +21,7 @@ loop-found-init g c =
       lies = c.requires.lie;
       within = omega arith;
       counted = λ plan n begun h. h;
+      found = refl;
     }
 
 pub replacement-requires : goal.replacement-requires
@@ -44,8 +45,8 @@ returns-in_err-send_exchanged-clause-sent g c =
     ∙ replacement_of_rule c.args.rules.now _ lies.0) before.order)
     (stopped.0, stopped.1, refl))
 
-pub returns-in_err-send_exchanged-clause-counts : goal.returns-in_err-send_exchanged-clause-counts
-returns-in_err-send_exchanged-clause-counts g c =
+pub returns-in_err-send_exchanged-clause-cost : goal.returns-in_err-send_exchanged-clause-cost
+returns-in_err-send_exchanged-clause-cost g c =
     λ plan n begun h. c.next_counted.ensures.counts plan n begun (c.loop-found.invariant.counted plan n begun h)
 
 pub loop-found-preserved : goal.loop-found-preserved
@@ -67,6 +68,7 @@ loop-found-preserved g c =
       lies = rw end lies.4;
       within = omega (arith, end, lies.3);
       counted = λ plan n begun h. c.next_counted.ensures.counts plan n begun (before.counted plan n begun h);
+      found = counted-step _ _ _ c.in-Some.found _ _ c.in-Some.ensures.yields c.add.ensures before.found;
     }
 
 pub returns-clause-sent : goal.returns-clause-sent
@@ -77,6 +79,11 @@ returns-clause-sent g c =
     sends-last _ _ _ _ _ _ before.front _ _ before.sent [] c.send_all.result
     (ap (λ t. before.front ++ t) (take_rest c.args.input.now c.loop-found.at) ∙ end) c.send_all.ensures.sent
 
+pub returns-clause-cost : goal.returns-clause-cost
+returns-clause-cost g c =
+    λ plan n begun h. c.next_counted.ensures.counts plan n begun (c.loop-found.invariant.counted plan n begun h)
+
 pub returns-clause-counts : goal.returns-clause-counts
 returns-clause-counts g c =
-    λ plan n begun h. c.next_counted.ensures.counts plan n begun (c.loop-found.invariant.counted plan n begun h)
+    on-ok _ c.send_all.result
+    (counted-end _ _ _ c.in_default.ensures.yields.0 c.loop-found.invariant.found)

@@ -4,6 +4,7 @@ use Rattle.ac_automaton.specs.Stream.Devices.Output.{Sent}
 use Rattle.ac_automaton.specs.InMemory.Replace.{LieInOrder}
 use Rattle.acsub.specs.Matches.{KeepsCount, left_in}
 use Rattle.acsub.specs.Rules.Sides.{replacements_of}
+use Rattle.acsub.specs.Tally.{grown}
 use Rattle.acsub.proofs.rewrite.send_replaced.Given as goal
 
 abbrev pub invariant-loop-found : goal.invariant-loop-found
@@ -15,6 +16,7 @@ invariant-loop-found g l = record {
   lies : LieInOrder (length l.rules) (length l.input) l.at (left_in l.picks);
   within : l.at ≤ length l.input;
   counted : KeepsCount l.fn.picks l.picks l.fn.steps l.steps;
+  found : grown l.tally.found (length (left_in l.picks)) ≡ grown l.fn.tally.found (length (left_in l.fn.picks));
 }
 
 abbrev pub decreases-loop-found : goal.decreases-loop-found

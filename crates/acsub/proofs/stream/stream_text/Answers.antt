@@ -1,67 +1,61 @@
 -- Each mode's search of the stream is supported, and writes the text of the plan. The run returns its result.
 use Rattle.std.proofs.Common.{ap, subst, sym, ◌∙◌}
-use Rattle.std.proofs.lemmas.Result.{err_from_is_err_and}
-use Rattle.ac_automaton.specs.Stream.{Occurrences, Picks}
+use Rattle.ac_automaton.specs.Stream.{Occurrences, Picks, items_of}
 use Rattle.ac_automaton.specs.Stream.Replace.{ReplacesStream}
 use Rattle.ac_automaton.proofs.stream.SequenceLemmas.{picks≢occurrences}
-use Rattle.ac_literal.specs.Packed.{bytes_of}
-use Rattle.aho_corasick.specs.AhoCorasick.{as_built, supported_by}
-use Rattle.acsub.specs.Rules.Sides.{replacements_of}
+use Rattle.aho_corasick.specs.AhoCorasick.{as_built}
+use Rattle.acsub.specs.Rules.Sides.{replacements_of, rule_patterns}
+use Rattle.acsub.specs.Tally.{plan_matches}
 use Rattle.acsub.specs.declared.prepared.Finder.TheVariants as finders
-use Rattle.acsub.proofs.run.CountLemmas.{nothing_cost}
 use Rattle.acsub.proofs.prepared.ServedLemmas.{finder-buildable}
-use Rattle.acsub.proofs.run.RunLemmas.{memory_ran}
 use Rattle.acsub.proofs.stream.StreamListLemmas.{every-can, list-plan}
-use Rattle.acsub.proofs.stream.StreamedLemmas.{begun-memory, replace-plan, replaces-accepted, streamed-can, streamed_answer, streamed_cost}
+use Rattle.acsub.proofs.stream.StreamedLemmas.{begun-memory, replace-plan, streamed-can, streamed_answer, streamed_cost}
+use Rattle.acsub.proofs.tally.TallyLemmas.{counts-told, every-matches, listed-matches, replaced-matches}
 use Rattle.acsub.proofs.stream.stream_text.Goals as goal
 
 -- ---- the matches are replaced
 
-pub returns-in_err-replacements-in-Replace-clause-ran : goal.returns-in_err-replacements-in-Replace-clause-ran
-returns-in_err-replacements-in-Replace-clause-ran g c =
-    let p = err_from_is_err_and c.from_residual.result c.from_residual.ensures.1 in
-    rw (p.1, p.2)
-    (memory_ran g.R.Read.remaining g.W.Write.contents (c.args.reader.now, c.args.writer.now) c.args.prepared.now
-    c.requires.accepted)
+pub replace_stream-replaced-requires-clause-can : goal.replace_stream-replaced-requires-clause-can
+replace_stream-replaced-requires-clause-can g c =
+    streamed-can c.args.engine.now c.args.prepared.now c.requires.serves c.requires.streamed
 
-pub returns-in_err-replacements-in-Replace-clause-cost : goal.returns-in_err-replacements-in-Replace-clause-cost
-returns-in_err-replacements-in-Replace-clause-cost g c =
-    let p = err_from_is_err_and c.from_residual.result c.from_residual.ensures.1 in
-    rw p.1 (nothing_cost c.args.prepared.now c.args.reader.now c.args.steps.now p.0)
+pub replace_stream-replaced-requires-clause-patterns : goal.replace_stream-replaced-requires-clause-patterns
+replace_stream-replaced-requires-clause-patterns g c =
+    ap (λ m. m.patterns) c.requires.serves.built.dictionary ∙ ap rule_patterns (sym c.rules-rules.ensures)
 
-pub told-requires : goal.told-requires
-told-requires g c =
-    let replaced = c.try_stream_replace_all_any_kind_counted-replaced in
-    let can = streamed-can c.args.engine.now c.args.prepared.now c.requires.serves c.requires.streamed in
-    replaces-accepted (as_built c.args.engine.now) (supported_by c.args.engine.now) can replaced.result
-    replaced.ensures.accepted
-
-pub returns-in_ok-replacements-in-Replace-clause-ran : goal.returns-in_ok-replacements-in-Replace-clause-ran
-returns-in_ok-replacements-in-Replace-clause-ran g c =
+pub returns-in-Replace-clause-ran : goal.returns-in-Replace-clause-ran
+returns-in-Replace-clause-ran g c =
     let plan = c.args.prepared.now in
-    let replaced = c.try_stream_replace_all_any_kind_counted-replaced in
-    let same = ap bytes_of c.as_slice-texts.ensures.value ∙ c.in_ok-replacements-in-Replace.ensures
-    ∙ ap replacements_of c.rules.ensures in
+    let replaced = c.replace_stream-replaced in
     let moved =
-    subst (λ texts. ReplacesStream g.R.Read.remaining g.W.Write.contents (as_built c.args.engine.now) texts
-    c.args.reader.now replaced.new.reader c.args.writer.now replaced.new.writer replaced.result) same
-    replaced.ensures.moved in
+    subst (λ rules. ReplacesStream g.R.Read.remaining g.W.Write.contents (as_built c.args.engine.now) (replacements_of rules)
+    c.args.reader.now replaced.new.reader c.args.writer.now replaced.new.writer replaced.result) c.rules-rules.ensures
+    replaced.ensures.replaced in
     streamed_answer g.R.Read.remaining g.W.Write.contents plan c.args.reader.now replaced.new.reader c.args.writer.now
     replaced.new.writer replaced.result c.told.result c.requires.accepted
     (finder-buildable plan.settings plan.rules (finders.Automaton c.args.engine.now) c.requires.serves)
     c.requires.streamed c.told.ensures
     (begun-memory c.args.reader.now replaced.new.reader c.args.writer.now replaced.new.writer replaced.result
-    replaced.ensures.moved.1)
+    replaced.ensures.replaced.1)
     (replace-plan g.R.Read.remaining g.W.Write.contents (as_built c.args.engine.now) plan
     (c.args.reader.now, c.args.writer.now) (replaced.new.reader, replaced.new.writer) replaced.result
     c.requires.serves.built.dictionary (sym c.mode.ensures ∙ c.in-Replace.is) moved)
 
-pub returns-in_ok-replacements-in-Replace-clause-cost : goal.returns-in_ok-replacements-in-Replace-clause-cost
-returns-in_ok-replacements-in-Replace-clause-cost g c =
-    let replaced = c.try_stream_replace_all_any_kind_counted-replaced in
+pub returns-in-Replace-clause-cost : goal.returns-in-Replace-clause-cost
+returns-in-Replace-clause-cost g c =
+    let replaced = c.replace_stream-replaced in
     streamed_cost c.args.prepared.now c.args.engine.now c.args.reader.now replaced.new.reader c.args.steps.now
     replaced.new.steps replaced.result c.told.result c.requires.serves c.requires.streamed c.told.ensures
-    replaced.ensures.cost.0
+    replaced.ensures.costs
+
+pub returns-in-Replace-clause-counts : goal.returns-in-Replace-clause-counts
+returns-in-Replace-clause-counts g c =
+    let replaced = c.replace_stream-replaced in
+    let m = (as_built c.args.engine.now).dictionary in
+    counts-told (items_of Picks m) (plan_matches c.args.prepared.now)
+    (λ x. replaced-matches c.args.prepared.now m c.requires.serves.built.dictionary x
+    (sym c.mode.ensures ∙ c.in-Replace.is)) c.args.reader.now replaced.new.reader c.args.tally.now replaced.new.tally
+    replaced.result c.told.result c.told.ensures replaced.ensures.counts
 
 -- ---- the matches are listed
 
@@ -88,6 +82,15 @@ returns-in-List-clause-cost g c =
     streamed_cost c.args.prepared.now c.args.engine.now c.args.reader.now listed.new.reader c.args.steps.now
     listed.new.steps listed.result c.told-in-List.result c.requires.serves c.requires.streamed c.told-in-List.ensures
     listed.ensures.costs
+
+pub returns-in-List-clause-counts : goal.returns-in-List-clause-counts
+returns-in-List-clause-counts g c =
+    let listed = c.list_stream in
+    let m = (as_built c.args.engine.now).dictionary in
+    counts-told (items_of Picks m) (plan_matches c.args.prepared.now)
+    (λ x. listed-matches c.args.prepared.now m c.requires.serves.built.dictionary x
+    (sym c.mode.ensures ∙ c.in-List.is)) c.args.reader.now listed.new.reader c.args.tally.now listed.new.tally
+    listed.result c.told-in-List.result c.told-in-List.ensures listed.ensures.counts
 
 -- ---- all that overlap are listed
 
@@ -116,3 +119,12 @@ returns-in-Overlap-clause-cost g c =
     streamed_cost c.args.prepared.now c.args.engine.now c.args.reader.now listed.new.reader c.args.steps.now
     listed.new.steps listed.result c.told-in-Overlap.result c.requires.serves c.requires.streamed
     c.told-in-Overlap.ensures listed.ensures.costs
+
+pub returns-in-Overlap-clause-counts : goal.returns-in-Overlap-clause-counts
+returns-in-Overlap-clause-counts g c =
+    let listed = c.list_every in
+    let m = (as_built c.args.engine.now).dictionary in
+    counts-told (items_of Occurrences m) (plan_matches c.args.prepared.now)
+    (λ x. every-matches c.args.prepared.now m c.requires.serves.built.dictionary x
+    (sym c.mode.ensures ∙ c.in-Overlap.is)) c.args.reader.now listed.new.reader c.args.tally.now listed.new.tally
+    listed.result c.told-in-Overlap.result c.told-in-Overlap.ensures listed.ensures.counts

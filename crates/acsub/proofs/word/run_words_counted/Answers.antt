@@ -1,100 +1,70 @@
--- The result is the refusal, or the limit of the build, or that of the stream.
-use Rattle.std.proofs.Common.{Err, refl, true}
+-- The result is why nothing was prepared, or that of the run.
+use Rattle.std.proofs.Common.{Err, Ok, refl, true}
 use Rattle.std.proofs.lemmas.Result.{err_from_is_err_and}
+use Rattle.acsub.specs.Early.{as_early}
 use Rattle.acsub.specs.Plan.{plan_of}
-use Rattle.acsub.specs.WordRun.{WritesWords, for_words, looks_for_words, word_demand}
-use Rattle.acsub.proofs.early.EarlyLemmas.{early-refused, early-says, early-unbuilt, early_nothing, told-ok}
-use Rattle.acsub.proofs.word.WordRunLemmas.{words-costs, words-within}
+use Rattle.acsub.specs.WordRun.{AnswersWordRun, AreJobWords, CostsWordRun, WritesWords, for_words, looks_for_words, word_demand}
+use Rattle.acsub.proofs.early.EarlyLemmas.{early-unready, early_nothing}
+use Rattle.acsub.proofs.word.WordRunLemmas.{words-held, words-wanted}
 use Rattle.acsub.proofs.word.run_words_counted.Goals as goal
 
--- ---- words can't be searched for
+-- ---- nothing was prepared
 
-pub returns-in_err-check_words-clause-answered : goal.returns-in_err-check_words-clause-answered
-returns-in_err-check_words-clause-answered g c =
+pub returns-in_err-prepared-clause-answered : goal.returns-in_err-prepared-clause-answered
+returns-in_err-prepared-clause-answered g c =
     let p = err_from_is_err_and c.from_residual.result c.from_residual.ensures.1 in
     rw (p.1, p.2)
-    (early-refused (c.args.reader.now, c.args.writer.now) (c.args.reader.now, c.args.writer.now)
+    (early-unready (c.args.reader.now, c.args.writer.now) (c.args.reader.now, c.args.writer.now)
     (word_demand c.args.settings.now c.args.rules.now)
     (WritesWords g.R.Read.remaining g.W.Write.contents (c.args.reader.now, c.args.writer.now) (c.args.reader.now, c.args.writer.now)
-    c.args.settings.now c.args.rules.now) c.in_err-check_words.field-0.0 c.in_err-check_words.ensures.refused refl)
+    c.args.settings.now c.args.rules.now) c.in_err-prepared.field-0.0 c.in_err-prepared.ensures.refused refl)
 
-pub returns-in_err-check_words-clause-cost : goal.returns-in_err-check_words-clause-cost
-returns-in_err-check_words-clause-cost g c =
+pub returns-in_err-prepared-clause-cost : goal.returns-in_err-prepared-clause-cost
+returns-in_err-prepared-clause-cost g c =
     let p = err_from_is_err_and c.from_residual.result c.from_residual.ensures.1 in
     rw p.1
     (early_nothing (plan_of true (for_words c.args.settings.now) c.args.rules.now)
     (looks_for_words c.args.settings.now c.args.rules.now) 1 c.args.reader.now c.args.steps.now p.0)
 
--- ---- no automaton was built
+-- ---- the run
 
-pub returns-in_err-automaton-clause-answered : goal.returns-in_err-automaton-clause-answered
-returns-in_err-automaton-clause-answered g c =
-    let p = err_from_is_err_and c.from_residual-in_err-automaton.result c.from_residual-in_err-automaton.ensures.1 in
-    rw (p.1, p.2)
-    (early-unbuilt (c.args.reader.now, c.args.writer.now) (c.args.reader.now, c.args.writer.now)
-    (word_demand c.args.settings.now c.args.rules.now)
-    (WritesWords g.R.Read.remaining g.W.Write.contents (c.args.reader.now, c.args.writer.now) (c.args.reader.now, c.args.writer.now)
-    c.args.settings.now c.args.rules.now) c.in_ok-check_words.ensures.accepted c.in_err-automaton.field-0.0
-    (rw c.for_words.ensures at c.in_err-automaton.ensures.fails) refl)
+pub run_prepared_words-requires-clause-ready : goal.run_prepared_words-requires-clause-ready
+run_prepared_words-requires-clause-ready g c =
+    let p = c.in_ok-prepared.prepared in
+    words-held c.args.settings.now c.args.rules.now p c.in_ok-prepared.ensures.ready (λ s rs. AreJobWords s rs p)
+    c.in_ok-prepared.ensures.ready
 
-pub returns-in_err-automaton-clause-cost : goal.returns-in_err-automaton-clause-cost
-returns-in_err-automaton-clause-cost g c =
-    let p = err_from_is_err_and c.from_residual-in_err-automaton.result c.from_residual-in_err-automaton.ensures.1 in
-    rw p.1
-    (early_nothing (plan_of true (for_words c.args.settings.now) c.args.rules.now)
-    (looks_for_words c.args.settings.now c.args.rules.now) 1 c.args.reader.now c.args.steps.now p.0)
+pub returns-in_err-run_prepared_words-clause-answered : goal.returns-in_err-run_prepared_words-clause-answered
+returns-in_err-run_prepared_words-clause-answered g c =
+    let e = err_from_is_err_and c.from_residual-in_err-run_prepared_words.result
+    c.from_residual-in_err-run_prepared_words.ensures.1 in
+    let ran = c.run_prepared_words in
+    rw (e.1, e.2)
+    (words-wanted c.args.settings.now c.args.rules.now c.in_ok-prepared.prepared c.in_ok-prepared.ensures.ready
+    (λ s rs. AnswersWordRun g.R.Read.remaining g.W.Write.contents (c.args.reader.now, c.args.writer.now)
+    (ran.new.reader, ran.new.writer) s rs (as_early (Err c.in_err-run_prepared_words.field-0.0)))
+    c.in_err-run_prepared_words.ensures.answered)
 
--- ---- the text was written, or the stream stopped
-
-pub returns-in_err-told-clause-answered : goal.returns-in_err-told-clause-answered
-returns-in_err-told-clause-answered g c =
-    let p = err_from_is_err_and c.from_residual-in_err-told.result c.from_residual-in_err-told.ensures.1 in
-    let ac = c.in_ok-automaton.automaton in
-    let written = c.stream_words-written in
-    let fits = c.in_ok-check_words.ensures.accepted in
-    rw (p.1, p.2)
-    ((early-says (c.args.reader.now, c.args.writer.now) (written.new.reader, written.new.writer)
-    (word_demand c.args.settings.now c.args.rules.now)
-    (WritesWords g.R.Read.remaining g.W.Write.contents (c.args.reader.now, c.args.writer.now)
-    (written.new.reader, written.new.writer) c.args.settings.now c.args.rules.now) fits written.result c.told.result
-    c.told.ensures
-    (record {
-      searchable = fits;
-      within = words-within c.args.settings.now c.args.rules.now ac (rw c.for_words.ensures at c.in_ok-automaton.ensures.serves);
-      writes = written.ensures.writes;
-    }) written.ensures.memory).0
-    c.in_err-told.field-0.0 c.in_err-told.was)
-
-pub returns-in_err-told-clause-cost : goal.returns-in_err-told-clause-cost
-returns-in_err-told-clause-cost g c =
-    let p = err_from_is_err_and c.from_residual-in_err-told.result c.from_residual-in_err-told.ensures.1 in
-    let written = c.stream_words-written in
-    rw p.1
-    (words-costs c.args.settings.now c.args.rules.now c.in_ok-automaton.automaton c.args.reader.now written.new.reader
-    c.args.steps.now written.new.steps written.result (Err p.0)
-    (rw c.for_words.ensures at c.in_ok-automaton.ensures.serves) written.ensures.costs (λ e. cc))
+pub returns-in_err-run_prepared_words-clause-cost : goal.returns-in_err-run_prepared_words-clause-cost
+returns-in_err-run_prepared_words-clause-cost g c =
+    let e = err_from_is_err_and c.from_residual-in_err-run_prepared_words.result
+    c.from_residual-in_err-run_prepared_words.ensures.1 in
+    let ran = c.run_prepared_words in
+    rw (e.1, e.2)
+    (words-wanted c.args.settings.now c.args.rules.now c.in_ok-prepared.prepared c.in_ok-prepared.ensures.ready
+    (λ s rs. CostsWordRun s rs c.args.reader.now ran.new.reader c.args.steps.now ran.new.steps
+    (as_early (Err c.in_err-run_prepared_words.field-0.0))) c.in_err-run_prepared_words.ensures.cost)
 
 pub returns-clause-answered : goal.returns-clause-answered
 returns-clause-answered g c =
-    let ac = c.in_ok-automaton.automaton in
-    let written = c.stream_words-written in
-    let fits = c.in_ok-check_words.ensures.accepted in
-    (early-says (c.args.reader.now, c.args.writer.now) (written.new.reader, written.new.writer)
-    (word_demand c.args.settings.now c.args.rules.now)
-    (WritesWords g.R.Read.remaining g.W.Write.contents (c.args.reader.now, c.args.writer.now)
-    (written.new.reader, written.new.writer) c.args.settings.now c.args.rules.now) fits written.result c.told.result
-    c.told.ensures
-    (record {
-      searchable = fits;
-      within = words-within c.args.settings.now c.args.rules.now ac (rw c.for_words.ensures at c.in_ok-automaton.ensures.serves);
-      writes = written.ensures.writes;
-    }) written.ensures.memory).1
-    c.in_ok-told.was
+    let ran = c.run_prepared_words in
+    words-wanted c.args.settings.now c.args.rules.now c.in_ok-prepared.prepared c.in_ok-prepared.ensures.ready
+    (λ s rs. AnswersWordRun g.R.Read.remaining g.W.Write.contents (c.args.reader.now, c.args.writer.now)
+    (ran.new.reader, ran.new.writer) s rs (Ok tt)) c.in_ok-run_prepared_words.ensures.answered
 
 pub returns-clause-cost : goal.returns-clause-cost
 returns-clause-cost g c =
-    let written = c.stream_words-written in
-    words-costs c.args.settings.now c.args.rules.now c.in_ok-automaton.automaton c.args.reader.now written.new.reader
-    c.args.steps.now written.new.steps written.result _
-    (rw c.for_words.ensures at c.in_ok-automaton.ensures.serves) written.ensures.costs
-    (λ e. told-ok written.result c.told.result c.told.ensures c.in_ok-told.was)
+    let ran = c.run_prepared_words in
+    words-wanted c.args.settings.now c.args.rules.now c.in_ok-prepared.prepared c.in_ok-prepared.ensures.ready
+    (λ s rs. CostsWordRun s rs c.args.reader.now ran.new.reader c.args.steps.now ran.new.steps (Ok tt))
+    c.in_ok-run_prepared_words.ensures.cost

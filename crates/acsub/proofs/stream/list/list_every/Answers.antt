@@ -15,38 +15,47 @@ returns-in_err-output-clause-lists g c =
 
 pub returns-clause-lists : goal.returns-clause-lists
 returns-clause-lists g c =
-    let pumped = c.try_stream_pump_occurrences in
-    (occurrences-listed g.W.Write.contents (λ k. k.output) _
-    (record { output = c.in_ok-output.output }, c.args.writer.now) c.in_ok-output.ensures g.R.Read.remaining
+    let pumped = c.try_stream_pump_occurrences-listed in
+    (occurrences-listed g.W.Write.contents (λ k. k.output) (λ k. k.tally) (λ patterns k. Unit {0})
+    (record { output = c.in_ok-output.output; tally = c.args.tally.now }, c.args.writer.now) c.in_ok-output.ensures g.R.Read.remaining
     (as_built c.args.engine.now) (supported_by c.args.engine.now) c.args.reader.now pumped.new.reader
     (pumped.new.sink, pumped.new.writer) c.args.steps.now pumped.new.steps c.requires.can pumped.result
     pumped.ensures).lists
 
 pub returns-clause-costs : goal.returns-clause-costs
 returns-clause-costs g c =
-    let pumped = c.try_stream_pump_occurrences in
+    let pumped = c.try_stream_pump_occurrences-listed in
     costs-standard Occurrences (as_built c.args.engine.now) c.args.reader.now pumped.new.reader c.args.steps.now
     pumped.new.steps pumped.result c.requires.can.1
-    (occurrences-listed g.W.Write.contents (λ k. k.output) _
-    (record { output = c.in_ok-output.output }, c.args.writer.now) c.in_ok-output.ensures g.R.Read.remaining
+    (occurrences-listed g.W.Write.contents (λ k. k.output) (λ k. k.tally) (λ patterns k. Unit {0})
+    (record { output = c.in_ok-output.output; tally = c.args.tally.now }, c.args.writer.now) c.in_ok-output.ensures g.R.Read.remaining
     (as_built c.args.engine.now) (supported_by c.args.engine.now) c.args.reader.now pumped.new.reader
     (pumped.new.sink, pumped.new.writer) c.args.steps.now pumped.new.steps c.requires.can pumped.result
     pumped.ensures).costs
 
+pub returns-clause-counts : goal.returns-clause-counts
+returns-clause-counts g c =
+    let pumped = c.try_stream_pump_occurrences-listed in
+    (occurrences-listed g.W.Write.contents (λ k. k.output) (λ k. k.tally) (λ patterns k. Unit {0})
+    (record { output = c.in_ok-output.output; tally = c.args.tally.now }, c.args.writer.now) c.in_ok-output.ensures g.R.Read.remaining
+    (as_built c.args.engine.now) (supported_by c.args.engine.now) c.args.reader.now pumped.new.reader
+    (pumped.new.sink, pumped.new.writer) c.args.steps.now pumped.new.steps c.requires.can pumped.result
+    pumped.ensures).counts
+
 pub returns-clause-memory : goal.returns-clause-memory
 returns-clause-memory g c =
-    let pumped = c.try_stream_pump_occurrences in
-    (occurrences-listed g.W.Write.contents (λ k. k.output) _
-    (record { output = c.in_ok-output.output }, c.args.writer.now) c.in_ok-output.ensures g.R.Read.remaining
+    let pumped = c.try_stream_pump_occurrences-listed in
+    (occurrences-listed g.W.Write.contents (λ k. k.output) (λ k. k.tally) (λ patterns k. Unit {0})
+    (record { output = c.in_ok-output.output; tally = c.args.tally.now }, c.args.writer.now) c.in_ok-output.ensures g.R.Read.remaining
     (as_built c.args.engine.now) (supported_by c.args.engine.now) c.args.reader.now pumped.new.reader
     (pumped.new.sink, pumped.new.writer) c.args.steps.now pumped.new.steps c.requires.can pumped.result
     pumped.ensures).memory
 
 pub returns-clause-accepted : goal.returns-clause-accepted
 returns-clause-accepted g c =
-    let pumped = c.try_stream_pump_occurrences in
-    (occurrences-listed g.W.Write.contents (λ k. k.output) _
-    (record { output = c.in_ok-output.output }, c.args.writer.now) c.in_ok-output.ensures g.R.Read.remaining
+    let pumped = c.try_stream_pump_occurrences-listed in
+    (occurrences-listed g.W.Write.contents (λ k. k.output) (λ k. k.tally) (λ patterns k. Unit {0})
+    (record { output = c.in_ok-output.output; tally = c.args.tally.now }, c.args.writer.now) c.in_ok-output.ensures g.R.Read.remaining
     (as_built c.args.engine.now) (supported_by c.args.engine.now) c.args.reader.now pumped.new.reader
     (pumped.new.sink, pumped.new.writer) c.args.steps.now pumped.new.steps c.requires.can pumped.result
     pumped.ensures).accepted

@@ -1,0 +1,196 @@
+//! A report on rules, for `--check`.
+//!
+//! The report counts the rules and those that replace by nothing, and names the shortest pattern and the longest. In modes `replace` and
+//! `list` it also names what a reader of the rules may not expect:
+//!
+//! - *Patterns that are never the match.* A pattern is the match of some text exactly if it is the first match in its own bytes: what
+//!   is preferred to it there lies within these bytes, so it is preferred in every text. So each pattern is searched with the automaton
+//!   of the kind, and the match that is found in its place is the reason. Under the standard kind that is a pattern that ends before
+//!   it does, under leftmost-first one of an earlier line with which it begins, and under every kind an equal one of an earlier line.
+//!   With `--word` only whole words are found, in the pattern too; of bytes that are the same a word byte is searched there, if one is.
+//! - *Pairs that overlap*, of whose text a part may stay as it is or be matched otherwise ([`overlaps`]).
+//!
+//! In the other modes every occurrence counts, so neither is named. A line is that of the rule file, or the place among the arguments.
+ghost use Rattle.std.specs.Prelude.{◌≡◌};
+ghost use Rattle.acsub.specs.declared.args.settings.Engine.TheVariants.{Auto};
+
+mod overlaps;
+mod trie;
+
+use crate::args::Words;
+use crate::args::settings::{Engine, Mode, Settings};
+use crate::check::overlaps::{Pairs, find_pairs, is_word_byte};
+use crate::error::RunError;
+use crate::prepared::automaton_for;
+use crate::rules::Rules;
+use ac_input::pairing::Pairing;
+use ac_input::search::{Input, Match, MatchKind};
+use aho_corasick::AhoCorasick;
+use std::alloc::{AllocError, Global};
+
+/// The most pairs that are named.
+const NAMED: usize = 100;
+
+/// The report on rules by which a job can be made.
+pub fn report_of(alloc: Global, asked: &Words<'_>, rules: &Rules) -> Result<String, RunError> {
+    let mut report = String::new(alloc);
+    write_counts(&mut report, rules)?;
+    if asked.mask.is_none() && asked.settings.mode != Mode::Overlap {
+        write_hidden(&mut report, alloc, asked, rules)?;
+        let pairs = find_pairs(alloc, rules, &asked.settings.pairing, asked.word)?;
+        write_pairs(&mut report, &pairs)?;
+    }
+    Ok(report)
+}
+
+/// Writes how many rules there are, and how long.
+fn write_counts(report: &mut String, rules: &Rules) -> Result<(), AllocError> {
+    let mut empty = 0usize;
+    let (mut shortest, mut longest) = (0, 0);
+    for i in 0..rules.len() {
+        if rules.replacement(i).is_empty() {
+            empty = empty.saturating_add(1);
+        }
+        if length_of(rules, i) < length_of(rules, shortest) {
+            shortest = i;
+        }
+        if length_of(rules, i) > length_of(rules, longest) {
+            longest = i;
+        }
+    }
+    writeln!(report, "rules: {}", rules.len())?;
+    writeln!(report, "without replacement: {empty}")?;
+    write_length(report, "shortest", rules, shortest)?;
+    write_length(report, "longest", rules, longest)
+}
+
+/// How many bytes a pattern has; none where there is no such rule.
+fn length_of(rules: &Rules, i: usize) -> usize {
+    if i < rules.len() {
+        rules.pattern(i).len()
+    } else {
+        0
+    }
+}
+
+/// Writes how long a pattern is, if there is one.
+fn write_length(
+    report: &mut String,
+    which: &str,
+    rules: &Rules,
+    i: usize,
+) -> Result<(), AllocError> {
+    if i >= rules.len() {
+        return Ok(());
+    }
+    let length = rules.pattern(i).len();
+    let unit = if length == 1 { "byte" } else { "bytes" };
+    let line = line_of(i);
+    writeln!(report, "{which} pattern: {length} {unit} (line {line})")
+}
+
+/// The line of a rule.
+fn line_of(i: usize) -> usize {
+    i.saturating_add(1)
+}
+
+// ---- patterns that are never the match
+
+/// Writes a line for each pattern that is never the match.
+fn write_hidden(
+    report: &mut String,
+    alloc: Global,
+    asked: &Words<'_>,
+    rules: &Rules,
+) -> Result<(), RunError> {
+    let automaton = automaton_for(alloc, &searched(asked), rules)?;
+    for i in 0..rules.len() {
+        if let Some(first) = first_in(alloc, &automaton, asked, rules.pattern(i))? {
+            let by = first.pattern().as_usize();
+            if by != i {
+                write_reason(report, i, &first, rules, asked.settings.kind)?;
+            }
+        }
+    }
+    Ok(())
+}
+
+/// The settings by which patterns are searched: packed search keeps its kind, but an automaton serves it, and whole words are looked
+/// for by one of the standard kind.
+fn searched(asked: &Words<'_>) -> Settings
+    ensures { result.engine ≡ Auto }
+{
+    let mut settings = asked.settings;
+    settings.engine = Engine::Auto;
+    if asked.word {
+        settings.kind = MatchKind::Standard;
+    }
+    settings
+}
+
+/// The first match in these bytes, or the first whole word.
+fn first_in(
+    alloc: Global,
+    automaton: &AhoCorasick,
+    asked: &Words<'_>,
+    bytes: &[u8],
+) -> Result<Option<Match>, AllocError> {
+    if asked.word {
+        let spelled = spelled(alloc, &asked.settings.pairing, bytes)?;
+        let kind = asked.settings.kind;
+        match automaton.try_find_word_iter(kind, spelled.as_slice()) {
+            Ok(mut words) => Ok(words.next()),
+            Err(_) => Ok(None),
+        }
+    } else {
+        Ok(automaton.try_find(Input::new(bytes)).ok().flatten())
+    }
+}
+
+/// These bytes, each by the word byte that is the same, if there is one. The fewest whole words lie in them.
+fn spelled(alloc: Global, pairing: &Pairing, bytes: &[u8]) -> Result<Vec<u8>, AllocError> {
+    let mut spelled = Vec::with_capacity(alloc, bytes.len())?;
+    for byte in bytes {
+        let other = pairing.other(*byte);
+        spelled.push(if is_word_byte(*byte) { *byte } else { other })?;
+    }
+    Ok(spelled)
+}
+
+/// Writes that a pattern is never the match, since another one is the first in it.
+fn write_reason(
+    report: &mut String,
+    i: usize,
+    first: &Match,
+    rules: &Rules,
+    kind: MatchKind,
+) -> Result<(), AllocError> {
+    let by = first.pattern().as_usize();
+    let length = length_of(rules, i);
+    let why = if first.end() >= length {
+        "is the same"
+    } else if kind == MatchKind::Standard {
+        "lies in it and ends first"
+    } else {
+        "begins it and comes first"
+    };
+    let (line, other) = (line_of(i), line_of(by));
+    writeln!(report, "line {line} is never found: line {other} {why}")
+}
+
+// ---- pairs that overlap
+
+/// Writes a line for each of the first pairs, and how many more there are.
+fn write_pairs(report: &mut String, pairs: &Pairs) -> Result<(), AllocError> {
+    for (a, b) in pairs.all.iter().take(NAMED) {
+        writeln!(report, "lines {} and {} overlap", line_of(*a), line_of(*b))?;
+    }
+    let more = pairs.all.len().saturating_sub(NAMED);
+    if !pairs.whole {
+        writeln!(report, ".. and at least {more} more")
+    } else if more > 0 {
+        writeln!(report, ".. and {more} more")
+    } else {
+        Ok(())
+    }
+}

@@ -1,0 +1,255 @@
+//! Runs over FILEs.
+//!
+//! The job is made once, and each FILE is an input of its own: it is opened, run over and closed before the next. A FILE that can't be
+//! read is named on the error stream, and the others go on. What else stops a run ends them all. The FILE `-` is standard input; a
+//! second `-` is empty, since nothing is read after its end.
+ghost use Rattle.std.specs.Prelude.{◌≡◌, ◌<◌, OnOk, false};
+ghost use Rattle.acsub.specs.Jobs.{IsJobReady, RanJob};
+ghost use Rattle.acsub.specs.Files.{RanOne, VisitsFile, stop_for};
+
+use crate::args::Words;
+use crate::args::settings::Mode;
+use crate::error::RunError;
+use crate::in_place::rewrite;
+use crate::job::Job;
+use crate::labelled::Labelled;
+use crate::rules::Rules;
+use crate::tally::Tally;
+use crate::task::Task;
+use crate::tool::Fault;
+use ac_automaton::watched::Watched;
+use std::fmt::Display;
+use std::io::{Read, Write};
+use std::rt::Files;
+use std::time::Clock;
+use std::{fmt, fs};
+
+/// What keeps a FILE from being read or written, while the others go on.
+#[derive(Clone, Copy)]
+pub enum FileFault {
+    /// It can't be opened.
+    Unreadable,
+    /// A read failed.
+    Read,
+    /// It is to be rewritten, and is no regular file.
+    NotRegular,
+    /// The new file can't have the old one's owner.
+    Owner,
+    /// The new file can't be written, or can't take the old one's place.
+    Unwritable,
+}
+
+impl FileFault {
+    /// The status with which the program ends if this is the first fault.
+    pub fn status(&self) -> u8
+        ensures { 0 < result }
+    {
+        match self {
+            FileFault::Unreadable | FileFault::Read | FileFault::NotRegular => 5,
+            FileFault::Owner | FileFault::Unwritable => 6,
+        }
+    }
+}
+
+impl Display for FileFault {
+    fn fmt<W: fmt::Write>(&self, f: &mut fmt::Formatter<W>) -> fmt::Result {
+        match self {
+            FileFault::Unreadable => write!(f, "cannot be read"),
+            FileFault::Read => write!(f, "read failed"),
+            FileFault::NotRegular => write!(f, "not a regular file"),
+            FileFault::Owner => write!(f, "owner cannot be kept"),
+            FileFault::Unwritable => write!(f, "cannot be written"),
+        }
+    }
+}
+
+/// Why a FILE wasn't run over to its end.
+#[derive(Drop)]
+pub enum Stop {
+    /// Something is wrong with it; the others go on.
+    File(FileFault),
+    /// Something that ends the program.
+    All(Fault),
+}
+
+impl From<FileFault> for Stop {
+    fn from(fault: FileFault) -> Stop {
+        Stop::File(fault)
+    }
+}
+
+/// Why a run over a FILE stopped.
+pub fn stop_for(error: RunError) -> Stop
+    ensures { result ≡ stop_for error }
+{
+    match error {
+        RunError::Read(_) => Stop::File(FileFault::Read),
+        error => Stop::All(Fault::Run(error)),
+    }
+}
+
+/// What the runs over all inputs came to.
+#[derive(Drop)]
+pub struct Report {
+    /// How much was found.
+    pub tally: Tally,
+    /// The status of the first FILE that could not be read or written; 0 where there is none.
+    pub status: u8,
+}
+
+impl Report {
+    /// Nothing was run over yet.
+    pub fn new() -> Report
+        ensures { result.status ≡ 0 }
+    {
+        Report {
+            tally: Tally::new(),
+            status: 0,
+        }
+    }
+}
+
+/// Runs by these rules over all FILEs.
+pub fn run_files<F: Files + Clock + Drop + Eprint, R: Read, W: Write, E: Write>(
+    task: &Task<'_, '_, '_, F>,
+    rules: &Rules,
+    reader: &mut Watched<R>,
+    writer: &mut Watched<W>,
+    errors: &mut E,
+    report: &mut Report,
+) -> Result<(), Fault>
+    requires { report.old.status ≡ 0 }
+    ensures { OnOk result (report.new.status ≡ 0 → errors.new ≡ errors.old) }
+{
+    let job = task.job(rules)?;
+    for path in task.asked.files.as_slice() {
+        let visited = visit(task, &job, path, reader, writer, &mut report.tally);
+        task.meter.stop();
+        match visited {
+            Ok(()) => {}
+            Err(Stop::File(fault)) => note(path, fault, errors, report),
+            Err(Stop::All(fault)) => return Err(fault),
+        }
+    }
+    Ok(())
+}
+
+/// Names a FILE on the error stream, and keeps the status of the first.
+fn note<E: Write>(path: &str, fault: FileFault, errors: &mut E, report: &mut Report)
+    ensures { 0 < report.new.status }
+{
+    let _ = writeln!(errors, "acsub: {path}: {fault}");
+    if report.status == 0 {
+        report.status = fault.status();
+    }
+}
+
+/// Rewrites a FILE, or writes what the job makes of it.
+fn visit<F: Files + Clock + Drop + Eprint, R: Read, W: Write>(
+    task: &Task<'_, '_, '_, F>,
+    job: &Job<'_>,
+    path: &str,
+    reader: &mut Watched<R>,
+    writer: &mut Watched<W>,
+    tally: &mut Tally,
+) -> Result<(), Stop>
+    requires { IsJobReady job.now }
+{
+    if task.asked.in_place {
+        rewrite(task, job, path, tally)
+    } else if is_labelled(task.asked) {
+        let mut lines = Watched::new(Labelled::new(task.alloc, path, writer));
+        run_input(task, job, path, reader, &mut lines, tally)
+    } else {
+        run_input(task, job, path, reader, writer, tally)
+    }
+}
+
+/// Whether each line is to have the path of its FILE.
+fn is_labelled(asked: &Words<'_>) -> bool {
+    let lists = asked.mask.is_none() && asked.settings.mode != Mode::Replace;
+    lists && asked.files.len() > 1
+}
+
+/// Runs over standard input or a file, as the path says.
+fn run_input<F: Files + Clock + Drop + Eprint, R: Read, W: Write>(
+    task: &Task<'_, '_, '_, F>,
+    job: &Job<'_>,
+    path: &str,
+    reader: &mut Watched<R>,
+    writer: &mut Watched<W>,
+    tally: &mut Tally,
+) -> Result<(), Stop>
+    requires { IsJobReady job.now }
+{
+    if path != "-" {
+        return run_file(task, job, path, writer, tally);
+    }
+    if reader.ended() {
+        let mut nothing: Watched<&[u8]> = Watched::new(&[]);
+        return run_one(task, job, &mut nothing, writer, tally);
+    }
+    task.start_input();
+    run_one(task, job, reader, writer, tally)
+}
+
+/// Opens a file and runs over it.
+fn run_file<F: Files + Clock + Drop + Eprint, W: Write>(
+    task: &Task<'_, '_, '_, F>,
+    job: &Job<'_>,
+    path: &str,
+    writer: &mut Watched<W>,
+    tally: &mut Tally,
+) -> Result<(), Stop>
+    requires { IsJobReady job.now }
+    ensures { VisitsFile F F.File.remaining W.contents job.now writer.old writer.new result }
+{
+    let Ok(file) = fs::open(task.rt(), path) else {
+        return Err(Stop::File(FileFault::Unreadable));
+    };
+    task.start_file(&file);
+    let Ok(mut input) = task.watch(file) else {
+        return Err(Stop::All(Fault::Run(RunError::Memory)));
+    };
+    run_one(task, job, &mut input, writer, tally)
+}
+
+/// Runs over an input; a failed read is the FILE's.
+fn run_one<F: Files + Clock + Drop + Eprint, R: Read, W: Write>(
+    task: &Task<'_, '_, '_, F>,
+    job: &Job<'_>,
+    reader: &mut Watched<R>,
+    writer: &mut Watched<W>,
+    tally: &mut Tally,
+) -> Result<(), Stop>
+    requires open { reader.old.ended ≡ false }
+    requires ready { IsJobReady job.now }
+    ensures { RanOne R.remaining W.contents (reader.old, writer.old) (reader.new, writer.new) job.now result }
+{
+    match run_over(task, job, reader, writer, tally) {
+        Ok(()) => Ok(()),
+        Err(error) => Err(stop_for(error)),
+    }
+}
+
+/// Runs over an input, and counts what is found.
+pub fn run_over<F: Files + Clock + Drop + Eprint, R: Read, W: Write>(
+    task: &Task<'_, '_, '_, F>,
+    job: &Job<'_>,
+    reader: &mut Watched<R>,
+    writer: &mut Watched<W>,
+    tally: &mut Tally,
+) -> Result<(), RunError>
+    requires open { reader.old.ended ≡ false }
+    requires ready { IsJobReady job.now }
+    ensures { RanJob R.remaining W.contents (reader.old, writer.old) (reader.new, writer.new) job.now result }
+{
+    task.meter.watch_mask(task.asked.mask);
+    match job.run(task.alloc, reader, writer, tally) {
+        Ok(()) => {
+            tally.add(task.meter.masked());
+            Ok(())
+        }
+        Err(error) => Err(error),
+    }
+}

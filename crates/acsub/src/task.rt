@@ -1,0 +1,84 @@
+//! What the program was asked for, and what serves it.
+ghost use Rattle.std.specs.Prelude.{◌↔◌, IfErr, IfOk, IsTrue};
+ghost use Rattle.acsub.specs.Outcome.{HasOneInput};
+ghost use Rattle.acsub.specs.Files.{IsJobOf, IsNoJobOf, IsWatched};
+ghost use Rattle.acsub.specs.Jobs.{IsJobReady};
+
+use crate::args::Words;
+use crate::early::EarlyError;
+use crate::job::Job;
+use crate::progress::{Meter, Metered};
+use crate::rules::Rules;
+use ac_automaton::watched::Watched;
+use std::alloc::{AllocError, Global};
+use std::fs::{self, Metadata, OpenFile};
+use std::io;
+use std::rc::Rc;
+use std::rt::Files;
+use std::time::Clock;
+
+/// Where standard input is seen as a file.
+const STDIN: &str = "/dev/stdin";
+
+/// What was asked for, and what all runs of the program share.
+#[derive(Drop)]
+pub struct Task<'m, 'w, 't, F> {
+    pub alloc: Global,
+    pub asked: &'w Words<'t>,
+    pub meter: &'m Rc<Meter<F>>,
+}
+
+impl<F: Files + Clock + Drop + Eprint> Task<'_, '_, '_, F> {
+    /// What the program runs on.
+    pub fn rt(&self) -> &F {
+        self.meter.runtime()
+    }
+
+    /// A file that is watched, by the meter too.
+    pub fn watch(&self, file: F::File) -> Result<Watched<Metered<F::File, F>>, AllocError>
+        ensures { IfOk result (IsWatched file) }
+    {
+        Ok(Watched::new(Metered::new(file, self.meter.clone()?)))
+    }
+
+    /// Whether standard input alone is run over.
+    pub fn has_one_input(&self) -> bool
+        ensures { IsTrue result ↔ HasOneInput self.now.asked.now }
+    {
+        self.asked.files.is_empty() && !self.asked.check
+    }
+
+    /// The job that is asked for, by these rules.
+    pub fn job<'r>(&self, rules: &'r Rules) -> Result<Job<'r>, EarlyError>
+        ensures made { IfOk result (IsJobOf self.now.asked.now rules.entry.now) }
+        ensures ready { IfOk result IsJobReady }
+        ensures refused { IfErr result (IsNoJobOf self.now.asked.now rules.entry.now) }
+    {
+        let asked = self.asked;
+        let (stream, word, mask) = (asked.stream, asked.word, asked.mask);
+        Job::new(self.alloc, &asked.settings, stream, word, mask, rules)
+    }
+
+    /// Begins to show how far standard input is read, if that is asked for.
+    pub fn start_input(&self) {
+        if self.asked.progress {
+            self.start(fs::metadata(self.rt(), STDIN));
+        }
+    }
+
+    /// Begins to show how far a file is read, if that is asked for.
+    pub fn start_file(&self, file: &F::File) {
+        if self.asked.progress {
+            self.start(file.metadata());
+        }
+    }
+
+    /// Begins to show how far an input is read, if it is a file, whose size is known.
+    fn start(&self, about: io::Result<Metadata>) {
+        if let Ok(about) = about {
+            if about.is_file() {
+                self.meter.start(about.len());
+            }
+        }
+    }
+}

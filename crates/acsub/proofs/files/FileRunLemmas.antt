@@ -1,5 +1,5 @@
 -- What a run over a file that was just opened came to, a visit of the file returns.
-use Rattle.std.proofs.Common.{◌≡◌, ℕ, List, Option, Result, Ok, Err, inl, inr}
+use Rattle.std.proofs.Common.{ℕ, List, Option, Result, Ok, Err, inr}
 use Rattle.ac_automaton.specs.Stream.Devices.Watched.{IsFresh}
 use Rattle.ac_automaton.specs.declared.stream.devices.watched.Watched.{Watched}
 use Rattle.acsub.specs.Files.{RanOne, RanOverFile, VisitsFile, behind}

@@ -1,5 +1,5 @@
 -- A run over standard input, by what was asked for.
-use Rattle.std.proofs.Common.{◌≡◌, ◌↔◌, ℕ, List, Option, Result, Ok, Err}
+use Rattle.std.proofs.Common.{◌≡◌, ◌↔◌, ℕ, List, Option, Result, Err}
 use Rattle.ac_input.specs.Rules.{Rule}
 use Rattle.ac_automaton.specs.declared.stream.devices.watched.Watched.{Watched}
 use Rattle.acsub.specs.Early.{as_early}

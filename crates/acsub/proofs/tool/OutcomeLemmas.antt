@@ -1,5 +1,5 @@
 -- What the outcome of the program says of the run, the help and the flush.
-use Rattle.std.proofs.Common.{◌≡◌, ◌≢◌, ◌⊎◌, inl, inr, ℕ, Bool, true, false, List, Option, Some, None, Result, Ok, Err, refl, sym, ap, ◌∙◌, subst}
+use Rattle.std.proofs.Common.{◌≡◌, ◌≢◌, ◌⊎◌, inl, inr, ℕ, List, Option, Result, Ok, Err, refl, sym, ap, ◌∙◌, subst}
 use Rattle.std.proofs.Math.Nat.{suc-ne-zero}
 use Rattle.std.specs.Prelude.{IfErr, IfOk, String, Vec}
 use Rattle.std.specs.declared.alloc.Global.{Global}

@@ -14,7 +14,7 @@ use std::alloc::{AllocError, Global};
 use std::ops::Range;
 
 /// How many candidates are looked at.
-const MOST: usize = 1_000_000;
+const MOST: usize = 250_000;
 
 /// Pairs of rules that overlap.
 #[derive(Drop)]

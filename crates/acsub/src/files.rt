@@ -244,7 +244,7 @@ pub fn run_over<F: Files + Clock + Drop + Eprint, R: Read, W: Write>(
     requires ready { IsJobReady job.now }
     ensures { RanJob R.remaining W.contents (reader.old, writer.old) (reader.new, writer.new) job.now result }
 {
-    task.meter.watch_mask(task.asked.mask);
+    task.meter.watch_mask(task.counted_mask());
     match job.run(task.alloc, reader, writer, tally) {
         Ok(()) => {
             tally.add(task.meter.masked());

@@ -59,6 +59,15 @@ impl<F: Files + Clock + Drop + Eprint> Task<'_, '_, '_, F> {
         Job::new(self.alloc, &asked.settings, stream, word, mask, rules)
     }
 
+    /// The mask whose bytes are to be counted: to count them takes time, so it is done only where their number is asked for.
+    pub fn counted_mask(&self) -> Option<u8> {
+        if self.asked.count || self.asked.fail_if_none {
+            self.asked.mask
+        } else {
+            None
+        }
+    }
+
     /// Begins to show how far standard input is read, if that is asked for.
     pub fn start_input(&self) {
         if self.asked.progress {

@@ -4,7 +4,7 @@ use Rattle.ac_input.specs.Occurrence.{Occurrence}
 use Rattle.ac_input.specs.Steps.{Done}
 use Rattle.ac_input.specs.declared.search.MatchKind.TheVariants.{Standard}
 use Rattle.ac_input.specs.declared.steps.Steps.{Steps}
-use Rattle.ac_automaton.specs.InMemory.Iter.{IsWithinBudget, Walk, walk_kind, left_of}
+use Rattle.ac_automaton.specs.InMemory.Iter.{IsWithinBudgetAhead, Walk, walk_kind, left_of}
 use Rattle.ac_automaton.specs.InMemory.Overlapping.OverlappingIter.{IsWithinOneWalk, Run, rest_of}
 use Rattle.acsub.specs.Plan.{Plan}
 use Rattle.acsub.specs.Served.{AreLooksFor, IsServedByDfa}
@@ -29,7 +29,7 @@ pub record IsWalkCounted (plan : Plan) (n : ℕ) (begun now : Steps) (walk : Wal
   pub kind : walk_kind walk ≡ plan.settings.kind
   pub looks : IsServedByDfa plan.settings plan.rules → IsTrue walk.built.deterministic
   pub within : walk.asked.span.end ≤ n
-  pub paid : IsWithinBudget walk
+  pub paid : IsWithinBudgetAhead walk
 
 -- All that was counted since `begun` is what a run through all occurrences counted. The run spans at most n bytes, and
 -- its automaton is deterministic where a DFA serves.

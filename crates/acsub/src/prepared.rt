@@ -95,7 +95,7 @@ impl<'r> Prepared<'r> {
     {
         match &self.finder {
             Finder::Automaton(automaton) => {
-                Matches::Walk(automaton.try_find_iter(Input::new(input)).unwrap())
+                Matches::Walk(automaton.try_find_iter_ahead(Input::new(input)).unwrap())
             }
             Finder::Packed(searcher) => Matches::Packed(searcher.find_iter(input)),
         }

@@ -8,7 +8,7 @@ use Rattle.ac_input.specs.Input.{Asked, whole_of, search_of}
 use Rattle.ac_input.specs.Occurrence.{Occurrence}
 use Rattle.ac_input.specs.Work.{lookups_per_byte}
 use Rattle.ac_input.specs.declared.steps.Steps.{Steps}
-use Rattle.ac_automaton.specs.InMemory.Iter.{AnswersFindIter, IsWithinBudget, Walk, WalkCounts, fresh_walk, passed, walk_after_pick}
+use Rattle.ac_automaton.specs.InMemory.Iter.{AnswersFindIter, IsWithinBudgetAhead, Walk, WalkCounts, fresh_walk, passed, walk_after_pick}
 use Rattle.ac_automaton.specs.InMemory.Overlapping.OverlappingIter.{AnswersListing, IsRunAfter, IsWithinOneWalk, Run, RunCounts, fresh_run}
 use Rattle.ac_automaton.specs.InMemory.Replace.{matches_in}
 use Rattle.ac_automaton.specs.Stream.{read_again}
@@ -47,7 +47,7 @@ walk-asked w v (Some o) after = ap (λ u. u.asked) after
 -- the next match of a walk was counted
 pub walk-counted : (w v : Walk) (r : Option Occurrence) (before after : Steps)
     → (v ≡ record (walk_after_pick w r) { looked = v.looked; scanned = v.scanned; moved = v.moved })
-    → WalkCounts w v before after → IsWithinBudget v
+    → WalkCounts w v before after → IsWithinBudgetAhead v
     → (plan : Plan) (n : ℕ) (begun : Steps) → IsWalkCounted plan n begun before w → IsWalkCounted plan n begun after v
 walk-counted w v r before after goes (states, places, bytes, done, looked, scanned, moved) paid plan n begun h =
     let built = walk-built w v r goes in
@@ -96,7 +96,7 @@ module _ (plan : Plan) (ac : AhoCorasick) (input : List ℕ) (serves : IsServing
         kind = ap (λ m. m.kind) serves.built.dictionary;
         looks = serving-looks plan.settings plan.rules ac serves;
         within = omega arith;
-        paid = record { looked = λ _. omega arith; scanned = omega arith; moved = refl };
+        paid = record { looked = λ _. omega arith; near = λ _. omega arith; scanned = omega arith; moved = refl };
       }
 
   listing-uncounted : IsListingCounted plan (length input) now now (fresh_run (as_built ac) (whole_of input))
@@ -162,10 +162,13 @@ pub counted-cost : (plan : Plan) (n : ℕ) (before after : Steps) (matches : Mat
 counted-cost plan n before after (sources.Walk walk) h =
     let counted = h.counted in
     let paid = h.paid in
-    let le : passed walk ≤ n = let within = h.within in omega arith in
+    let within = h.within in
+    let le : passed walk ≤ n = omega arith in
+    let long : walk.asked.span.end - walk.asked.span.start ≤ n = omega arith in
     record {
-      looked = λ standard. looks-for plan walk.built.deterministic walk.looked (passed walk) n before after h.looks le
-          (paid.looked (h.kind ∙ standard)) (omega (arith, counted.looked));
+      looked = λ standard. looks-for plan walk.built.deterministic walk.looked
+          (walk.asked.span.end - walk.asked.span.start) n before after h.looks long (paid.looked (h.kind ∙ standard))
+          (omega (arith, counted.looked));
       scanned = omega (arith, counted.scanned, paid.scanned, le);
       moved = omega (arith, counted.moved, paid.moved);
     }

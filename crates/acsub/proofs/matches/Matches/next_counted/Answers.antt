@@ -11,7 +11,7 @@ returns-in-Walk-clause-yields c =
 pub returns-in-Walk-clause-counts : goal.returns-in-Walk-clause-counts
 returns-in-Walk-clause-counts c =
     λ plan n begun h.
-    walk-counted _ _ _ _ _ c.next_counted.ensures.gives.1 c.next_counted.ensures.cost.0 c.next_counted.ensures.cost.3
+    walk-counted _ _ _ _ _ c.next_counted.ensures.gives.1 c.next_counted.ensures.cost.0 c.next_counted.ensures.cost.1
     plan n begun (rw c.in-Walk.is at h)
 
 pub returns-in-Overlapping-clause-counts : goal.returns-in-Overlapping-clause-counts

@@ -19,4 +19,4 @@ returns-in-Automaton-clause-fresh c =
     let inside = plan_of c.self.inside.stream c.self.inside.settings c.self.inside.rules.now in
     let serves = subst (λ finder. IsFinderOf inside.settings inside.rules finder) c.in-Automaton.is c.self.invariant in
     walk-fresh c.in-Automaton.automaton inside c.args.self.now c.args.input.now _ _ _ c.self.view_is serves
-    c.try_find_iter.ensures.answer c.unwrap.ensures c.new.ensures
+    c.try_find_iter_ahead.ensures.answer c.unwrap.ensures c.new.ensures

@@ -6,7 +6,7 @@
 //!
 //! Where they take little memory, there are rows beside the words, as those of a DFA: all failures are followed beforehand. A search
 //! that isn't anchored reads on by them, and is about as fast as by a DFA. How much memory they may take is a setting of the
-//! [builder](Builder::row_memory). Where rows for all states would take more, states near the start alone have some, since a search
+//! [builder](Builder::row_memory). Where rows for all states would take more, states near the start alone may have some, since a search
 //! spends most of its time there. Rows change no result and no number of a state.
 //!
 //! The words of a state are, in this order:

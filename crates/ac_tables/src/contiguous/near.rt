@@ -1,7 +1,8 @@
 //! How the rows of the states near the start are made, where rows for all states would take too much memory.
 //!
-//! The states are found from the start on, breadth first, to a depth of 16: those that come after the states that match. Then each row
-//! is filled by look-ups in the words. The first takes a look-up for each state that gets a row and each class of bytes, the second
+//! The states are found from the start on, breadth first, to a depth of 16. Each has to come after those found before it, so that the
+//! places rise; where that leaves out more than half of the states for which there is room, there are no rows. Then each row is filled
+//! by look-ups in the words. The first takes a look-up for each state that gets a row and each class of bytes, the second
 //! one for each failure on the way, too: as many as the state is deep, at most.
 ghost use Rattle.std.specs.Prelude.{ℕ, ◌≡◌, ◌≢◌, ◌+◌, ◌*◌, ◌^◌, ◌<◌, ◌≤◌, false, None, length, slice_index, IfOk, IfSome};
 ghost use Rattle.ac_input.specs.Alphabet.{alphabet_len, IsLeastExponent};
@@ -222,7 +223,8 @@ impl NFA {
         }
     }
 
-    /// The rows of as many states near the start as may have some, if they take at most this many bytes.
+    /// The rows of as many states near the start as may have some, if they take at most this many bytes; none where so few were found
+    /// that most bytes would be read in other states, for which the words alone are faster.
     fn rows_near(&self, alloc: Global, memory: usize) -> Result<Option<Rows>, AllocError>
         requires alone { self.now.rows ≡ None }
         requires alike { ClassesLeadAlike (contiguous_dictionary self.now) self.now.table.classes }
@@ -235,6 +237,9 @@ impl NFA {
         }
         let bytes = bytes_of(alloc, &self.table.classes)?;
         let places = self.places_near(alloc, &bytes, most)?;
+        if places.len() < most / 2 {
+            return Ok(None);
+        }
         let mut near = blank(alloc, places, stride2)?;
         self.fill(&bytes, &mut near);
         Ok(Some(near))

@@ -2,12 +2,14 @@
 use Rattle.std.specs.Prelude.{◌≡◌, ℕ, Bool, true, false, List, Option, Some, None, Result, Ok, Err}
 use Rattle.ac_input.specs.Rules.{Rule}
 use Rattle.ac_automaton.specs.declared.stream.devices.watched.Watched.{Watched}
+use Rattle.aho_corasick.specs.declared.ahocorasick.AhoCorasick.{AhoCorasick}
 use Rattle.acsub.specs.Early.{IsUnready, as_early}
+use Rattle.acsub.specs.Finder.{IsServing}
 use Rattle.acsub.specs.Masked.{AnswersMask, AnswersMaskIn, IsMaskOf, IsMaskReady, mask_demand, mask_of}
 use Rattle.acsub.specs.Plan.{plan_of}
 use Rattle.acsub.specs.Run.{IsPrepared, Prepares, RanIn, RanRules}
 use Rattle.acsub.specs.Tally.{Counts, plan_matches, plan_words}
-use Rattle.acsub.specs.WordRun.{AnswersWordRun, AnswersWordRunIn, AreJobWords, AreWordsReady, word_demand}
+use Rattle.acsub.specs.WordRun.{AnswersWordRun, AnswersWordRunIn, AreJobWords, AreWordsReady, for_words, word_demand}
 use Rattle.acsub.specs.declared.args.settings.Settings.{Settings}
 use Rattle.acsub.specs.declared.early.EarlyError.{EarlyError}
 use Rattle.acsub.specs.declared.early.EarlyError.TheVariants as early
@@ -38,6 +40,12 @@ abbrev pub IsJobReady : Job → Type 0
 IsJobReady (jobs.Run plan) = IsPrepared plan
 IsJobReady (jobs.Mask prepared) = IsMaskReady prepared
 IsJobReady (jobs.Words prepared) = AreWordsReady prepared
+
+-- an automaton serves the settings and rules of a job; those for whole words are of the standard kind
+abbrev pub IsAutomatonOf : Job → AhoCorasick → Type 0
+IsAutomatonOf (jobs.Run plan) a = IsServing plan.settings plan.rules a
+IsAutomatonOf (jobs.Mask prepared) a = ⊥
+IsAutomatonOf (jobs.Words prepared) a = IsServing (for_words prepared.settings) prepared.rules.now a
 
 -- ---- what it does to an input
 

@@ -11,8 +11,9 @@
 //! - *Pairs that overlap*, of whose text a part may stay as it is or be matched otherwise ([`overlaps`]).
 //!
 //! In the other modes every occurrence counts, so neither is named. A line is that of the rule file, or the place among the arguments.
-ghost use Rattle.std.specs.Prelude.{◌≡◌};
-ghost use Rattle.acsub.specs.declared.args.settings.Engine.TheVariants.{Auto};
+ghost use Rattle.std.specs.Prelude.{◌≡◌, ◌≢◌, IfOk};
+ghost use Rattle.acsub.specs.Jobs.{IsJobReady};
+ghost use Rattle.acsub.specs.declared.args.settings.Engine.TheVariants.{Auto, Noncontiguous};
 
 mod overlaps;
 mod trie;
@@ -20,7 +21,9 @@ mod trie;
 use crate::args::Words;
 use crate::args::settings::{Engine, Mode, Settings};
 use crate::check::overlaps::{Pairs, find_pairs, is_word_byte};
+use crate::early::EarlyError;
 use crate::error::RunError;
+use crate::job::Job;
 use crate::prepared::automaton_for;
 use crate::rules::Rules;
 use ac_input::pairing::Pairing;
@@ -31,12 +34,50 @@ use std::alloc::{AllocError, Global};
 /// The most pairs that are named.
 const NAMED: usize = 100;
 
-/// The report on rules by which a job can be made.
-pub fn report_of(alloc: Global, asked: &Words<'_>, rules: &Rules) -> Result<String, RunError> {
+/// The settings by which the job of a report is made. Where the choice of an automaton is left to its builder, that is a noncontiguous
+/// NFA, from which the others are made: a build of one is refused for the same rules.
+fn reported(settings: &Settings) -> Settings
+    ensures { result.engine ≢ Auto }
+{
+    let mut settings = *settings;
+    if settings.engine == Engine::Auto {
+        settings.engine = Engine::Noncontiguous;
+    }
+    settings
+}
+
+/// The job by which rules are reported on.
+pub fn job_for<'r>(
+    alloc: Global,
+    asked: &Words<'_>,
+    rules: &'r Rules,
+) -> Result<Job<'r>, EarlyError>
+    ensures { IfOk result IsJobReady }
+{
+    let settings = reported(&asked.settings);
+    Job::new(
+        alloc,
+        &settings,
+        asked.stream,
+        asked.word,
+        asked.mask,
+        rules,
+    )
+}
+
+/// The report on rules, by a job that was made of them.
+pub fn report_of(
+    alloc: Global,
+    asked: &Words<'_>,
+    job: &Job<'_>,
+    rules: &Rules,
+) -> Result<String, RunError>
+    requires { IsJobReady job.now }
+{
     let mut report = String::new(alloc);
     write_counts(&mut report, rules)?;
     if asked.mask.is_none() && asked.settings.mode != Mode::Overlap {
-        write_hidden(&mut report, alloc, asked, rules)?;
+        write_hidden(&mut report, alloc, asked, job, rules)?;
         let pairs = find_pairs(alloc, rules, &asked.settings.pairing, asked.word)?;
         write_pairs(&mut report, &pairs)?;
     }
@@ -96,16 +137,44 @@ fn line_of(i: usize) -> usize {
 
 // ---- patterns that are never the match
 
-/// Writes a line for each pattern that is never the match.
+/// Writes a line for each pattern that is never the match. Packed search keeps its kind, but a noncontiguous NFA serves it here.
 fn write_hidden(
     report: &mut String,
     alloc: Global,
     asked: &Words<'_>,
+    job: &Job<'_>,
+    rules: &Rules,
+) -> Result<(), RunError>
+    requires { IsJobReady job.now }
+{
+    match job.automaton() {
+        Some(automaton) => write_hidden_by(report, alloc, asked, automaton, rules),
+        None => {
+            let automaton = automaton_for(alloc, &searched(asked), rules)?;
+            write_hidden_by(report, alloc, asked, &automaton, rules)
+        }
+    }
+}
+
+/// The settings by which patterns are searched that a packed search was made of.
+fn searched(asked: &Words<'_>) -> Settings
+    ensures { result.engine ≡ Noncontiguous }
+{
+    let mut settings = asked.settings;
+    settings.engine = Engine::Noncontiguous;
+    settings
+}
+
+/// The same, where this automaton finds the matches, or all occurrences for whole words.
+fn write_hidden_by(
+    report: &mut String,
+    alloc: Global,
+    asked: &Words<'_>,
+    automaton: &AhoCorasick,
     rules: &Rules,
 ) -> Result<(), RunError> {
-    let automaton = automaton_for(alloc, &searched(asked), rules)?;
     for i in 0..rules.len() {
-        if let Some(first) = first_in(alloc, &automaton, asked, rules.pattern(i))? {
+        if let Some(first) = first_in(alloc, automaton, asked, rules.pattern(i))? {
             let by = first.pattern().as_usize();
             if by != i {
                 write_reason(report, i, &first, rules, asked.settings.kind)?;
@@ -113,19 +182,6 @@ fn write_hidden(
         }
     }
     Ok(())
-}
-
-/// The settings by which patterns are searched: packed search keeps its kind, but an automaton serves it, and whole words are looked
-/// for by one of the standard kind.
-fn searched(asked: &Words<'_>) -> Settings
-    ensures { result.engine ≡ Auto }
-{
-    let mut settings = asked.settings;
-    settings.engine = Engine::Auto;
-    if asked.word {
-        settings.kind = MatchKind::Standard;
-    }
-    settings
 }
 
 /// The first match in these bytes, or the first whole word.

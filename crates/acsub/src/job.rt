@@ -2,8 +2,8 @@
 //!
 //! The settings are checked and the automaton is built before the first input is read. A job that can't be made has touched
 //! nothing.
-ghost use Rattle.std.specs.Prelude.{◌≡◌, false, IfErr, IfOk, OnOk};
-ghost use Rattle.acsub.specs.Jobs.{CountsJob, IsJobFor, IsJobReady, IsNoJob, RanJob};
+ghost use Rattle.std.specs.Prelude.{◌≡◌, false, IfErr, IfOk, IfSome, OnOk};
+ghost use Rattle.acsub.specs.Jobs.{CountsJob, IsAutomatonOf, IsJobFor, IsJobReady, IsNoJob, RanJob};
 
 use crate::args::settings::Settings;
 use crate::early::EarlyError;
@@ -16,6 +16,7 @@ use crate::tally::Tally;
 use crate::word::{PreparedWords, prepare_words, run_prepared_words};
 use ac_automaton::watched::Watched;
 use ac_input::steps::Steps;
+use aho_corasick::AhoCorasick;
 use std::alloc::Global;
 use std::io::{Read, Write};
 
@@ -52,6 +53,18 @@ impl<'r> Job<'r> {
             }
             None if word => Ok(Job::Words(prepare_words(alloc, settings, rules)?)),
             None => Ok(Job::Run(prepare(alloc, settings, stream, rules)?)),
+        }
+    }
+
+    /// The automaton that finds the matches, or all occurrences for whole words; none for packed search, and none for a mask.
+    pub fn automaton(&self) -> Option<&AhoCorasick>
+        requires { IsJobReady self.now }
+        ensures { IfSome result (λ a. IsAutomatonOf self.now a.now) }
+    {
+        match self {
+            Job::Run(prepared) => prepared.automaton(),
+            Job::Mask(_) => None,
+            Job::Words(prepared) => Some(&prepared.automaton),
         }
     }
 

@@ -71,6 +71,16 @@ impl<'r> Prepared<'r> {
         self.rules
     }
 
+    /// The automaton that finds the matches, where packed search doesn't.
+    pub fn automaton(&self) -> Option<&AhoCorasick>
+        ensures { IfSome result (λ a. IsServing self.now.settings self.now.rules a.now) }
+    {
+        match &self.finder {
+            Finder::Automaton(automaton) => Some(automaton),
+            Finder::Packed(_) => None,
+        }
+    }
+
     /// The automaton that finds the matches of what is read, where the text is written while the input is read.
     pub fn streamed(&self) -> Option<&AhoCorasick>
         ensures some { IsSome result ↔ IsStreamed self.now }

@@ -19,7 +19,7 @@ ghost use Rattle.acsub.specs.declared.rules.RuleError.TheVariants.{Line};
 ghost use Rattle.acsub.specs.Tool.{IsFaultOf, WritesLine, status_of};
 
 use crate::args::{Source, Words, WordsFault, read_words};
-use crate::check::report_of;
+use crate::check::{job_for, report_of};
 use crate::early::{EarlyError, Refusal};
 use crate::error::RunError;
 use crate::files::{Report, run_files, run_over};
@@ -403,8 +403,8 @@ fn report_on<F: Files + Clock + Drop + Eprint, W: Write>(
     rules: &Rules,
     writer: &mut Watched<W>,
 ) -> Result<(), Fault> {
-    drop(task.job(rules)?);
-    let text = report_of(task.alloc, task.asked, rules)?;
+    let job = job_for(task.alloc, task.asked, rules)?;
+    let text = report_of(task.alloc, task.asked, &job, rules)?;
     Ok(write_text(text.as_str(), writer)?)
 }
 

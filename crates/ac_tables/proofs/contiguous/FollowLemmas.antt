@@ -15,7 +15,7 @@ use Rattle.ac_tables.specs.declared.contiguous.NFA.{NFA}
 use Rattle.ac_tables.specs.declared.contiguous.table.Table.{Table}
 use Rattle.ac_tables.specs.Contiguous.Table.{AreStates}
 use Rattle.ac_tables.specs.Contiguous.Reads.{contiguous_dictionary, IsLaidOut, IsMet, LooksUp}
-use Rattle.ac_tables.specs.Contiguous.WordReads.{IsStateAt, ByteLeadsTo}
+use Rattle.ac_tables.specs.Contiguous.WordReads.{IsStateAt, ByteLeadsTo, FailsAt}
 use Rattle.ac_tables.specs.Contiguous.Words.{StateParts, next_by}
 use Rattle.ac_input.proofs.lemmas.SomeLemmas.{begins_cases}
 
@@ -72,7 +72,7 @@ laid-edge nfa anchored sid byte next small steps names fits met =
     (fits.1.linked.edges anchored sid byte met small)
 
 -- the failure of a state is a failure by every naming
-pub laid-failure : (nfa : NFA) (sid fail : ℕ) → ((s : StateParts) → IsStateAt nfa.table sid s → fail ≡ s.fail)
+pub laid-failure : (nfa : NFA) (sid fail : ℕ) → FailsAt nfa.table sid fail
     → OfNames (IsLaidOut nfa) false sid (λ names. IsFailureBy (contiguous_dictionary nfa) names sid fail)
 laid-failure nfa sid fail fails names fits met =
     let s = met-state (contiguous_dictionary nfa) nfa.table names fits.0 false sid fits.1 met in
@@ -81,12 +81,12 @@ laid-failure nfa sid fail fails names fits met =
 
 -- unanchored searches may come to the failure of a state
 pub met-fail : (nfa : NFA) (sid fail : ℕ) → IsMet nfa false sid
-    → ((s : StateParts) → IsStateAt nfa.table sid s → fail ≡ s.fail) → IsMet nfa false fail
+    → FailsAt nfa.table sid fail → IsMet nfa false fail
 met-fail nfa sid fail h fails = ∥∥₁_map h (λ w. (w.0, w.1, (laid-failure nfa sid fail fails w.0 w.1 w.2).met))
 
 -- the failure's number is at most the greatest number
 pub fail-small : (nfa : NFA) (sid fail : ℕ) → IsMet nfa false sid
-    → ((s : StateParts) → IsStateAt nfa.table sid s → fail ≡ s.fail) → fail ≤ greatest_number
+    → FailsAt nfa.table sid fail → fail ≤ greatest_number
 fail-small nfa sid fail h fails =
     ∥∥₁_elim h le_prop (λ w. w.1.1.small false fail (laid-failure nfa sid fail fails w.0 w.1 w.2).met)
 

@@ -1,28 +1,32 @@
 -- How the rows of the states near the start are filled.
-use Rattle.std.proofs.Common.{◌≡◌, ◌≢◌, ⊎_elim, ℕ, ◌+◌, ◌-◌, ◌*◌, ◌^◌, ◌<◌, ◌≤◌, ◌/◌, false, List, [], ◌∷◌, ◌++◌, length, None, refl, sym, ap, subst, ◌∙◌, arith, length-append, length-set}
-use Rattle.std.specs.Prelude.{slice_index, slice_set}
+use Rattle.std.proofs.Common.{◌≡◌, ◌≢◌, ⊎_elim, ℕ, zero, suc, ◌+◌, ◌-◌, ◌*◌, ◌^◌, ◌<◌, ◌≤◌, ◌/◌, false, IsTrue, List, [], ◌∷◌, ◌++◌, length, Option, None, Some, refl, sym, ap, subst, ◌∙◌, arith, length-append, length-set}
+use Rattle.std.specs.Prelude.{slice_index, slice_set, IsPermutation}
+use Rattle.std.proofs.lemmas.List.Elements.{All-nil, All-cons, All-push}
+use Rattle.std.proofs.lemmas.List.Sorted.{All-permutation, length_permutation}
 use Rattle.std.proofs.Math.Logic.{∥∥₁_map}
 use Rattle.std.proofs.Math.Nat.{mul-le-mul_right}
 use Rattle.std.proofs.lemmas.Bool.{cases_lt, cases_eq}
 use Rattle.std.proofs.lemmas.List.{get_or-set_same, get_or-set_other, get_or_append_left}
 use Rattle.std.proofs.Math.Seq.{get_or-append_seam}
 use Rattle.ac_input.specs.Number.{greatest_number}
-use Rattle.ac_input.specs.Alphabet.{class}
+use Rattle.ac_input.specs.Alphabet.{alphabet_len, class, IsClasses}
 use Rattle.ac_input.specs.Alphabet.Classes.{ClassesLeadAlike}
 use Rattle.ac_input.specs.Dictionary.{Dictionary}
 use Rattle.ac_input.specs.declared.steps.Steps.{Steps}
-use Rattle.ac_automaton.specs.Named.{IsStep, nowhere}
-use Rattle.ac_automaton.proofs.automaton.LinkedLemmas.{straight}
+use Rattle.ac_input.specs.States.{LeadsTo}
+use Rattle.ac_automaton.specs.Named.{Naming, IsStep, IsEdgeBy, IsFailureBy, AreNumbers, nowhere}
+use Rattle.ac_automaton.proofs.automaton.LinkedLemmas.{straight, stuck, following-none, following-more}
+use Rattle.ac_automaton.proofs.automaton.NamedLemmas.{stands-for}
 use Rattle.ac_tables.specs.Contiguous.Near.{AreNearRows, LeadsToNumber, IsNumberOf, place_by}
-use Rattle.ac_tables.specs.Contiguous.NearReads.{AreBytesOf, ArePlacesNear, HasFilledAll, HasFilledPart, HasFilledTo, HasPut, LeadsByEntry, IsByteOfClass}
+use Rattle.ac_tables.specs.Contiguous.NearReads.{AreBytesOf, AreFound, ArePlacesNear, FailsToNumber, HasCopiedRow, IsFailureRow, HasFilledAll, HasFilledPart, HasFilledTo, HasPut, LeadsByEntry, IsByteOfClass}
 use Rattle.ac_tables.specs.Contiguous.Reads.{contiguous_dictionary, IsLaidOut, IsMet, LooksUp}
 use Rattle.ac_tables.specs.Contiguous.Rows.{AreRowsIfAny, row_len}
-use Rattle.ac_tables.specs.Contiguous.WordReads.{ByteLeadsTo}
+use Rattle.ac_tables.specs.Contiguous.WordReads.{ByteLeadsTo, FailsAt, IsOnlyClass}
 use Rattle.ac_tables.specs.declared.contiguous.NFA.{NFA}
 use Rattle.ac_tables.specs.declared.contiguous.rows.Rows.{Rows}
 use Rattle.ac_tables.specs.declared.contiguous.table.Table.{Table}
 use Rattle.ac_tables.proofs.contiguous.CutLemmas.{row-room}
-use Rattle.ac_tables.proofs.contiguous.FollowLemmas.{laid-edge, laid-numbers}
+use Rattle.ac_tables.proofs.contiguous.FollowLemmas.{laid-edge, laid-failure, laid-numbers}
 
 -- ---- the places
 
@@ -41,6 +45,29 @@ met-step nfa sid byte next small h leads some = ∥∥₁_map h (λ w.
       (straight (contiguous_dictionary nfa) w.0 nfa.table.start false sid byte next (laid-numbers nfa w.0 w.1) edge w.2
           some).step.met,
     ))
+
+-- the start alone is found
+pub found-start : (nfa : NFA) (most start : ℕ) → 0 < most → IsMet nfa false start → AreFound nfa most (start ∷ [])
+found-start nfa most start some met = record {
+  few = omega (arith, some);
+  met = All-cons (IsMet nfa false) start [] met (All-nil (IsMet nfa false));
+}
+
+-- one place more is found
+pub found-more : (nfa : NFA) (most next : ℕ) (found : List ℕ) → AreFound nfa most found → length found < most
+    → IsMet nfa false next → AreFound nfa most (found ++ next ∷ [])
+found-more nfa most next found h room met = record {
+  few = let long = length-append found (next ∷ []) in omega (arith, long, room);
+  met = All-push (IsMet nfa false) found next h.met met;
+}
+
+-- in any order they are those that were found
+pub found-sorted : (nfa : NFA) (most : ℕ) (found sorted : List ℕ) → IsPermutation found sorted → AreFound nfa most found
+    → AreFound nfa most sorted
+found-sorted nfa most found sorted same h = record {
+  few = let few = h.few in let len = length_permutation found sorted same in omega (arith, len, few);
+  met = All-permutation (IsMet nfa false) found sorted same h.met;
+}
 
 -- the start alone
 pub near-start : (nfa : NFA) (most start : ℕ) → 0 < most → IsMet nfa false start → ArePlacesNear nfa most (start ∷ [])
@@ -102,6 +129,56 @@ number-leads nfa near place byte next number before after alone looks is = (
       subst (IsStep (contiguous_dictionary nfa) names false place byte) (sym is.1) (looks names laid met).0,
 )
 
+-- where a transition leads, its number leads
+pub number-straight : (nfa : NFA) (near : Rows) (place byte next number : ℕ) → nfa.rows ≡ None → byte < 256
+    → ByteLeadsTo nfa.table place byte next → next ≢ nowhere → IsNumberOf near next number
+    → LeadsToNumber (contiguous_dictionary nfa) nfa.table near.places.items (row_len near) place byte number
+number-straight nfa near place byte next number alone small leads some is = (
+  is.0,
+  λ names fits met.
+      let m = contiguous_dictionary nfa in
+      let laid : IsLaidOut nfa names =
+      (fits.0, fits.1, subst (AreRowsIfAny m nfa.table.classes names) (sym alone) tt) in
+      let edge = laid-edge nfa false place byte next small leads names laid met in
+      subst (IsStep m names false place byte) (sym is.1)
+      (straight m names nfa.table.start false place byte next (laid-numbers nfa names laid) edge met some).step,
+)
+
+-- a byte that a state has no transition for leads where it does from the state's failure
+step-failed : (m : Dictionary) (names : Naming) (start sid byte fail next : ℕ) → AreNumbers m names start
+    → IsTrue (names.met false sid) → IsEdgeBy m names start sid byte nowhere → IsFailureBy m names sid fail
+    → IsStep m names false fail byte next → IsStep m names false sid byte next
+step-failed m names start sid byte fail next numbers met edge failure step =
+    let s = stuck m names start sid byte nowhere edge refl in
+    let h = following-more numbers (following-none {m = m} {names = names} {sid = sid} {byte = byte} met) s failure in
+    let is = s.is in
+    record {
+      met = step.met;
+      dead = λ none. absurd (cc);
+      leads = λ text at. ⊎_elim
+          (λ (none : names.text fail ≡ None).
+          subst (LeadsTo m false (text ++ byte ∷ [])) (sym (step.dead none)) (h.dead text at none))
+          (λ (state : (v : List ℕ) × (names.text fail ≡ Some v)).
+          h.leads text state.0 (names.text next) at state.1 (step.leads state.0 state.1))
+          (stands-for names {sid = fail});
+    }
+
+-- so the number to which it leads is the same
+pub number-failed : (nfa : NFA) (near : Rows) (place byte next number : ℕ) → nfa.rows ≡ None → byte < 256
+    → ByteLeadsTo nfa.table place byte next → next ≡ nowhere → FailsToNumber nfa near place byte number
+    → LeadsToNumber (contiguous_dictionary nfa) nfa.table near.places.items (row_len near) place byte number
+number-failed nfa near place byte next number alone small leads none failed = (
+  failed.2.0,
+  λ names fits met.
+      let m = contiguous_dictionary nfa in
+      let laid : IsLaidOut nfa names =
+      (fits.0, fits.1, subst (AreRowsIfAny m nfa.table.classes names) (sym alone) tt) in
+      let edge = laid-edge nfa false place byte next small leads names laid met in
+      let failure = laid-failure nfa place failed.0 failed.1 names laid met in
+      step-failed m names nfa.table.start place byte failed.0 _ (laid-numbers nfa names laid) met
+      (subst (IsEdgeBy m names nfa.table.start place byte) none edge) failure (failed.2.1 names fits failure.met),
+)
+
 -- an entry of rows that were changed is one of rows with the same places and stride
 pub entry-same : (nfa : NFA) (old new : Rows) (row byte number : ℕ) → new.places.items ≡ old.places.items
     → new.stride2 ≡ old.stride2 → LeadsByEntry nfa new row byte number → LeadsByEntry nfa old row byte number
@@ -148,6 +225,125 @@ part-more nfa bytes row count at number old now new h is within put entry = reco
       (entry-same nfa old now row (slice_index bytes count) number h.places h.stride entry)))
       (cases_lt k count);
 }
+
+-- what is filled of rows is filled, whatever they were before
+pub rows-kept : (nfa : NFA) (bytes : List ℕ) (row : ℕ) (old now : Rows) → HasFilledTo nfa bytes row old now
+    → HasFilledTo nfa bytes row now now
+rows-kept nfa bytes row old now h =
+    let len : row_len now ≡ row_len old = ap (λ s. 2 ^ s) h.stride in
+    record {
+      places = refl;
+      stride = refl;
+      len = refl;
+      filled = λ r k less within.
+          entry-same nfa now old r (slice_index bytes k) _ (sym h.places) (sym h.stride)
+          (subst (λ n. LeadsByEntry nfa old r (slice_index bytes k) (slice_index now.trans.items (r * n + k))) (sym len)
+          (h.filled r k less within));
+    }
+
+-- the entry of an earlier row leads where the failure does
+pub part-failed : (nfa : NFA) (bytes : List ℕ) (row from count k place : ℕ) (old now : Rows) → length bytes ≤ row_len old
+    → k < length bytes → HasFilledTo nfa bytes row old old → IsFailureRow nfa old row from
+    → HasFilledPart nfa bytes row count old now → place ≡ slice_index old.places.items row
+    → FailsToNumber nfa now place (slice_index bytes k) (slice_index now.trans.items (from * row_len old + k))
+part-failed nfa bytes row from count k place old now letters less before failure h at =
+    let byte = slice_index bytes k in
+    let size = row-room row from (row_len old) failure.before in
+    let same = h.before (from * row_len old + k) (omega (arith, size, less, letters)) in (
+      slice_index now.places.items from,
+      subst (λ p. FailsAt nfa.table p (slice_index now.places.items from)) (sym at)
+          (subst (λ ps. FailsAt nfa.table (slice_index old.places.items row) (slice_index ps from)) (sym h.places) failure.fails),
+      subst (LeadsByEntry nfa now from byte) (sym same)
+          (entry-same nfa now old from byte _ (sym h.places) (sym h.stride) (before.filled from k failure.before less)),
+    )
+
+-- in a copied row nothing is filled yet
+pub part-copied : (nfa : NFA) (bytes : List ℕ) (from row : ℕ) (old now : Rows) → HasCopiedRow from row old now
+    → HasFilledPart nfa bytes row 0 old now
+part-copied nfa bytes from row old now h = record {
+  places = h.places;
+  stride = h.stride;
+  len = h.len;
+  before = h.before;
+  filled = λ k less. absurd (omega (arith, less));
+}
+
+-- an entry of a copied row leads where the failure does
+pub copied-failed : (nfa : NFA) (bytes : List ℕ) (row from k place : ℕ) (old now : Rows) → length bytes ≤ row_len old
+    → k < length bytes → HasFilledTo nfa bytes row old old → IsFailureRow nfa old row from → HasCopiedRow from row old now
+    → place ≡ slice_index old.places.items row
+    → FailsToNumber nfa now place (slice_index bytes k) (slice_index now.trans.items (row * row_len old + k))
+copied-failed nfa bytes row from k place old now letters less before failure h at =
+    let size = row-room row from (row_len old) failure.before in
+    let same = h.before (from * row_len old + k) (omega (arith, size, less, letters)) in
+    subst (FailsToNumber nfa now place (slice_index bytes k)) (same ∙ sym (h.copied k (omega (arith, less, letters))))
+    (part-failed nfa bytes row from 0 k place old now letters less before failure (part-copied nfa bytes from row old now h) at)
+
+-- so it is right, unless its class is the only one by which the state's transitions lead on
+pub copied-entry : (nfa : NFA) (bytes : List ℕ) (row from only k place : ℕ) (old now : Rows) → nfa.rows ≡ None
+    → length bytes ≤ row_len old → AreBytesOf nfa.table.classes bytes → k < length bytes
+    → HasFilledTo nfa bytes row old old → IsFailureRow nfa old row from → HasCopiedRow from row old now
+    → place ≡ slice_index old.places.items row → IsOnlyClass nfa.table place only → k ≢ only
+    → LeadsByEntry nfa old row (slice_index bytes k) (slice_index now.trans.items (row * row_len old + k))
+copied-entry nfa bytes row from only k place old now alone letters those less before failure h at one other =
+    let byte = slice_index bytes k in
+    let is = those.own k less in
+    let leads = number-failed nfa now place byte nowhere (slice_index now.trans.items (row * row_len old + k)) alone is.small
+    (one byte (λ e. other (sym is.same ∙ e))) refl
+    (copied-failed nfa bytes row from k place old now letters less before failure h at) in
+    entry-same nfa old now row byte _ h.places h.stride
+    (subst (λ p. LeadsToNumber (contiguous_dictionary nfa) nfa.table now.places.items (row_len now) p byte
+    (slice_index now.trans.items (row * row_len old + k)))
+    (at ∙ sym (ap (λ ps. slice_index ps row) h.places)) leads)
+
+-- a copied row is filled, where no class is left that the state's transitions lead on by
+pub only-none : (nfa : NFA) (bytes : List ℕ) (row from only place : ℕ) (old now : Rows) → nfa.rows ≡ None
+    → length bytes ≤ row_len old → AreBytesOf nfa.table.classes bytes → HasFilledTo nfa bytes row old old
+    → IsFailureRow nfa old row from → HasCopiedRow from row old now → place ≡ slice_index old.places.items row
+    → IsOnlyClass nfa.table place only → length bytes ≤ only → HasFilledPart nfa bytes row (length bytes) old now
+only-none nfa bytes row from only place old now alone letters those before failure h at one past = record {
+  places = h.places;
+  stride = h.stride;
+  len = h.len;
+  before = h.before;
+  filled = λ k less. copied-entry nfa bytes row from only k place old now alone letters those less before failure h at one
+      (λ e. omega (arith, e, less, past));
+}
+
+-- a copied row is filled, once the entry of that class is
+pub only-one : (nfa : NFA) (bytes : List ℕ) (row from only place at number : ℕ) (old now new : Rows) → nfa.rows ≡ None
+    → length bytes ≤ row_len old → AreBytesOf nfa.table.classes bytes → HasFilledTo nfa bytes row old old
+    → IsFailureRow nfa old row from → HasCopiedRow from row old now → place ≡ slice_index old.places.items row
+    → IsOnlyClass nfa.table place only → only < length bytes → at ≡ row * row_len old + only
+    → at < length now.trans.items → HasPut at number now new
+    → LeadsToNumber (contiguous_dictionary nfa) nfa.table now.places.items (row_len now) place (slice_index bytes only) number
+    → HasFilledPart nfa bytes row (length bytes) old new
+only-one nfa bytes row from only place at number old now new alone letters those before failure h is one less there within put
+    leads = record {
+      places = put.places ∙ h.places;
+      stride = put.stride ∙ h.stride;
+      len = ap length put.trans ∙ (length-set now.trans.items at number ∙ h.len);
+      before = λ i low. ap (λ l. slice_index l i) put.trans
+          ∙ (get_or-set_other now.trans.items at i number 0 (λ e. omega (arith, e, low, there)) ∙ h.before i low);
+      filled = λ k inside. ⊎_elim
+          (λ (here : k ≡ only).
+          let same : slice_index new.trans.items (row * row_len old + k) ≡ number =
+          ap (slice_index new.trans.items) (ap (λ j. row * row_len old + j) here ∙ sym there)
+          ∙ (ap (λ l. slice_index l at) put.trans ∙ get_or-set_same now.trans.items at number 0 within) in
+          subst (LeadsByEntry nfa old row (slice_index bytes k)) (sym same)
+          (subst (λ j. LeadsByEntry nfa old row (slice_index bytes j) number) (sym here)
+          (entry-same nfa old now row (slice_index bytes only) number h.places h.stride
+          (subst (λ p. LeadsToNumber (contiguous_dictionary nfa) nfa.table now.places.items (row_len now) p
+          (slice_index bytes only) number) (is ∙ sym (ap (λ ps. slice_index ps row) h.places)) leads))))
+          (λ (other : k ≢ only).
+          let same : slice_index new.trans.items (row * row_len old + k) ≡ slice_index now.trans.items (row * row_len old + k) =
+          ap (λ l. slice_index l (row * row_len old + k)) put.trans
+          ∙ get_or-set_other now.trans.items at (row * row_len old + k) number 0
+          (λ e. other (let n : k ≡ only = omega (arith, e, there) in n)) in
+          subst (LeadsByEntry nfa old row (slice_index bytes k)) (sym same)
+          (copied-entry nfa bytes row from only k place old now alone letters those inside before failure h is one other))
+          (cases_eq k only);
+    }
 
 -- no row is filled yet
 pub rows-none : (nfa : NFA) (bytes : List ℕ) (old : Rows) → HasFilledTo nfa bytes 0 old old
@@ -227,6 +423,33 @@ near-filled nfa bytes old new alike those letters room h =
           is.same there in
           entry-same nfa new old i byte (slice_index new.trans.items (row + k)) (sym h.places) (sym h.stride) other;
     }
+
+-- each class below the number of classes is that of a byte
+class-had : (classes : List ℕ) → IsClasses classes → (n : ℕ) → n < 256 → (k : ℕ) → k ≤ class classes n
+    → (b : ℕ) × (b < 256) × (class classes b ≡ k)
+class-had classes is zero within k less = let first = is.first in (0, omega arith, omega (arith, first, less))
+class-had classes is (suc n) within k less =
+    let up : class classes (suc n) ≡ class classes (n + 1) = ap (class classes) (omega arith) in
+    ⊎_elim
+    (λ (high : class classes n < k). (
+      suc n,
+      within,
+      ⊎_elim
+          (λ (same : class classes (n + 1) ≡ class classes n). absurd (omega (arith, up, same, high, less)))
+          (λ (next : class classes (n + 1) ≡ class classes n + 1).
+          let e : class classes (suc n) ≡ k = omega (arith, up, next, high, less) in e)
+          (is.next n (omega (arith, within))),
+    ))
+    (λ (low : k ≤ class classes n). class-had classes is n (omega (arith, within)) k low)
+    (cases_lt (class classes n) k)
+
+-- where each byte's class has a byte, each class has one
+pub bytes-own : (classes bytes : List ℕ) → IsClasses classes → length bytes ≡ alphabet_len classes
+    → ((b : ℕ) → b < 256 → IsByteOfClass classes bytes (class classes b))
+    → (k : ℕ) → k < length bytes → IsByteOfClass classes bytes k
+bytes-own classes bytes is counted h k less =
+    let had = class-had classes is 255 (omega arith) k (omega (arith, less, counted)) in
+    subst (IsByteOfClass classes bytes) had.2 (h had.0 had.1)
 
 -- one byte more has its class
 pub bytes-more : (classes bytes : List ℕ) (byte : ℕ) → byte < 256 → class classes byte < length bytes

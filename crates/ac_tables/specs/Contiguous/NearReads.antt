@@ -1,5 +1,6 @@
 -- How the rows of the states near the start are made, and what a look-up by a number gives.
 use Rattle.std.specs.Prelude.{◌≡◌, ℕ, ◌+◌, ◌*◌, ◌<◌, ◌≤◌, false, List, [], ◌∷◌, length, slice_index, slice_set}
+use Rattle.std.specs.List.{All}
 use Rattle.ac_input.specs.Number.{greatest_number}
 use Rattle.ac_input.specs.Alphabet.{class, alphabet_len}
 use Rattle.ac_input.specs.declared.search.Anchored.TheVariants.{No}
@@ -11,6 +12,7 @@ use Rattle.ac_tables.specs.Contiguous.Cut.{Rise}
 use Rattle.ac_tables.specs.Contiguous.Near.{IsNumber, numbered_place, LeadsToNumber}
 use Rattle.ac_tables.specs.Contiguous.Reads.{contiguous_built_as, contiguous_dictionary, IsContiguousRead, IsMet}
 use Rattle.ac_tables.specs.Contiguous.Rows.{row_len}
+use Rattle.ac_tables.specs.Contiguous.WordReads.{FailsAt}
 
 -- ---- look-ups
 
@@ -32,6 +34,12 @@ pub record IsByteOfClass (classes bytes : List ℕ) (k : ℕ) : Type 0 where
 pub record AreBytesOf (classes bytes : List ℕ) : Type 0 where
   pub counted : length bytes ≡ alphabet_len classes
   pub same : (byte : ℕ) → byte < 256 → IsByteOfClass classes bytes (class classes byte)
+  pub own : (k : ℕ) → k < length bytes → IsByteOfClass classes bytes k
+
+-- Places of states that an unanchored search may come to, not more than `most`.
+pub record AreFound (nfa : NFA) (most : ℕ) (found : List ℕ) : Type 0 where
+  pub few : length found ≤ most
+  pub met : All (IsMet nfa false) found
 
 -- Rising places of states that an unanchored search may come to: some of them, and not more than `most`.
 pub record ArePlacesNear (nfa : NFA) (most : ℕ) (places : List ℕ) : Type 0 where
@@ -60,6 +68,26 @@ abbrev pub LeadsByEntry : NFA → Rows → ℕ → ℕ → ℕ → Type 0
 LeadsByEntry nfa rows row byte number =
     LeadsToNumber (contiguous_dictionary nfa) nfa.table rows.places.items (row_len rows)
     (slice_index rows.places.items row) byte number
+
+-- from the state to which the one at a place fails, a byte leads to the state of a number
+abbrev pub FailsToNumber : NFA → Rows → ℕ → ℕ → ℕ → Type 0
+FailsToNumber nfa rows place byte number =
+    (fail : ℕ) × FailsAt nfa.table place fail
+    × LeadsToNumber (contiguous_dictionary nfa) nfa.table rows.places.items (row_len rows) fail byte number
+
+-- an earlier row is that of the state to which the one of a row fails
+pub record IsFailureRow (nfa : NFA) (rows : Rows) (row from : ℕ) : Type 0 where
+  pub before : from < row
+  pub fails : FailsAt nfa.table (slice_index rows.places.items row) (slice_index rows.places.items from)
+
+-- a row was copied to another, and none before that changed
+pub record HasCopiedRow (from row : ℕ) (old new : Rows) : Type 0 where
+  pub places : new.places.items ≡ old.places.items
+  pub stride : new.stride2 ≡ old.stride2
+  pub len : length new.trans.items ≡ length old.trans.items
+  pub before : (at : ℕ) → at < row * row_len old → slice_index new.trans.items at ≡ slice_index old.trans.items at
+  pub copied : (k : ℕ) → k < row_len old
+      → slice_index new.trans.items (row * row_len old + k) ≡ slice_index old.trans.items (from * row_len old + k)
 
 -- In a row so many entries were filled, those for the first of these bytes. No row before it changed.
 pub record HasFilledPart (nfa : NFA) (bytes : List ℕ) (row count : ℕ) (old new : Rows) : Type 0 where

@@ -2,6 +2,7 @@
 use Rattle.std.specs.Prelude.{◌≡◌, ◌≢◌, ℕ, ◌+◌, ◌-◌, ◌/◌, ◌%◌, ◌<◌, ◌≤◌, ◌==◌, ◌&&◌, nat_le, not, if◌then◌else◌, List, [], ◌∷◌, length, take, drop, slice_get, slice_index, Option, Some, None}
 use Rattle.ac_input.specs.Number.{greatest_number}
 use Rattle.ac_input.specs.Alphabet.{class, alphabet_len}
+use Rattle.ac_automaton.specs.Named.{nowhere}
 use Rattle.ac_tables.specs.declared.contiguous.table.Table.{Table}
 use Rattle.ac_tables.specs.Contiguous.Words.{StateParts, dense_kind, one_kind, kind_count, head_len, next_by, one_pattern, words_of, AreWordsAt}
 
@@ -34,6 +35,14 @@ pub record IsSparseAt (table : Table) (sid len : ℕ) : Type 0 where
 abbrev pub ByteLeadsTo : Table → ℕ → ℕ → ℕ → Type 0
 ByteLeadsTo table sid byte next =
     ((s : StateParts) → IsStateAt table sid s → next ≡ next_by s.edges (class table.classes byte))
+
+-- no byte of another class leads on from a state by its transitions
+abbrev pub IsOnlyClass : Table → ℕ → ℕ → Type 0
+IsOnlyClass table sid only = (byte : ℕ) → class table.classes byte ≢ only → ByteLeadsTo table sid byte nowhere
+
+-- the state at a place fails to another
+abbrev pub FailsAt : Table → ℕ → ℕ → Type 0
+FailsAt table sid fail = (s : StateParts) → IsStateAt table sid s → fail ≡ s.fail
 
 -- The byte leads from the unanchored start back to it, and no pattern matches there.
 pub record IsIdleAt (table : Table) (byte : ℕ) : Type 0 where

@@ -15,8 +15,7 @@ ghost use Rattle.ac_automaton.specs.Look.{ReadsTo};
 ghost use Rattle.ac_input.specs.Input.{is_anchored};
 ghost use Rattle.ac_input.specs.declared.search.Anchored.TheVariants.{No};
 ghost use Rattle.ac_tables.specs.Contiguous.Reads.{contiguous_built_as, IsContiguousRead, IsMet, LooksUp};
-ghost use Rattle.ac_tables.specs.Contiguous.WordReads.{ByteLeadsTo, IsStateAt};
-ghost use Rattle.ac_tables.specs.Contiguous.Words.{StateParts};
+ghost use Rattle.ac_tables.specs.Contiguous.WordReads.{ByteLeadsTo, FailsAt};
 
 use crate::contiguous::NFA;
 use crate::contiguous::layout::NOWHERE;
@@ -33,9 +32,9 @@ use ac_literal::prefilter::Prefilter;
 impl NFA {
     /// The state that is asked where no transition has the byte.
     #[inline]
-    fn fail(&self, sid: StateID) -> StateID
+    pub(super) fn fail(&self, sid: StateID) -> StateID
         requires { IsMet self.now false sid }
-        ensures { (s : StateParts) → IsStateAt self.now.table sid s → result ≡ s.fail }
+        ensures { FailsAt self.now.table sid result }
     {
         StateID::must(self.table.words[sid.as_usize() + 1] as usize)
     }

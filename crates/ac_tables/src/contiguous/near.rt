@@ -1,9 +1,9 @@
 //! How the rows of the states near the start are made, where rows for all states would take too much memory.
 //!
-//! The states are found from the start on, breadth first, to a depth of 16. Each has to come after those found before it, so that the
-//! places rise; where that leaves out more than half of the states for which there is room, there are no rows. Then each row is filled
-//! by look-ups in the words. The first takes a look-up for each state that gets a row and each class of bytes, the second
-//! one for each failure on the way, too: as many as the state is deep, at most.
+//! The states are found from the start on, breadth first, to a depth of 16. Those past the start get rows, in the order of their places.
+//! A byte that no transition of a state has leads where it does from the state's failure. That is less deep and nearly always has a row
+//! before, so its entries are copied; else a look-up in the words finds each entry. It takes a look at the words for each state and each
+//! class of bytes, twice, and where look-ups are needed as many for an entry as the state is deep, at most.
 ghost use Rattle.std.specs.Prelude.{ℕ, ◌≡◌, ◌≢◌, ◌+◌, ◌*◌, ◌^◌, ◌<◌, ◌≤◌, false, None, length, slice_index, IfOk, IfSome};
 ghost use Rattle.ac_input.specs.Alphabet.{alphabet_len, IsLeastExponent};
 ghost use Rattle.ac_input.specs.Alphabet.Classes.{ClassesLeadAlike};
@@ -11,9 +11,10 @@ ghost use Rattle.ac_input.specs.Number.{greatest_number};
 ghost use Rattle.ac_automaton.specs.Named.{nowhere};
 ghost use Rattle.ac_tables.specs.Contiguous.Cut.{Rise};
 ghost use Rattle.ac_tables.specs.Contiguous.Near.{AreNearRows, LeadsToNumber};
-ghost use Rattle.ac_tables.specs.Contiguous.NearReads.{ArePlacesNear, AreBytesOf, HasFilled, HasFilledAll, HasPut, HasRoomNear, AreBlank};
+ghost use Rattle.ac_tables.specs.Contiguous.NearReads.{AreFound, ArePlacesNear, AreBytesOf, FailsToNumber, HasCopiedRow, HasFilled, HasFilledAll, HasFilledTo, HasPut, HasRoomNear, AreBlank, IsFailureRow};
 ghost use Rattle.ac_tables.specs.Contiguous.Reads.{contiguous_dictionary, IsContiguousMadeOf, IsMet};
 ghost use Rattle.ac_tables.specs.Contiguous.Rows.{row_len};
+ghost use Rattle.ac_tables.specs.Contiguous.WordReads.{ByteLeadsTo, IsOnlyClass};
 
 use crate::contiguous::NFA;
 use crate::contiguous::layout::NOWHERE;
@@ -32,7 +33,8 @@ const DEEPEST: u32 = 16;
 fn bytes_of(alloc: Global, classes: &ByteClasses) -> Result<Vec<u8>, AllocError>
     ensures { IfOk result (λ bytes. AreBytesOf classes.now bytes.items) }
 {
-    let mut bytes = vec![in alloc; 0u8; classes.alphabet_len()]?;
+    let len = classes.alphabet_len();
+    let mut bytes = vec![in alloc; 0u8; len]?;
     for byte in 0..256usize {
         bytes[classes.get(byte as u8) as usize] = byte as u8;
     }
@@ -44,6 +46,24 @@ fn is_left_out(next: StateID, last: StateID, len: usize, most: usize) -> bool
     ensures { result ≡ false → (next ≢ nowhere) × (last < next) × (len < most) }
 {
     next.as_u32() == NOWHERE || next.as_u32() <= last.as_u32() || len >= most
+}
+
+/// The byte of a class, or none.
+fn only_byte(bytes: &[u8], class: usize) -> &[u8]
+    ensures { length result.now ≤ 1 }
+{
+    if class < bytes.len() {
+        &bytes[class..class + 1]
+    } else {
+        &bytes[..0]
+    }
+}
+
+/// Whether a place isn't put after so many that were found: it is none, it is the start's, or there are enough.
+fn is_passed(next: StateID, start: StateID, len: usize, most: usize) -> bool
+    ensures { result ≡ false → (next ≢ nowhere) × (len < most) }
+{
+    next.as_u32() == NOWHERE || next.as_u32() == start.as_u32() || len >= most
 }
 
 /// Rows for the states at these places, of two to this many entries each, with nothing in them.
@@ -67,6 +87,17 @@ fn blank(alloc: Global, places: Vec<StateID>, stride2: usize) -> Result<Rows, Al
 }
 
 impl Rows {
+    /// Copies a row to one after it.
+    fn copy_row(&mut self, from: usize, row: usize)
+        requires before { from < row }
+        requires within { row < length self.old.places.items }
+        ensures { HasCopiedRow from row self.old self.new }
+    {
+        let stride = self.stride();
+        let first = from * stride;
+        self.trans.copy_within(first..first + stride, row * stride);
+    }
+
     /// Puts a number into an entry.
     fn put(&mut self, at: usize, number: StateID)
         requires { at < length self.old.trans.items }
@@ -90,6 +121,102 @@ impl NFA {
         numbers.min(entries / (stride + 1))
     }
 
+    /// Where a byte leads by the transitions of a state; 1 where none has it.
+    #[inline]
+    fn child(&self, sid: StateID, byte: u8) -> StateID
+        requires { IsMet self.now false sid }
+        ensures leads { ByteLeadsTo self.now.table sid byte result }
+        ensures met { result ≢ nowhere → IsMet self.now false result }
+    {
+        self.table.step(sid, byte)
+    }
+
+    /// Puts a place after those that were found, if a state other than the start stands there and fewer than so many were found.
+    fn push_found(
+        &self,
+        next: StateID,
+        most: usize,
+        found: &mut Vec<StateID>,
+    ) -> Result<(), AllocError>
+        requires found { AreFound self.now most found.old.items }
+        requires met { next ≢ nowhere → IsMet self.now false next }
+        ensures { IfOk result (λ _. AreFound self.now most found.new.items) }
+    {
+        let len = found.len();
+        if is_passed(next, self.table.start, len, most) {
+            return Ok(());
+        }
+        Ok(found.push(next)?)
+    }
+
+    /// Puts the places of the next states of one after those that were found.
+    fn push_nexts(
+        &self,
+        sid: StateID,
+        bytes: &[u8],
+        most: usize,
+        found: &mut Vec<StateID>,
+    ) -> Result<(), AllocError>
+        requires met { IsMet self.now false sid }
+        requires found { AreFound self.now most found.old.items }
+        ensures { IfOk result (λ _. AreFound self.now most found.new.items) }
+    {
+        if found.len() >= most {
+            return Ok(());
+        }
+        let bytes = match self.table.only_class(sid) {
+            Some(only) => only_byte(bytes, only),
+            None => bytes,
+        };
+        for byte in bytes {
+            let next = self.child(sid, *byte);
+            self.push_found(next, most, found)?;
+        }
+        Ok(())
+    }
+
+    /// Puts the places of the next states of one that was found after the others.
+    fn push_after(
+        &self,
+        at: usize,
+        bytes: &[u8],
+        most: usize,
+        found: &mut Vec<StateID>,
+    ) -> Result<(), AllocError>
+        requires within { at < length found.old.items }
+        requires found { AreFound self.now most found.old.items }
+        ensures { IfOk result (λ _. AreFound self.now most found.new.items) }
+    {
+        let sid = found[at];
+        self.push_nexts(sid, bytes, most, found)
+    }
+
+    /// The places of states near the start, breadth first: so many of them at most, and none deeper than [`DEEPEST`].
+    fn found_near(
+        &self,
+        alloc: Global,
+        bytes: &[u8],
+        most: usize,
+    ) -> Result<Vec<StateID>, AllocError>
+        requires { 0 < most }
+        ensures { IfOk result (λ found. AreFound self.now most found.items) }
+    {
+        let mut found = Vec::new(alloc);
+        found.push(self.table.start)?;
+        let mut at = 0;
+        let mut next_depth = 1;
+        let mut depth = 0u32;
+        while at < found.len() && depth < DEEPEST {
+            self.push_after(at, bytes, most, &mut found)?;
+            at += 1;
+            if at == next_depth {
+                next_depth = found.len();
+                depth = depth.saturating_add(1);
+            }
+        }
+        Ok(found)
+    }
+
     /// Puts a place after the others, if it is past the last one and there are fewer than so many.
     fn push_next(
         &self,
@@ -109,53 +236,24 @@ impl NFA {
         Ok(places.push(next)?)
     }
 
-    /// Where a byte leads by the transitions of a state; 1 where none has it.
-    fn child(&self, sid: StateID, byte: u8) -> StateID
-        requires { IsMet self.now false sid }
-        ensures { result ≢ nowhere → IsMet self.now false result }
-    {
-        self.table.step(sid, byte)
-    }
-
-    /// Puts the places of the next states after the others.
-    fn push_nexts(
+    /// Puts those of some places after the others that are past them, in their order.
+    fn push_rising(
         &self,
-        sid: StateID,
-        bytes: &[u8],
+        found: &[StateID],
         most: usize,
         places: &mut Vec<StateID>,
     ) -> Result<(), AllocError>
-        requires met { IsMet self.now false sid }
+        requires found { AreFound self.now most found.now }
         requires near { ArePlacesNear self.now most places.old.items }
         ensures { IfOk result (λ _. ArePlacesNear self.now most places.new.items) }
     {
-        if places.len() >= most {
-            return Ok(());
-        }
-        for byte in bytes {
-            let next = self.child(sid, *byte);
-            self.push_next(next, most, places)?;
+        for place in found {
+            self.push_next(*place, most, places)?;
         }
         Ok(())
     }
 
-    /// Puts the places of the next states of one that has a place after the others.
-    fn push_after(
-        &self,
-        at: usize,
-        bytes: &[u8],
-        most: usize,
-        places: &mut Vec<StateID>,
-    ) -> Result<(), AllocError>
-        requires within { at < length places.old.items }
-        requires near { ArePlacesNear self.now most places.old.items }
-        ensures { IfOk result (λ _. ArePlacesNear self.now most places.new.items) }
-    {
-        let sid = places[at];
-        self.push_nexts(sid, bytes, most, places)
-    }
-
-    /// The places of the states near the start that get rows: so many of them at most, and none deeper than [`DEEPEST`].
+    /// The places of the states near the start that get rows, in their order: the start, and those found that are past it.
     fn places_near(
         &self,
         alloc: Global,
@@ -165,19 +263,11 @@ impl NFA {
         requires { 0 < most }
         ensures { IfOk result (λ places. ArePlacesNear self.now most places.items) }
     {
-        let mut places = Vec::new(alloc);
+        let mut found = self.found_near(alloc, bytes, most)?;
+        found.sort_unstable();
+        let mut places = Vec::with_capacity(alloc, found.len())?;
         places.push(self.table.start)?;
-        let mut at = 0;
-        let mut next_depth = 1;
-        let mut depth = 0u32;
-        while at < places.len() && depth < DEEPEST {
-            self.push_after(at, bytes, most, &mut places)?;
-            at += 1;
-            if at == next_depth {
-                next_depth = places.len();
-                depth = depth.saturating_add(1);
-            }
-        }
+        self.push_rising(&found, most, &mut places)?;
         Ok(places)
     }
 
@@ -194,8 +284,80 @@ impl NFA {
         near.number_of(next)
     }
 
-    /// Fills a row: an entry for each of these bytes, in the order of their classes.
-    fn fill_row(&self, bytes: &[u8], row: usize, near: &mut Rows)
+    /// The number of the state to which a byte leads from the state at a place, by that to which it leads from the failure.
+    #[inline]
+    fn number_over(&self, near: &Rows, place: StateID, byte: u8, failed: StateID) -> StateID
+        requires alone { self.now.rows ≡ None }
+        requires met { IsMet self.now false place }
+        requires room { length near.now.trans.items + length self.now.table.words.items ≤ greatest_number }
+        requires failed { FailsToNumber self.now near.now place byte failed }
+        ensures { LeadsToNumber (contiguous_dictionary self.now) self.now.table near.now.places.items
+            (row_len near.now) place byte result }
+    {
+        let next = self.child(place, byte);
+        if next.as_u32() == NOWHERE {
+            return failed;
+        }
+        near.number_of(next)
+    }
+
+    /// The row of the state to which the one of a row fails, if it comes before.
+    fn failure_row(&self, near: &Rows, row: usize) -> Option<usize>
+        requires { (row < length near.now.places.items) × IsMet self.now false (slice_index near.now.places.items row) }
+        ensures { IfSome result (IsFailureRow self.now near.now row) }
+    {
+        let place = near.places[row];
+        let fail = self.fail(place);
+        let found = near.row_of(fail)?.as_usize() >> near.stride2;
+        if found < row { Some(found) } else { None }
+    }
+
+    /// Fills a row by that of the state's failure and by the state's transitions, which are for the bytes of one class.
+    fn fill_only(&self, bytes: &[u8], row: usize, from: usize, only: usize, near: &mut Rows)
+        requires alone { self.now.rows ≡ None }
+        requires met { (row < length near.old.places.items) × IsMet self.now false (slice_index near.old.places.items row) }
+        requires room { length near.old.trans.items + length self.now.table.words.items ≤ greatest_number }
+        requires letters { length bytes.now ≤ row_len near.old }
+        requires bytes { AreBytesOf self.now.table.classes bytes.now }
+        requires before { HasFilledTo self.now bytes.now row near.old near.old }
+        requires failure { IsFailureRow self.now near.old row from }
+        requires only { IsOnlyClass self.now.table (slice_index near.old.places.items row) only }
+        ensures { HasFilled self.now bytes.now row near.old near.new }
+    {
+        let place = near.places[row];
+        near.copy_row(from, row);
+        let len = bytes.len();
+        if only >= len {
+            return;
+        }
+        let at = row * near.stride() + only;
+        let byte = bytes[only];
+        let failed = near.trans[at];
+        let number = self.number_over(near, place, byte, failed);
+        near.put(at, number);
+    }
+
+    /// Fills a row by that of the state's failure and by the state's own transitions.
+    fn fill_over(&self, bytes: &[u8], row: usize, from: usize, near: &mut Rows)
+        requires alone { self.now.rows ≡ None }
+        requires met { (row < length near.old.places.items) × IsMet self.now false (slice_index near.old.places.items row) }
+        requires room { length near.old.trans.items + length self.now.table.words.items ≤ greatest_number }
+        requires letters { length bytes.now ≤ row_len near.old }
+        requires before { HasFilledTo self.now bytes.now row near.old near.old }
+        requires failure { IsFailureRow self.now near.old row from }
+        ensures { HasFilled self.now bytes.now row near.old near.new }
+    {
+        let place = near.places[row];
+        let first = row * near.stride();
+        let failed = from * near.stride();
+        for (class, byte) in bytes.iter().enumerate() {
+            let number = self.number_over(near, place, *byte, near.trans[failed + class]);
+            near.put(first + class, number);
+        }
+    }
+
+    /// Fills a row by look-ups in the words.
+    fn fill_alone(&self, bytes: &[u8], row: usize, near: &mut Rows)
         requires alone { self.now.rows ≡ None }
         requires met { (row < length near.old.places.items) × IsMet self.now false (slice_index near.old.places.items row) }
         requires room { length near.old.trans.items + length self.now.table.words.items ≤ greatest_number }
@@ -210,12 +372,33 @@ impl NFA {
         }
     }
 
+    /// Fills a row: an entry for each of these bytes, in the order of their classes.
+    fn fill_row(&self, bytes: &[u8], row: usize, near: &mut Rows)
+        requires alone { self.now.rows ≡ None }
+        requires met { (row < length near.old.places.items) × IsMet self.now false (slice_index near.old.places.items row) }
+        requires room { length near.old.trans.items + length self.now.table.words.items ≤ greatest_number }
+        requires letters { length bytes.now ≤ row_len near.old }
+        requires bytes { AreBytesOf self.now.table.classes bytes.now }
+        requires before { HasFilledTo self.now bytes.now row near.old near.old }
+        ensures { HasFilled self.now bytes.now row near.old near.new }
+    {
+        let place = near.places[row];
+        let Some(from) = self.failure_row(near, row) else {
+            return self.fill_alone(bytes, row, near);
+        };
+        match self.table.only_class(place) {
+            Some(only) => self.fill_only(bytes, row, from, only, near),
+            None => self.fill_over(bytes, row, from, near),
+        }
+    }
+
     /// Fills all rows.
     fn fill(&self, bytes: &[u8], near: &mut Rows)
         requires alone { self.now.rows ≡ None }
         requires met { (i : ℕ) → i < length near.old.places.items → IsMet self.now false (slice_index near.old.places.items i) }
         requires room { length near.old.trans.items + length self.now.table.words.items ≤ greatest_number }
         requires letters { length bytes.now ≤ row_len near.old }
+        requires bytes { AreBytesOf self.now.table.classes bytes.now }
         ensures { HasFilledAll self.now bytes.now near.old near.new }
     {
         for row in 0..near.places.len() {
@@ -223,8 +406,7 @@ impl NFA {
         }
     }
 
-    /// The rows of as many states near the start as may have some, if they take at most this many bytes; none where so few were found
-    /// that most bytes would be read in other states, for which the words alone are faster.
+    /// The rows of as many states near the start as may have some, if they take at most this many bytes.
     fn rows_near(&self, alloc: Global, memory: usize) -> Result<Option<Rows>, AllocError>
         requires alone { self.now.rows ≡ None }
         requires alike { ClassesLeadAlike (contiguous_dictionary self.now) self.now.table.classes }
@@ -237,9 +419,6 @@ impl NFA {
         }
         let bytes = bytes_of(alloc, &self.table.classes)?;
         let places = self.places_near(alloc, &bytes, most)?;
-        if places.len() < most / 2 {
-            return Ok(None);
-        }
         let mut near = blank(alloc, places, stride2)?;
         self.fill(&bytes, &mut near);
         Ok(Some(near))

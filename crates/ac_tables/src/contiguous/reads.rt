@@ -1,8 +1,8 @@
 //! Look-ups in the words of a contiguous automaton.
-ghost use Rattle.std.specs.Prelude.{◌≡◌, ◌<◌, ◌≤◌, ℕ, ◌+◌, length, take, drop, slice_get, Some};
+ghost use Rattle.std.specs.Prelude.{◌≡◌, ◌<◌, ◌≤◌, ℕ, ◌+◌, length, take, drop, slice_get, IfSome, Some};
 ghost use Rattle.ac_input.specs.Number.{greatest_number};
 ghost use Rattle.ac_automaton.specs.Starters.{SkipsBelow};
-ghost use Rattle.ac_tables.specs.Contiguous.WordReads.{IsFirstPlace, IsSparseAt, ByteLeadsTo, IsIdleAt, HasWordList, list_place, listed_at, transitions_len, IsStateAt};
+ghost use Rattle.ac_tables.specs.Contiguous.WordReads.{IsFirstPlace, IsOnlyClass, IsSparseAt, ByteLeadsTo, IsIdleAt, HasWordList, list_place, listed_at, transitions_len, IsStateAt};
 ghost use Rattle.std.specs.Int.{w32};
 ghost use Rattle.std.specs.List.{flat_map};
 ghost use Rattle.std.specs.Int.{to_le_bytes};
@@ -82,6 +82,19 @@ impl Table {
             return NOWHERE;
         }
         self.words[at + HEAD]
+    }
+
+    /// The class of the bytes that lead on from a state of one transition and no pattern; none of any other state.
+    #[inline]
+    pub(super) fn only_class(&self, sid: StateID) -> Option<usize>
+        requires { ∥ ((s : StateParts) × IsStateAt self.now sid s) ∥₁ }
+        ensures { IfSome result (IsOnlyClass self.now sid) }
+    {
+        let word = self.words[sid.as_usize()];
+        if word & KIND != ONE {
+            return None;
+        }
+        Some((word >> 8) as usize)
     }
 
     /// Where the byte leads from the state by its transitions; 1 where none has it.

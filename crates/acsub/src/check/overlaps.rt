@@ -42,6 +42,9 @@ pub fn find_pairs(
         left: MOST,
     };
     for i in 0..texts.len() {
+        if search.left == 0 {
+            break;
+        }
         search.visit(&trie, i, texts.text(i))?;
     }
     let Search {
@@ -82,7 +85,7 @@ impl Search {
                 }
             } else {
                 self.add_inner(trie, i, text, at + 1, node.out())?;
-                self.add_following(trie, i, text, node.fail())?;
+                self.add_following(trie, i, text, trie.fail(v))?;
             }
         }
         Ok(())
@@ -129,7 +132,7 @@ impl Search {
             if self.begins_apart(text, text.len().saturating_sub(node.depth())) {
                 self.add_longer(trie, i, u, &node)?;
             }
-            u = node.fail();
+            u = trie.fail(u);
         }
         Ok(())
     }
@@ -147,7 +150,7 @@ impl Search {
         }
         for c in trie.children(u) {
             let child = trie.node(c);
-            if self.parts(child.byte) {
+            if self.parts(trie.byte(c)) {
                 self.add_all(trie, i, child.all())?;
             }
         }

@@ -1,8 +1,8 @@
 //! All beginnings of patterns.
 //!
 //! Each beginning is a node, and the nodes are numbered by their depth, as those of an automaton are, with the failure links of one.
-//! The patterns are sorted, so those that begin with a node's bytes are a range of them. A node takes 32 bytes, and the work is in
-//! proportion to the patterns' bytes.
+//! The patterns are sorted, so those that begin with a node's bytes are a range of them. A node takes 29 bytes, and the work is in
+//! proportion to the patterns' bytes. What a step from node to node reads lies apart from the rest, so that it stays in the caches.
 use crate::rules::Rules;
 use ac_input::pairing::Pairing;
 use std::alloc::{AllocError, Global};
@@ -55,21 +55,16 @@ impl Texts {
     }
 }
 
-/// A beginning, and the patterns that have it.
+/// The patterns that have a beginning.
 #[derive(Clone, Copy)]
 pub struct Node {
-    /// Its last byte.
-    pub byte: u8,
     /// How many bytes it has.
     depth: u32,
     /// The patterns, in their order: those that are this beginning, and from `inner` on those that are longer.
     from: u32,
     inner: u32,
     to: u32,
-    /// The first child. The children follow one another, ordered by their bytes, up to the first child of the next node.
-    child: u32,
-    /// The longest proper suffix that is a node, and the longest one that is a pattern. The root is where there is none.
-    fail: u32,
+    /// The longest proper suffix that is a pattern. The root is where there is none.
     out: u32,
 }
 
@@ -94,11 +89,6 @@ impl Node {
         self.from as usize..self.to as usize
     }
 
-    /// The longest proper suffix that is a node.
-    pub fn fail(&self) -> usize {
-        self.fail as usize
-    }
-
     /// The longest proper suffix that is a pattern.
     pub fn out(&self) -> usize {
         self.out as usize
@@ -112,20 +102,26 @@ fn small(n: usize) -> u32 {
 
 /// The beginning of all patterns, which has no byte.
 const ROOT: Node = Node {
-    byte: 0,
     depth: 0,
     from: 0,
     inner: 0,
     to: 0,
-    child: 1,
-    fail: 0,
     out: 0,
 };
+
+/// A pattern by its first bytes, which decide most comparisons, by all its bytes, and by its number.
+type Sorted<'t> = (u64, &'t [u8], usize);
 
 /// All beginnings. The root is number 0.
 #[derive(Drop)]
 pub struct Trie {
     nodes: Vec<Node>,
+    /// The last byte of each node; 0 for the root.
+    bytes: Vec<u8>,
+    /// The first child of each node. The children follow one another, ordered by their bytes, up to the first child of the next node.
+    children: Vec<u32>,
+    /// The longest proper suffix of each node that is a node. It is the root's number where there is none.
+    fails: Vec<u32>,
     /// The numbers of the patterns, by their bytes.
     order: Vec<usize>,
 }
@@ -134,30 +130,34 @@ impl Trie {
     /// The beginnings of these patterns.
     pub fn new(alloc: Global, texts: &Texts) -> Result<Trie, AllocError> {
         let sorted = sorted(alloc, texts)?;
+        let most = texts.bytes.len().saturating_add(1);
         let mut trie = Trie {
-            nodes: Vec::new(alloc),
+            nodes: Vec::with_capacity(alloc, most)?,
+            bytes: Vec::with_capacity(alloc, most)?,
+            children: Vec::with_capacity(alloc, most)?,
+            fails: Vec::with_capacity(alloc, most)?,
             order: Vec::with_capacity(alloc, sorted.len())?,
         };
         trie.keep_order(sorted.as_slice())?;
-        trie.add_nodes(sorted.as_slice(), texts.bytes.len())?;
+        trie.add_nodes(sorted.as_slice(), most)?;
         for v in 1..trie.nodes.len() {
             trie.link_children(v);
         }
         Ok(trie)
     }
 
-    fn keep_order(&mut self, sorted: &[(&[u8], usize)]) -> Result<(), AllocError> {
-        for (_, i) in sorted {
+    fn keep_order(&mut self, sorted: &[Sorted<'_>]) -> Result<(), AllocError> {
+        for (_, _, i) in sorted {
             self.order.push(*i)?;
         }
         Ok(())
     }
 
-    /// Adds the nodes of patterns that have so many bytes. There are no more nodes than that, and the root.
-    fn add_nodes(&mut self, sorted: &[(&[u8], usize)], bytes: usize) -> Result<(), AllocError> {
+    /// Adds the nodes of patterns, of which there are no more than so many.
+    fn add_nodes(&mut self, sorted: &[Sorted<'_>], most: usize) -> Result<(), AllocError> {
         let to = small(sorted.len());
-        self.nodes.push(Node { to, ..ROOT })?;
-        for v in 0..bytes.saturating_add(1) {
+        self.add_node(Node { to, ..ROOT }, 0)?;
+        for v in 0..most {
             if v >= self.nodes.len() {
                 return Ok(());
             }
@@ -166,8 +166,16 @@ impl Trie {
         Ok(())
     }
 
+    /// Adds a node and its last byte.
+    fn add_node(&mut self, node: Node, byte: u8) -> Result<(), AllocError> {
+        self.nodes.push(node)?;
+        self.bytes.push(byte)?;
+        self.fails.push(0)?;
+        Ok(())
+    }
+
     /// Adds the children of a node: one for each byte that follows its bytes in a pattern.
-    fn add_children(&mut self, v: usize, sorted: &[(&[u8], usize)]) -> Result<(), AllocError> {
+    fn add_children(&mut self, v: usize, sorted: &[Sorted<'_>]) -> Result<(), AllocError> {
         let node = self.node(v);
         let first = self.nodes.len();
         let mut inner = node.to;
@@ -183,9 +191,9 @@ impl Trie {
             }
         }
         if let Some(node) = self.nodes.get_mut(v) {
-            node.child = small(first);
             node.inner = inner;
         }
+        self.children.push(small(first))?;
         Ok(())
     }
 
@@ -203,22 +211,21 @@ impl Trie {
             }
         }
         let child = Node {
-            byte,
             depth: node.depth.saturating_add(1),
             from,
             inner: from,
             to: node.to,
             ..ROOT
         };
-        self.nodes.push(child)?;
-        Ok(())
+        self.add_node(child, byte)
     }
 
     /// Sets the links of a node's children. Those of the node are set.
     fn link_children(&mut self, v: usize) {
-        let fail = self.node(v).fail();
+        let fail = self.fail(v);
         for c in self.children(v) {
-            let fail = self.longest_suffix(fail, self.node(c).byte);
+            let byte = self.byte(c);
+            let fail = self.longest_suffix(fail, byte);
             let suffix = self.node(fail);
             let out = if suffix.same().is_empty() {
                 suffix.out
@@ -226,8 +233,10 @@ impl Trie {
                 small(fail)
             };
             if let Some(child) = self.nodes.get_mut(c) {
-                child.fail = small(fail);
                 child.out = out;
+            }
+            if let Some(link) = self.fails.get_mut(c) {
+                *link = small(fail);
             }
         }
     }
@@ -242,7 +251,7 @@ impl Trie {
             if u == 0 {
                 return 0;
             }
-            u = self.node(u).fail();
+            u = self.fail(u);
         }
         0
     }
@@ -252,24 +261,34 @@ impl Trie {
         self.nodes.get(v).copied().unwrap_or(ROOT)
     }
 
+    /// The last byte of a node.
+    pub fn byte(&self, v: usize) -> u8 {
+        self.bytes.get(v).copied().unwrap_or(0)
+    }
+
+    /// The longest proper suffix that is a node.
+    pub fn fail(&self, v: usize) -> usize {
+        self.fails.get(v).copied().unwrap_or(0) as usize
+    }
+
+    /// The first child of a node; all nodes come before it where there is no node of this number.
+    fn first_child(&self, v: usize) -> usize {
+        match self.children.get(v) {
+            Some(first) => *first as usize,
+            None => self.nodes.len(),
+        }
+    }
+
     /// The children of a node.
     pub fn children(&self, v: usize) -> Range<usize> {
-        let from = self.node(v).child as usize;
-        let to = match self.nodes.get(v.saturating_add(1)) {
-            Some(next) => next.child as usize,
-            None => self.nodes.len(),
-        };
-        from..to
+        self.first_child(v)..self.first_child(v.saturating_add(1))
     }
 
     /// The child for a byte.
     pub fn child(&self, v: usize, byte: u8) -> Option<usize> {
         let range = self.children(v);
         let from = range.start;
-        let children = self.nodes.get(range)?;
-        let found = children
-            .binary_search_by_key(&byte, |child| child.byte)
-            .ok()?;
+        let found = self.bytes.get(range)?.binary_search(&byte).ok()?;
         Some(from.saturating_add(found))
     }
 
@@ -280,17 +299,27 @@ impl Trie {
 }
 
 /// The patterns by their bytes, each with its number.
-fn sorted<'t>(alloc: Global, texts: &'t Texts) -> Result<Vec<(&'t [u8], usize)>, AllocError> {
+fn sorted<'t>(alloc: Global, texts: &'t Texts) -> Result<Vec<Sorted<'t>>, AllocError> {
     let mut sorted = Vec::with_capacity(alloc, texts.len())?;
     for i in 0..texts.len() {
-        sorted.push((texts.text(i), i))?;
+        let text = texts.text(i);
+        sorted.push((first_bytes(text), text, i))?;
     }
     sorted.sort_unstable();
     Ok(sorted)
 }
 
+/// The first eight bytes as a number; zeros stand for those that a text lacks. Of two texts the one with the lesser number comes first.
+fn first_bytes(text: &[u8]) -> u64 {
+    let mut bytes = [0u8; 8];
+    for (to, from) in bytes.iter_mut().zip(text) {
+        *to = *from;
+    }
+    u64::from_be_bytes(bytes)
+}
+
 /// The byte at this depth of the pattern at a place; none where the pattern ends there.
-fn next_byte(sorted: &[(&[u8], usize)], place: usize, depth: usize) -> Option<u8> {
-    let (text, _) = sorted.get(place)?;
+fn next_byte(sorted: &[Sorted<'_>], place: usize, depth: usize) -> Option<u8> {
+    let (_, text, _) = sorted.get(place)?;
     text.get(depth).copied()
 }

@@ -1,15 +1,21 @@
--- The start is met, and so are the states after it.
+-- The start is met, and so are the places that were found, in any order.
 use Rattle.std.proofs.Common.{◌++◌, [], ◌∷◌, refl, ap, sym, subst, ◌∙◌}
 use Rattle.ac_input.specs.declared.search.Anchored.TheVariants.{No}
-use Rattle.ac_tables.specs.Contiguous.NearReads.{ArePlacesNear}
+use Rattle.ac_tables.specs.Contiguous.NearReads.{AreFound, ArePlacesNear}
 use Rattle.ac_tables.proofs.contiguous.NameLemmas.{read-is_met, start-read}
-use Rattle.ac_tables.proofs.contiguous.NearFillLemmas.{near-start}
+use Rattle.ac_tables.proofs.contiguous.NearFillLemmas.{near-start, found-sorted}
 use Rattle.ac_tables.proofs.contiguous.NFA.places_near.Goals as goal
 
-pub loop-at-init : goal.loop-at-init
-loop-at-init c =
+pub push_rising-requires-clause-found : goal.push_rising-requires-clause-found
+push_rising-requires-clause-found c =
+    subst (AreFound c.args.self.now c.args.most) (sym c.deref.ensures.value)
+    (found-sorted c.args.self.now c.args.most c.in_ok-found.found.items _ c.sort_unstable.ensures.permutation
+    c.in_ok-found.ensures)
+
+pub push_rising-requires-clause-near : goal.push_rising-requires-clause-near
+push_rising-requires-clause-near c =
     let a = c.args.self.now in
     subst (ArePlacesNear a c.args.most)
-    (sym (c.in_ok-push.ensures.items ∙ ap (λ l. l ++ a.table.start ∷ []) c.new-places.ensures.items))
+    (sym (c.in_ok-push.ensures.items ∙ ap (λ l. l ++ a.table.start ∷ []) c.in_ok-places.ensures.items))
     (near-start a c.args.most a.table.start c.requires
     (read-is_met a No a.table.start ∣ ([], start-read a No a.table.start refl) ∣₁))

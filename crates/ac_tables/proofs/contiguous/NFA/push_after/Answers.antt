@@ -5,5 +5,5 @@ use Rattle.ac_tables.proofs.contiguous.NFA.push_after.Goals as goal
 
 pub push_nexts-requires-clause-met : goal.push_nexts-requires-clause-met
 push_nexts-requires-clause-met c =
-    let read = get_or_read c.args.places.now.items c.args.at c.index-sid.result.now c.requires.within c.index-sid.ensures 0 in
-    subst (IsMet c.args.self.now false) (sym read) (c.requires.near.met c.args.at c.requires.within)
+    let read = get_or_read c.args.found.now.items c.args.at c.index-sid.result.now c.requires.within c.index-sid.ensures 0 in
+    subst (IsMet c.args.self.now false) (sym read) (c.requires.found.met c.args.at 0 c.requires.within)

@@ -1,5 +1,5 @@
-use Rattle.ac_tables.specs.Contiguous.NearReads.{ArePlacesNear}
+use Rattle.ac_tables.specs.Contiguous.NearReads.{AreFound}
 use Rattle.ac_tables.proofs.contiguous.NFA.push_nexts.Given as goal
 
 abbrev pub invariant-loop-byte : goal.invariant-loop-byte
-invariant-loop-byte l = ArePlacesNear l.self l.most l.places.items
+invariant-loop-byte l = AreFound l.self l.most l.found.items

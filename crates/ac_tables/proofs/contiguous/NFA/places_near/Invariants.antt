@@ -1,9 +1,0 @@
-use Rattle.std.proofs.Common.{◌-◌}
-use Rattle.ac_tables.specs.Contiguous.NearReads.{ArePlacesNear}
-use Rattle.ac_tables.proofs.contiguous.NFA.places_near.Given as goal
-
-abbrev pub invariant-loop-at : goal.invariant-loop-at
-invariant-loop-at l = ArePlacesNear l.self l.most l.places.items
-
-abbrev pub decreases-loop-at : goal.decreases-loop-at
-decreases-loop-at l = l.most - l.at

@@ -83,7 +83,9 @@ static size_t count_all(const dado_automaton *ac, dado_bytes text) {
     dado_cursor cursor = dado_cursor_over(0, text.len);
     size_t all = 0, count;
     do {
-        check(dado_some(ac, text.at, text.len, &cursor, found, 1024, &count));
+        dado_status status = dado_some(ac, text.at, text.len, &cursor, found, 1024, &count);
+        if (status == DADO_NONE) break;
+        check(status);
         all += count;
     } while (count == 1024);
     return all;

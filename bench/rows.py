@@ -104,14 +104,18 @@ class Bench:
         return measure.peaks(commands, self.programs.get("peak"))
 
 
-def measure_rows(programs, data, words, runs):
-    """The figures of each row of which the name has one of the words, or of all where there are none."""
-    bench, figures = Bench(programs, data, runs), []
+def measure_rows(programs, data, words, runs, known=()):
+    """The figures of each row of which the name has one of the words, or of all where there are none, one row after another.
+
+    Rows that are known aren't measured again.
+    """
+    bench, known = Bench(programs, data, runs), {(it["mode"], it["set"]): it for it in known}
     for mode, name, title in named(words):
-        if set(MODES[mode].needs) <= set(programs):
+        if (mode, name) in known:
+            yield known[mode, name]
+        elif set(MODES[mode].needs) <= set(programs):
             print(f"{mode} {name}", file=sys.stderr, flush=True)
-            figures.append({"mode": mode, "set": name, "title": title, **MODES[mode].figures(bench, name)})
-    return figures
+            yield {"mode": mode, "set": name, "title": title, **MODES[mode].figures(bench, name)}
 
 
 def named(words):

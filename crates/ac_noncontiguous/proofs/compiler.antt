@@ -1,4 +1,5 @@
 pub mod AssemblyLemmas
+pub mod ChildrenLemmas
 pub mod EdgeLemmas
 pub mod LayoutLemmas
 pub mod NumberingLemmas

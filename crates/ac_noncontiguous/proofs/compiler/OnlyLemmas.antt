@@ -95,7 +95,7 @@ only-one states of d tree within alone some inside child_of =
     (cases_lt (byte states c) (byte states d))
 
 -- a byte whose canonical form has a child leads to its number
-edge-child : {trie : Trie} {numbering : Numbering} {back i of c b : ℕ}
+pub edge-child : {trie : Trie} {numbering : Numbering} {back i of c b : ℕ}
     → IsNumbering (length trie.states.items) numbering → 1 < i → of ≡ slice_index numbering.at.items i
     → IsChildFor trie.states.items of (canonical trie.pairing b) c
     → IsEdgeTo trie numbering back i b (slice_index numbering.of.items c)
@@ -110,7 +110,7 @@ edge-child {trie} {numbering} {of} {c} n past is_of h =
     }
 
 -- a byte without a child leads nowhere
-edge-none : {trie : Trie} {numbering : Numbering} {back i of b : ℕ} → IsNumbering (length trie.states.items) numbering
+pub edge-none : {trie : Trie} {numbering : Numbering} {back i of b : ℕ} → IsNumbering (length trie.states.items) numbering
     → 1 < i → i ≢ numbering.start → of ≡ slice_index numbering.at.items i
     → HasNoChild trie.states.items of (canonical trie.pairing b) → IsEdgeTo trie numbering back i b 1
 edge-none {back} n past not_start is_of apart =

@@ -3,10 +3,12 @@
 //! A state stores the transitions that lead somewhere, and none for the other bytes, which are looked up at its failure. The dead
 //! state and both starts store all 256: they are reached last or most often, and have no failure.
 //!
-//! Most states have one child or none, and then need no look at each of the 256 bytes.
+//! Where no byte has a partner, the children of a state give its transitions, since they come in the order of their bytes. Else most
+//! states have one child or none, and then need no look at each of the 256 bytes.
 ghost use Rattle.std.specs.Prelude.{◌≡◌, ◌+◌, ◌<◌, length, true, false, IsTrue, IfOk};
+ghost use Rattle.ac_input.specs.Same.{IsUnpaired};
 ghost use Rattle.ac_noncontiguous.specs.Compiler.Numbering.{IsNumbering};
-ghost use Rattle.ac_noncontiguous.specs.Compiler.Only.{HasOneAtMost, AppendsOnly};
+ghost use Rattle.ac_noncontiguous.specs.Compiler.Only.{AppendsChildrenOf, HasOneAtMost, AppendsOnly};
 ghost use Rattle.ac_noncontiguous.specs.Compiler.Layout.{AreAppended, HasAll, IsAppended, AreLaidOut};
 
 use crate::compiler::edges::edges;
@@ -64,6 +66,41 @@ fn has_one_at_most(trie: &Trie, of: StateID) -> bool
     child.sibling == StateID::ZERO && trie.canonical(child.byte) == child.byte
 }
 
+/// Whether no byte has a partner.
+fn is_unpaired(trie: &Trie) -> bool
+    ensures { IsTrue result → IsUnpaired trie.now.pairing }
+{
+    for byte in 0..256usize {
+        if trie.other(byte as u8) != byte as u8 {
+            return false;
+        }
+    }
+    true
+}
+
+/// Puts the transitions to the children of the trie state after the others, in rising order of byte.
+fn push_children(
+    trie: &Trie,
+    numbering: &Numbering,
+    of: StateID,
+    transitions: &mut Vec<Transition>,
+) -> Result<(), AllocError>
+    requires numbering { IsNumbering (length trie.now.states.items) numbering.now }
+    requires within { of < length trie.now.states.items }
+    ensures { IfOk result (λ _.
+        AppendsChildrenOf trie.now numbering.now of transitions.old.items transitions.new.items) }
+{
+    let mut at = trie.state(of).child;
+    while at != StateID::ZERO {
+        let child = trie.state(at);
+        let next = numbering.of[at.as_usize()];
+        let byte = child.byte;
+        transitions.push(Transition { byte, next })?;
+        at = child.sibling;
+    }
+    Ok(())
+}
+
 /// Puts the transitions to the first child of the trie state after the others, if it has one.
 fn push_only(
     trie: &Trie,
@@ -95,9 +132,11 @@ fn push_state(
     trie: &Trie,
     numbering: &Numbering,
     back: StateID,
+    unpaired: bool,
     state: usize,
     transitions: &mut Vec<Transition>,
 ) -> Result<(), AllocError>
+    requires unpaired { IsTrue unpaired → IsUnpaired trie.now.pairing }
     requires numbering { IsNumbering (length trie.now.states.items) numbering.now }
     requires within { state < length numbering.now.at.items }
     requires back { back < length numbering.now.at.items }
@@ -109,6 +148,9 @@ fn push_state(
     }
     let all = has_all(numbering, state);
     let of = numbering.at[state];
+    if !all && unpaired {
+        return push_children(trie, numbering, of, transitions);
+    }
     if !all && has_one_at_most(trie, of) {
         return push_only(trie, numbering, of, transitions);
     }
@@ -132,9 +174,10 @@ impl Transitions {
         let states = numbering.at.len();
         let mut offsets = Vec::with_capacity(alloc, states + 1)?;
         let mut transitions = Vec::new(alloc);
+        let unpaired = is_unpaired(trie);
         offsets.push(0)?;
         for state in 0..states {
-            push_state(trie, numbering, back, state, &mut transitions)?;
+            push_state(trie, numbering, back, unpaired, state, &mut transitions)?;
             offsets.push(transitions.len())?;
         }
         Ok(Transitions {

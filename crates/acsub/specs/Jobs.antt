@@ -10,6 +10,7 @@ use Rattle.acsub.specs.Plan.{plan_of}
 use Rattle.acsub.specs.Run.{IsPrepared, Prepares, RanIn, RanRules}
 use Rattle.acsub.specs.Tally.{Counts, plan_matches, plan_words}
 use Rattle.acsub.specs.WordRun.{AnswersWordRun, AnswersWordRunIn, AreJobWords, AreWordsReady, for_words, word_demand}
+use Rattle.acsub.specs.declared.args.settings.Engine.TheVariants.{Packed}
 use Rattle.acsub.specs.declared.args.settings.Settings.{Settings}
 use Rattle.acsub.specs.declared.early.EarlyError.{EarlyError}
 use Rattle.acsub.specs.declared.early.EarlyError.TheVariants as early
@@ -46,6 +47,12 @@ abbrev pub IsAutomatonOf : Job → AhoCorasick → Type 0
 IsAutomatonOf (jobs.Run plan) a = IsServing plan.settings plan.rules a
 IsAutomatonOf (jobs.Mask prepared) a = ⊥
 IsAutomatonOf (jobs.Words prepared) a = IsServing (for_words prepared.settings) prepared.rules.now a
+
+-- a job has no automaton to lend: packed search finds its matches, or it masks
+abbrev pub LendsNone : Job → Type 0
+LendsNone (jobs.Run plan) = plan.settings.engine ≡ Packed
+LendsNone (jobs.Mask prepared) = Unit {0}
+LendsNone (jobs.Words prepared) = ⊥
 
 -- ---- what it does to an input
 

@@ -5,7 +5,7 @@
 //! second `-` is empty, since nothing is read after its end.
 ghost use Rattle.std.specs.Prelude.{◌≡◌, ◌<◌, OnOk, false};
 ghost use Rattle.acsub.specs.Jobs.{IsJobReady, RanJob};
-ghost use Rattle.acsub.specs.Files.{RanOne, VisitsFile, stop_for};
+ghost use Rattle.acsub.specs.Files.{RanOne, VisitsFile, file_status, stop_for};
 
 use crate::args::Words;
 use crate::args::settings::Mode;
@@ -42,7 +42,8 @@ pub enum FileFault {
 impl FileFault {
     /// The status with which the program ends if this is the first fault.
     pub fn status(&self) -> u8
-        ensures { 0 < result }
+        ensures value { result ≡ file_status self.now }
+        ensures some { 0 < result }
     {
         match self {
             FileFault::Unreadable | FileFault::Read | FileFault::NotRegular => 5,

@@ -2,8 +2,8 @@
 //!
 //! The settings are checked and the automaton is built before the first input is read. A job that can't be made has touched
 //! nothing.
-ghost use Rattle.std.specs.Prelude.{◌≡◌, false, IfErr, IfOk, IfSome, OnOk};
-ghost use Rattle.acsub.specs.Jobs.{CountsJob, IsAutomatonOf, IsJobFor, IsJobReady, IsNoJob, RanJob};
+ghost use Rattle.std.specs.Prelude.{◌≡◌, false, IfErr, IfNone, IfOk, IfSome, OnOk};
+ghost use Rattle.acsub.specs.Jobs.{CountsJob, IsAutomatonOf, IsJobFor, IsJobReady, IsNoJob, LendsNone, RanJob};
 
 use crate::args::settings::Settings;
 use crate::early::EarlyError;
@@ -59,7 +59,8 @@ impl<'r> Job<'r> {
     /// The automaton that finds the matches, or all occurrences for whole words; none for packed search, and none for a mask.
     pub fn automaton(&self) -> Option<&AhoCorasick>
         requires { IsJobReady self.now }
-        ensures { IfSome result (λ a. IsAutomatonOf self.now a.now) }
+        ensures serves { IfSome result (λ a. IsAutomatonOf self.now a.now) }
+        ensures none { IfNone result (LendsNone self.now) }
     {
         match self {
             Job::Run(prepared) => prepared.automaton(),

@@ -3,7 +3,7 @@
 //! A [`Prepared`] holds the settings, the rules, which suit them, and what finds the matches of the rules' patterns. It is built
 //! before the input is read, and allocates all its memory then. Packed search serves if the engine's word names it; otherwise an
 //! [`AhoCorasick`] does, by the automaton that the word names, or by the one that its builder chooses. Only the build knows which.
-ghost use Rattle.std.specs.Prelude.{◌≡◌, ◌≢◌, ◌↔◌, IfErr, IfOk, IfSome, IsSome, IsTrue, length};
+ghost use Rattle.std.specs.Prelude.{◌≡◌, ◌≢◌, ◌↔◌, IfErr, IfNone, IfOk, IfSome, IsSome, IsTrue, length};
 ghost use Rattle.ac_input.specs.declared.search.MatchKind.TheVariants.{Standard};
 ghost use Rattle.ac_literal.specs.Packed.{AreServed, search_kind};
 ghost use Rattle.acsub.specs.Finder.{FailsToBuild, IsFinderOf, IsPackedFor, IsServing, whole_listing, whole_walk};
@@ -73,7 +73,8 @@ impl<'r> Prepared<'r> {
 
     /// The automaton that finds the matches, where packed search doesn't.
     pub fn automaton(&self) -> Option<&AhoCorasick>
-        ensures { IfSome result (λ a. IsServing self.now.settings self.now.rules a.now) }
+        ensures serves { IfSome result (λ a. IsServing self.now.settings self.now.rules a.now) }
+        ensures none { IfNone result (self.now.settings.engine ≡ Packed) }
     {
         match &self.finder {
             Finder::Automaton(automaton) => Some(automaton),

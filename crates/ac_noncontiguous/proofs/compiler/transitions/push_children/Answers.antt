@@ -1,5 +1,5 @@
 -- The children come in rising order of byte.
-use Rattle.std.proofs.Common.{◌≡◌, ◌<◌, ◌++◌, ◌∷◌, [], rules, ap, ◌∙◌, sym, subst, arith, length, ◌+◌, append_assoc}
+use Rattle.std.proofs.Common.{◌≡◌, ◌<◌, ◌++◌, ◌∷◌, [], ap, ◌∙◌, sym, subst, arith, length, ◌+◌, append_assoc}
 use Rattle.std.proofs.lemmas.Bool.Decides.{nat_tests}
 use Rattle.std.proofs.lemmas.List.{append-nil}
 use Rattle.ac_noncontiguous.specs.declared.nfa.tables.Transition.{Transition}

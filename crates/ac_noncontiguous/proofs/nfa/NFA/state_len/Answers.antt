@@ -1,4 +1,4 @@
-use Rattle.std.proofs.Common.{◌-◌, arith}
+use Rattle.std.proofs.Common.{arith}
 use Rattle.ac_noncontiguous.proofs.nfa.ReadCallLemmas.{counts-in}
 use Rattle.ac_noncontiguous.proofs.nfa.NFA.state_len.Goals as goal
 

@@ -1,5 +1,5 @@
 -- The failure of a state, by cases: final states, the start and its children, and the others by their parent's failure.
-use Rattle.std.proofs.Common.{◌≡◌, ◌≢◌, ◌+◌, ◌∙◌, sym, ap, Some, None, subst, arith}
+use Rattle.std.proofs.Common.{◌≡◌, ◌≢◌, ◌∙◌, sym, ap, Some, None, subst, arith}
 use Rattle.std.proofs.lemmas.Bool.Decides.{nat_tests}
 use Rattle.ac_noncontiguous.specs.Trie.Tree.{parent}
 use Rattle.ac_noncontiguous.specs.Links.Failures.{IsFinalIn}

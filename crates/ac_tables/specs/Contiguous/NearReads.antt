@@ -48,7 +48,7 @@ pub record ArePlacesNear (nfa : NFA) (most : ℕ) (places : List ℕ) : Type 0 w
   pub rise : Rise places
   pub met : (i : ℕ) → i < length places → IsMet nfa false (slice_index places i)
 
--- there is room for so many rows: all numbers are small enough, and with places and index they take at most `memory`
+-- There is room for so many rows: all numbers are small enough. What they take beside `memory` isn't said.
 pub record HasRoomNear (nfa : NFA) (stride memory most : ℕ) : Type 0 where
   pub numbers : most * stride + length nfa.table.words.items ≤ greatest_number
 

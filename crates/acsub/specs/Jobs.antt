@@ -10,7 +10,8 @@ use Rattle.acsub.specs.Plan.{plan_of}
 use Rattle.acsub.specs.Run.{IsPrepared, Prepares, RanIn, RanRules}
 use Rattle.acsub.specs.Tally.{Counts, plan_matches, plan_words}
 use Rattle.acsub.specs.WordRun.{AnswersWordRun, AnswersWordRunIn, AreJobWords, AreWordsReady, for_words, word_demand}
-use Rattle.acsub.specs.declared.args.settings.Engine.TheVariants.{Packed}
+use Rattle.acsub.specs.declared.args.settings.Engine.{Engine}
+use Rattle.acsub.specs.declared.args.settings.Engine.TheVariants as engines
 use Rattle.acsub.specs.declared.args.settings.Settings.{Settings}
 use Rattle.acsub.specs.declared.early.EarlyError.{EarlyError}
 use Rattle.acsub.specs.declared.early.EarlyError.TheVariants as early
@@ -36,6 +37,15 @@ IsNoJob None false stream settings rules (early.Refused refusal) = ⊥
 IsNoJob None true stream settings rules e = IsUnready (word_demand settings rules) e
 IsNoJob (Some byte) word stream settings rules e = IsUnready (mask_demand settings rules byte) e
 
+-- the settings by which a job is made for a report: where the choice of an automaton is left to its builder, that is a
+-- noncontiguous NFA
+abbrev pub reported_engine : Engine → Engine
+reported_engine engines.Auto = engines.Noncontiguous
+reported_engine other = other
+
+abbrev pub reported : Settings → Settings
+reported settings = record settings { engine = reported_engine settings.engine }
+
 -- what was prepared serves the settings and rules that it holds
 abbrev pub IsJobReady : Job → Type 0
 IsJobReady (jobs.Run plan) = IsPrepared plan
@@ -50,7 +60,7 @@ IsAutomatonOf (jobs.Words prepared) a = IsServing (for_words prepared.settings) 
 
 -- a job has no automaton to lend: packed search finds its matches, or it masks
 abbrev pub LendsNone : Job → Type 0
-LendsNone (jobs.Run plan) = plan.settings.engine ≡ Packed
+LendsNone (jobs.Run plan) = plan.settings.engine ≡ engines.Packed
 LendsNone (jobs.Mask prepared) = Unit {0}
 LendsNone (jobs.Words prepared) = ⊥
 

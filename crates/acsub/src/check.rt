@@ -11,9 +11,9 @@
 //! - *Pairs that overlap*, of whose text a part may stay as it is or be matched otherwise ([`overlaps`]).
 //!
 //! In the other modes every occurrence counts, so neither is named. A line is that of the rule file, or the place among the arguments.
-ghost use Rattle.std.specs.Prelude.{◌≡◌, ◌≢◌, IfOk};
-ghost use Rattle.acsub.specs.Jobs.{IsJobReady};
-ghost use Rattle.acsub.specs.declared.args.settings.Engine.TheVariants.{Auto, Noncontiguous};
+ghost use Rattle.std.specs.Prelude.{◌≡◌, IfErr, IfOk};
+ghost use Rattle.acsub.specs.Jobs.{IsJobFor, IsJobReady, IsNoJob, reported};
+ghost use Rattle.acsub.specs.declared.args.settings.Engine.TheVariants.{Noncontiguous};
 
 mod overlaps;
 mod trie;
@@ -37,13 +37,19 @@ const NAMED: usize = 100;
 /// The settings by which the job of a report is made. Where the choice of an automaton is left to its builder, that is a noncontiguous
 /// NFA, from which the others are made: a build of one is refused for the same rules.
 fn reported(settings: &Settings) -> Settings
-    ensures { result.engine ≢ Auto }
+    ensures { result ≡ reported settings.now }
 {
-    let mut settings = *settings;
-    if settings.engine == Engine::Auto {
-        settings.engine = Engine::Noncontiguous;
+    let engine = match settings.engine {
+        Engine::Auto => Engine::Noncontiguous,
+        Engine::Noncontiguous => Engine::Noncontiguous,
+        Engine::Contiguous => Engine::Contiguous,
+        Engine::Dfa => Engine::Dfa,
+        Engine::Packed => Engine::Packed,
+    };
+    Settings {
+        engine,
+        ..*settings
     }
-    settings
 }
 
 /// The job by which rules are reported on.
@@ -52,7 +58,9 @@ pub fn job_for<'r>(
     asked: &Words<'_>,
     rules: &'r Rules,
 ) -> Result<Job<'r>, EarlyError>
-    ensures { IfOk result IsJobReady }
+    ensures made { IfOk result (IsJobFor asked.now.mask asked.now.word asked.now.stream (reported asked.now.settings) rules.entry.now) }
+    ensures ready { IfOk result IsJobReady }
+    ensures refused { IfErr result (IsNoJob asked.now.mask asked.now.word asked.now.stream (reported asked.now.settings) rules.entry.now) }
 {
     let settings = reported(&asked.settings);
     Job::new(
@@ -158,7 +166,7 @@ fn write_hidden(
 
 /// The settings by which patterns are searched that a packed search was made of.
 fn searched(asked: &Words<'_>) -> Settings
-    ensures { result.engine ≡ Noncontiguous }
+    ensures { result ≡ (record asked.now.settings { engine = Noncontiguous }) }
 {
     let mut settings = asked.settings;
     settings.engine = Engine::Noncontiguous;

@@ -124,11 +124,9 @@ least_filtered = 64
 abbrev pub IsShort : Asked → Type 0
 IsShort asked = asked.span.end - asked.span.start < least_filtered
 
--- A search is over at the first state that matches, and there is none before a byte is read: it isn't anchored, the first match wins, the
--- start doesn't match, and there are bytes.
-pub record EndsAtFirst {S : Type 0} (A : Ghosts S) (automaton : S) (asked : Asked) (start : StateID) : Type 0 where
+-- A search meets no match before it has read a byte: it isn't anchored, the start doesn't match, and there are bytes.
+pub record StartsQuiet {S : Type 0} (A : Ghosts S) (automaton : S) (asked : Asked) (start : StateID) : Type 0 where
   pub free : asked.anchored ≡ No
-  pub first : kind_asked (A.built automaton) asked ≡ Standard
   pub some : asked.span.start < asked.span.end
   pub quiet : ¬ (A.matches automaton start ≢ [])
 

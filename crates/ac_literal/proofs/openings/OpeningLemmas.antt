@@ -19,7 +19,7 @@ use Rattle.ac_literal.specs.Openings.Fingerprints.{print_of, IsPrinted, KeepsPri
 use Rattle.ac_literal.specs.Openings.Marks.{HasPartners, HaveOpened}
 use Rattle.ac_literal.specs.Openings.Fronts.{MayOpen}
 use Rattle.ac_literal.specs.Packed.{bytes_of, AreAsLong}
-use Rattle.ac_literal.specs.Packed.Teddy.{HasBucket, KeepsBuckets, KeepsPatterns, LooksBefore, HasPattern, IsNextMarks, low_at, marked_at}
+use Rattle.ac_literal.specs.Packed.Teddy.{AreSet, HasBucket, KeepsBuckets, KeepsPatterns, LooksBefore, HasPattern, IsNextMarks, low_at, marked_at}
 use Rattle.ac_literal.proofs.openings.FingerprintLemmas.{same-print}
 use Rattle.ac_literal.proofs.packed.TeddyLemmas.{all-leave, keeps-pattern}
 use Rattle.ac_input.proofs.lemmas.SameLemmas.{same-cases, same-unpaired}
@@ -188,6 +188,20 @@ none-shorter patterns pairing kind len long n p is =
 
 -- ---- what is passed
 
+-- within a block, no place may open before the first mark whose fingerprint is in the set
+pub marked-passed : {f : Fronts} {text : List ℕ} {block : ℕ} (marks : ℕ) {count : ℕ}
+    → ((place : ℕ) → place < block → ¬ MayOpen f text place) → AreSet f.teddy text block marks → count ≤ 32
+    → ((k : ℕ) → k < count → bit_at marks k ≡ 1 → ¬ IsPrinted f.prints (take f.len (drop (block + k) text)))
+    → (place : ℕ) → place < block + count → ¬ MayOpen f text place
+marked-passed {f} {text} {block} marks before set few unprinted place within is = elim (cases_lt place block) [
+  | inl early ↦ before place early is
+  | inr late ↦
+      let k : ℕ = place - block in
+      let here : place ≡ block + k = omega (arith, late) in
+      let there : MayOpen f text (block + k) = subst (MayOpen f text) here is in
+      unprinted k (omega (arith, late, within)) (set k (omega (arith, late, within, few)) there.left) there.printed
+]
+
 module _ {f : Fronts} {text : List ℕ} {from to block marks : ℕ} (next : IsNextMarks f.teddy text from to block marks)
     (before : (place : ℕ) → place < from → ¬ MayOpen f text place) where
   -- no place before the next block with a mark may open
@@ -197,19 +211,11 @@ module _ {f : Fronts} {text : List ℕ} {from to block marks : ℕ} (next : IsNe
     | inr late ↦ is.left (next.passed place (omega (arith, late)) within)
   ]
 
-  -- within the block, no place may open before the first mark whose fingerprint is in the set
+  -- the same up to the first mark of that block whose fingerprint is in the set
   pub block-passed : {count : ℕ} → count ≤ 32 → marks ≢ 0
       → ((k : ℕ) → k < count → bit_at marks k ≡ 1 → ¬ IsPrinted f.prints (take f.len (drop (block + k) text)))
       → (place : ℕ) → place < block + count → ¬ MayOpen f text place
-  block-passed few some unprinted place within is = elim (cases_lt place block) [
-    | inl early ↦ block-before place early is
-    | inr late ↦
-        let k : ℕ = place - block in
-        let here : place ≡ block + k = omega (arith, late) in
-        let there : MayOpen f text (block + k) = subst (MayOpen f text) here is in
-        unprinted k (omega (arith, late, within)) (next.set some k (omega (arith, late, within, few)) there.left)
-        there.printed
-  ]
+  block-passed few some unprinted = marked-passed marks block-before (next.set some) few unprinted
 
 -- ---- patterns that are lent
 

@@ -1,9 +1,11 @@
 -- What operations on vectors of 32 bytes yield at each lane.
-use Rattle.std.proofs.Common.{◌≡◌, ◌≢◌, ℕ, ◌+◌, ◌*◌, ◌/◌, ◌%◌, ◌^◌, ◌<◌, List, [], ◌∷◌, zero, suc, bit_or, Bool, false, true, not, cond, eqb, length, get_or, map, replicate, refl, sym, ap, ◌∙◌, arith, w8}
+use Rattle.std.proofs.Common.{◌≡◌, ◌≢◌, inl, inr, ℕ, ◌+◌, ◌*◌, ◌/◌, ◌%◌, ◌^◌, ◌<◌, List, [], ◌∷◌, zero, suc, bit_or, Bool, false, true, not, cond, eqb, length, get_or, map, replicate, refl, sym, ap, ◌∙◌, arith, w8}
 use Rattle.std.specs.Int.{bit_at}
 use Rattle.std.specs.Simd.Lanes.{zip2, fold_l, mask_l, top}
 use Rattle.std.proofs.lemmas.Simd.{length-zip2, get_or-zip2, get_or-replicate, bit_mask_l, bitmask_splat, mask_l-lt, length-swz_l, get_or-swz_l_below, swz_l, SwzOk, SwzOk-from_below, Each1-from_get_or}
-use Rattle.std.proofs.lemmas.Bool.{eqb-true}
+use Rattle.std.specs.Int.Bits.{or_zero_l}
+use Rattle.std.proofs.lemmas.Bool.{cases_eq, eqb-true}
+use Rattle.std.proofs.lemmas.Nat.Bits.{bit_at-zero}
 use Rattle.std.proofs.lemmas.Nat.{le_or_l, le_or_r}
 use Rattle.std.proofs.lemmas.List.{length-map}
 use Rattle.std.proofs.Math.ListN.{get_or-map}
@@ -88,3 +90,22 @@ pub or-none : (a : ℕ) (xs : List ℕ) → fold_l bit_or a xs ≡ 0 → (k : �
 or-none a [] h k = refl
 or-none a (x ∷ xs) h zero = let e = or-first (bit_or a x) xs h in omega (arith, le_or_r a x)
 or-none a (x ∷ xs) h (suc k) = or-none (bit_or a x) xs h k
+
+-- if each of several numbers is 0, their `or` is 0
+pub or-zero : (xs : List ℕ) → ((k : ℕ) → k < length xs → get_or xs k 0 ≡ 0) → fold_l bit_or 0 xs ≡ 0
+or-zero [] zeros = refl
+or-zero (x ∷ xs) zeros =
+    ap (λ a. fold_l bit_or a xs) (or_zero_l x ∙ zeros 0 (omega arith))
+    ∙ or-zero xs (λ k within. zeros (suc k) (omega (arith, within)))
+
+-- where some lane isn't 0, the bits of the lanes aren't 0
+pub some-set : (lanes : List ℕ) (marks : ℕ) → ¬ ((k : ℕ) → k < 32 → get_or lanes k 0 ≡ 0)
+    → ((k : ℕ) → k < 32 → get_or lanes k 0 ≢ 0 → bit_at marks k ≡ 1) → marks ≢ 0
+some-set lanes marks some set none =
+    some (λ k within. elim (cases_eq (get_or lanes k 0) 0) [
+      | inl is ↦ is
+      | inr differs ↦
+          let here = set k within differs in
+          let clear : bit_at marks k ≡ 0 = ap (λ m. bit_at m k) none ∙ bit_at-zero k in
+          absurd (omega (arith, here, clear))
+    ])

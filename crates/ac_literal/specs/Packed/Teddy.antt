@@ -81,14 +81,19 @@ pub record IsTeddy (patterns : List (List ℕ)) (len : ℕ) (t : Teddy) : Type 0
   pub near : LooksBefore len t
   pub all : (number : ℕ) → number < (length patterns) → (bucket : ℕ) × HasPattern t (get_or patterns number []) bucket
 
+-- each of 32 places that is marked has its bit
+abbrev pub AreSet : Teddy → List ℕ → ℕ → ℕ → Type 0
+AreSet t haystack block marks = (k : ℕ) → k < 32 → marked_at t haystack (block + k) ≢ 0 → bit_at marks k ≡ 1
+
 -- The next block of 32 places before the place `to` that has a mark, and its marks. Where no block has one, the marks
--- are 0, and no place before `block` is marked.
+-- are 0, no place before `block` is marked, and fewer places are left than a block has.
 pub record IsNextMarks (t : Teddy) (haystack : List ℕ) (from to block marks : ℕ) : Type 0 where
   pub after : from ≤ block
   pub within : block ≤ to
   pub passed : (place : ℕ) → from ≤ place → place < block → marked_at t haystack place ≡ 0
   pub whole : marks ≢ 0 → block + 32 ≤ to
-  pub set : marks ≢ 0 → (k : ℕ) → k < 32 → marked_at t haystack (block + k) ≢ 0 → bit_at marks k ≡ 1
+  pub left : marks ≡ 0 → to < block + 32
+  pub set : marks ≢ 0 → AreSet t haystack block marks
   pub few : marks < 4294967296
 
 -- each occurrence that starts within 32 places has its bit among the marks

@@ -143,6 +143,27 @@ impl Fronts {
         LANES
     }
 
+    /// How many places at the front may be passed, where those before `at` may, and fewer than a block are left: the last ones are
+    /// looked at once more, in a block that ends with them. Where there are fewer places than a block has, these are left.
+    ///
+    /// Not inlined, since only the end of the bytes comes to it.
+    #[inline(never)]
+    fn pass_last(&self, bytes: &[u8], at: usize, to: usize) -> usize
+        requires order { at ≤ to }
+        requires short { to < at + 32 }
+        requires end { to + self.now.len ≡ length bytes.now + 1 }
+        requires passed { PassesFronts self.now bytes.now at }
+        ensures within { result ≤ to }
+        ensures passed { PassesFronts self.now bytes.now result }
+    {
+        if at == to || to < LANES {
+            return at;
+        }
+        let block = to - LANES;
+        let marks = self.teddy.marks_at(bytes, block, self.len);
+        block + self.first_printed(bytes, block, marks)
+    }
+
     /// How many bytes at the front may be passed: up to the next place at which a pattern may begin, or up to the last ones.
     #[inline]
     pub fn pass(&self, bytes: &[u8]) -> usize
@@ -157,7 +178,7 @@ impl Fronts {
         while to - at >= LANES {
             let (block, marks) = self.teddy.next_marks(bytes, at, to, self.len);
             if marks == 0 {
-                return block;
+                return self.pass_last(bytes, block, to);
             }
             let place = self.first_printed(bytes, block, marks);
             if place < LANES {
@@ -165,6 +186,6 @@ impl Fronts {
             }
             at = block + LANES;
         }
-        at
+        self.pass_last(bytes, at, to)
     }
 }

@@ -3,7 +3,7 @@
 //! One pattern alone is left to a search for a needle (`needle`). With more, the haystack is searched in blocks of 32 places,
 //! whose marks come at once. If a block has none, no pattern begins in it. Otherwise each marked place is checked by the hash of
 //! the bytes there, from the first to the last; the first place at which a pattern lies has the match. The rest after the last
-//! whole block is searched by the rolling hash.
+//! whole block is searched by a block that ends with it, or, where the span has fewer places than a block, by the rolling hash.
 //!
 //! Where grams find fewer places than marks (`grams`), they take the place of marks: with many patterns, or patterns of few
 //! different letters. The hash then searches the few places from which a pattern reaches the gram.
@@ -15,7 +15,7 @@
 //! pattern, too, the hash takes over after more than 8 searches in a row that found a match on the first two places: starting a
 //! search for a needle costs more than checking some places by the hash. An iterator remembers its pace from match to match, so
 //! that many short searches don't each try anew.
-ghost use Rattle.std.specs.Prelude.{◌≡◌, ◌+◌, ◌<◌, ◌≤◌, length, IfOk, IfSome};
+ghost use Rattle.std.specs.Prelude.{◌≡◌, ◌+◌, ◌-◌, ◌<◌, ◌≤◌, length, IfOk, IfSome};
 ghost use Rattle.ac_literal.specs.Grams.{AreCopiedGrams, HaveWindows};
 ghost use Rattle.ac_literal.specs.Packed.{AreAsLong, AreServed, in_span, search_kind};
 ghost use Rattle.ac_literal.specs.Packed.RabinKarp.{NoneBefore, IsMatchBefore};
@@ -238,6 +238,37 @@ impl Scanner {
         None
     }
 
+    /// The match of the kind, if it begins at one of the last places, fewer than a block has. None begins before `at`.
+    ///
+    /// Not inlined, since only the end of a span comes to it.
+    #[inline(never)]
+    fn find_last(
+        &self,
+        patterns: &Patterns,
+        haystack: &[u8],
+        span: Span,
+        at: usize,
+    ) -> Option<Match>
+        requires scanner { IsScanner patterns.now self.now }
+        requires start { span.start ≤ at }
+        requires long { self.now.table.hash_len ≤ span.end }
+        requires end { at ≤ span.end - self.now.table.hash_len + 1 }
+        requires short { span.end - self.now.table.hash_len + 1 < at + 32 }
+        requires within { span.end ≤ length haystack.now }
+        requires none { NoneBefore (in_span patterns.now haystack.now span) at }
+        ensures { IsMatchBefore self.now.table.kind patterns.now haystack.now span
+            (span.end - self.now.table.hash_len + 1) result }
+    {
+        let len = self.table.hash_len();
+        let to = span.end - len + 1;
+        if to - span.start < LANES {
+            return self.table.find_between(patterns, haystack, span, at, to);
+        }
+        let block = to - LANES;
+        let marks = self.teddy.marks_at(haystack, block, len);
+        self.find_marked(patterns, haystack, span, block, marks)
+    }
+
     /// The match of the kind, if it begins where the next gram stands, and the place after the last one at which it may. None
     /// begins before `at`.
     fn find_by_grams(
@@ -313,8 +344,7 @@ impl Scanner {
         }
         let (block, marks) = self.teddy.next_marks(haystack, at, to, len);
         if marks == 0 {
-            let found = self.table.find_between(patterns, haystack, span, block, to);
-            return (to, found);
+            return (to, self.find_last(patterns, haystack, span, block));
         }
         if marks.count_ones() > FEW {
             pace.slow(block);

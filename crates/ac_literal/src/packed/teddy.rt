@@ -12,10 +12,10 @@
 //! bytes the first two do. The offsets are spread over the bytes that all patterns have, since bytes further apart distinguish
 //! more. Patterns that are neighbours in the order of their bytes share a bucket, so that fewer bytes fit into it. A block is
 //! passed by one test of all its places; which of them are marked is computed only if one is.
-ghost use Rattle.std.specs.Prelude.{◌≡◌, ◌≢◌, IsFalse, ℕ, ◌+◌, ◌/◌, ◌%◌, ◌<◌, ◌≤◌, length, slice_index, bit_and};
+ghost use Rattle.std.specs.Prelude.{◌≡◌, ◌≢◌, IsFalse, IsTrue, ℕ, ◌+◌, ◌/◌, ◌%◌, ◌<◌, ◌≤◌, length, slice_index, bit_and};
 ghost use Rattle.std.specs.Int.{bit_at};
 ghost use Rattle.ac_literal.specs.Packed.{AreServed, AreAsLong};
-ghost use Rattle.ac_literal.specs.Packed.Teddy.{HasLanes, HasBucket, KeepsBuckets, LooksBefore, HasPattern, KeepsPatterns, IsTeddy, IsNextMarks, low_at, left_at, two_at, three_at, four_at, four_low_at, marked_at};
+ghost use Rattle.ac_literal.specs.Packed.Teddy.{HasLanes, HasBucket, KeepsBuckets, LooksBefore, HasPattern, KeepsPatterns, IsTeddy, AreSet, IsNextMarks, low_at, left_at, two_at, three_at, four_at, four_low_at, marked_at};
 
 use crate::packed::pattern::Patterns;
 use ac_input::primitives::PatternID;
@@ -100,7 +100,8 @@ fn both(a: u8x32, b: u8x32) -> u8x32
 /// Whether some lane isn't 0.
 #[inline(always)]
 fn has_lane(lanes: u8x32) -> bool
-    ensures { IsFalse result → (k : ℕ) → k < 32 → slice_index lanes k ≡ 0 }
+    ensures none { IsFalse result → (k : ℕ) → k < 32 → slice_index lanes k ≡ 0 }
+    ensures some { IsTrue result → ¬ ((k : ℕ) → k < 32 → slice_index lanes k ≡ 0) }
 {
     lanes.reduce_or() != 0
 }
@@ -284,6 +285,16 @@ impl Teddy {
             (false, true) => self.three(haystack, at, len),
             (false, false) => self.four_low(haystack, at, len),
         }
+    }
+
+    /// The marks of the block at a place. Each place of it has `len` bytes.
+    pub fn marks_at(&self, haystack: &[u8], at: usize, len: usize) -> u64
+        requires near { LooksBefore len self.now }
+        requires room { at + len + 31 ≤ length haystack.now }
+        ensures few { result < 4294967296 }
+        ensures set { AreSet self.now haystack.now at result }
+    {
+        set_lanes(self.left(haystack, at, len))
     }
 
     /// The next block that has a mark, of those that lie whole before the place `to`, and its marks; or no marks, and the place

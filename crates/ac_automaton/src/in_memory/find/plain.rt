@@ -1,32 +1,30 @@
-//! The search for one match that runs no prefilter and is over at the first state that matches.
+//! The search for one match that runs no prefilter.
 //!
-//! Under the standard kind, and in an earliest search of any kind, the first match is the result. No state is dead before it. So where the
-//! search isn't anchored and its start doesn't match, it reads on to that state in one call, and passes over starts.
+//! Where it isn't anchored and its start doesn't match, it reads on to the first state that matches in one call, and passes over starts:
+//! no state is dead before a match. Under the standard kind, and in an earliest search of any kind, that match is the result. Else a
+//! later one may be better, and the search reads on until its state is dead.
 //!
 //! Few bytes are searched so whether there is a prefilter or not: to ask it costs more than to read them.
 ghost use Rattle.std.specs.Prelude.{◌≤◌, [], IsTrue};
 ghost use Rattle.ac_automaton.specs.Automaton.{IsFindCost, IsFound};
-ghost use Rattle.ac_automaton.specs.InMemory.Find.{EndsAtFirst};
+ghost use Rattle.ac_automaton.specs.InMemory.Find.{StartsQuiet};
 
 use crate::automaton::Automaton;
-use crate::in_memory::find::cursor::{Cursor, read_to_match};
+use crate::in_memory::find::cursor::{Cursor, read_on, read_to_match};
 use crate::in_memory::find::{first_match, search, takes_first};
 use ac_input::primitives::StateID;
 use ac_input::search::{Anchored, Input, Match};
 use ac_input::steps::Steps;
 
-/// Whether the search is over at the first state that matches, and the start is none.
+/// Whether the search isn't anchored, has bytes to read, and doesn't match at its start.
 fn is_plain<A: Automaton>(automaton: &A, input: &Input<'_>, start: StateID) -> bool
     requires { A.Reaches automaton.now input.now.anchored [] start }
-    ensures { IsTrue result → EndsAtFirst A.Automaton automaton.now input.now start }
+    ensures { IsTrue result → StartsQuiet A.Automaton automaton.now input.now start }
 {
     match input.get_anchored() {
         Anchored::Yes => false,
         Anchored::No => {
             if input.start() >= input.end() {
-                return false;
-            }
-            if !takes_first(automaton, input) {
                 return false;
             }
             !automaton.is_match(start)
@@ -49,15 +47,28 @@ pub(crate) fn find<A: Automaton>(
     if !is_plain(automaton, input, start) {
         return search(automaton, None, input, start, steps);
     }
+    let end = input.end();
     let from = input.start();
     let begun = Cursor {
         sid: start,
         from,
         at: from,
     };
-    let cursor = read_to_match(automaton, input, begun, input.end(), steps);
+    let mut cursor = read_to_match(automaton, input, begun, end, steps);
     if !automaton.is_match(cursor.sid) {
         return None;
     }
-    Some(first_match(automaton, cursor.sid, cursor.at))
+    let mut best = first_match(automaton, cursor.sid, cursor.at);
+    if takes_first(automaton, input) {
+        return Some(best);
+    }
+    loop {
+        if cursor.at == end || automaton.is_dead(cursor.sid) {
+            return Some(best);
+        }
+        cursor = read_on(automaton, input, cursor, steps);
+        if automaton.is_match(cursor.sid) {
+            best = first_match(automaton, cursor.sid, cursor.at);
+        }
+    }
 }

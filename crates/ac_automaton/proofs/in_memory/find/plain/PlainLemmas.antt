@@ -2,13 +2,14 @@
 use Rattle.std.proofs.Common.{◌≡◌, ◌≢◌, ℕ, ◌-◌, ◌<◌, ◌≤◌, ◌∙◌, arith, false, List, [], length, Option, Some, None, sym, subst, refl}
 use Rattle.ac_input.specs.Number.{StateID}
 use Rattle.ac_input.specs.declared.search.Anchored.TheVariants.{No}
+use Rattle.ac_input.specs.declared.search.MatchKind.TheVariants.{Standard}
 use Rattle.ac_input.specs.declared.steps.Steps.{Steps}
 use Rattle.ac_input.specs.Dictionary.{IsLive}
 use Rattle.ac_input.specs.Input.{Asked, is_anchored}
 use Rattle.ac_input.specs.Occurrence.{Occurrence}
 use Rattle.ac_input.specs.Tells.{Tells}
-use Rattle.ac_automaton.specs.Automaton.{IsFindCost, IsFound}
-use Rattle.ac_automaton.specs.InMemory.Find.{EndsAtFirst}
+use Rattle.ac_automaton.specs.Automaton.{IsFindCost, IsFound, kind_asked}
+use Rattle.ac_automaton.specs.InMemory.Find.{StartsQuiet}
 use Rattle.ac_automaton.specs.InMemory.Find.Cursor.{HasNoneYet, IsFirstAt, IsTaken, ReadsFurther, StandsIn, taken}
 use Rattle.ac_automaton.specs.declared.automaton.Automaton.{Ghosts}
 use Rattle.ac_automaton.specs.declared.in_memory.find.cursor.Cursor.{Cursor}
@@ -78,7 +79,7 @@ module _ {S : Type 0} (A : Ghosts S) (a : S) (asked : Asked)
 module _ {S : Type 0} (A : Ghosts S) (a : S) (asked : Asked) (start : StateID)
     (tells : (text : List ℕ) (state : StateID) → A.Reaches a asked.anchored text state
     → Tells (A.built a).dictionary asked.anchored text (A.matches a state))
-    (plain : EndsAtFirst A a asked start) (starts : A.Reaches a asked.anchored [] start)
+    (plain : StartsQuiet A a asked start) (starts : A.Reaches a asked.anchored [] start)
     (inside : asked.span.end ≤ length asked.haystack) (from : ℕ) (is : from ≡ asked.span.start) where
   -- where it begins
   abbrev begun : ℕ → Cursor
@@ -119,11 +120,34 @@ module _ {S : Type 0} (A : Ghosts S) (a : S) (asked : Asked) (start : StateID)
       (list-none (A.matches a cursor.sid) none)) (Ended ended)
 
   -- that has a match
-  pub plain-some : (cursor : Cursor) (o : Occurrence) (x y : Steps)
+  pub plain-met : (cursor : Cursor) (o : Occurrence) (x y : Steps)
       → StandsIn (A.built a) (A.Reaches a) asked cursor → cursor.from ≡ from
       → ReadsFurther (A.built a) asked (begun from) cursor x y
       → IsFirstAt (A.built a).dictionary cursor.at (A.matches a cursor.sid) o
+      → HasAsked A a asked asked.span.start cursor (Some o) x y
+  plain-met cursor o x y stands same on first =
+      met-some A a asked tells plain.free None o (walks cursor x y stands same on) first
+
+  -- that has a match, where the first one wins
+  pub plain-first : (cursor : Cursor) (o : Occurrence) (x y : Steps)
+      → StandsIn (A.built a) (A.Reaches a) asked cursor → cursor.from ≡ from
+      → ReadsFurther (A.built a) asked (begun from) cursor x y
+      → IsFirstAt (A.built a).dictionary cursor.at (A.matches a cursor.sid) o
+      → kind_asked (A.built a) asked ≡ Standard
       → IsFound (A.built a) asked (Some o) × IsFindCost (A.built a) asked x y (Some o)
-  plain-some cursor o x y stands same on first =
-      is-found A a asked cursor (Some o) x y
-      (met-some A a asked tells plain.free None o (walks cursor x y stands same on) first) (Won o plain.first refl)
+  plain-first cursor o x y stands same on first wins =
+      is-found A a asked cursor (Some o) x y (plain-met cursor o x y stands same on first) (Won o wins refl)
+
+-- A search that has a match, and that a later one may better, reads on while its state isn't dead.
+pub met-on : {S : Type 0} (A : Ghosts S) (a : S) (asked : Asked)
+    → ((text : List ℕ) (state : StateID) → A.Reaches a asked.anchored text state
+    → Tells (A.built a).dictionary asked.anchored text (A.matches a state))
+    → {cursor : Cursor} (next : Cursor) {best : Option Occurrence} {x y : Steps} (z : Steps)
+    → HasAsked A a asked asked.span.start cursor best x y → ¬ (kind_asked (A.built a) asked ≡ Standard)
+    → ¬ IsLive (A.built a).dictionary (is_anchored asked.anchored) (text_read asked cursor) None
+    → StandsIn (A.built a) (A.Reaches a) asked next → next.from ≡ cursor.from
+    → ReadsFurther (A.built a) asked cursor next y z
+    → Walks A a asked asked.span.start next best x z
+met-on A a asked tells {cursor} next {best} z has later alive stands same on =
+    asked-on next z has (λ standard. absurd (later standard))
+    (alive-from (A.built a).dictionary (is_anchored asked.anchored) (text_read asked cursor) alive) stands same on

@@ -1,16 +1,21 @@
--- The first match is the match of the search; without one, the span ends where the search has read to.
-use Rattle.std.proofs.Common.{◌≤◌, length, slice_range, sym, subst, ◌∙◌, arith}
+-- The first match is the match of the search, or the best so far; without one, the span ends where the search has read to.
+use Rattle.std.proofs.Common.{◌≤◌, length, Some, sym, ◌∙◌, arith}
 use Rattle.std.proofs.lemmas.Grind.{common_steps}
 use Rattle.std.proofs.lemmas.Bool.{false≢true}
-use Rattle.ac_input.proofs.lemmas.OrderLemmas.{slice_range-length}
-use Rattle.ac_automaton.proofs.in_memory.find.plain.PlainLemmas.{plain-none, plain-nothing, plain-some, plain-stands}
+use Rattle.ac_automaton.specs.Automaton.{kind_asked}
+use Rattle.ac_automaton.proofs.in_memory.find.FindWalkLemmas.{rest, text_read}
+use Rattle.ac_automaton.proofs.in_memory.find.ahead.FindAheadLemmas.{is-found}
+use Rattle.ac_automaton.proofs.in_memory.find.plain.PlainLemmas.{met-none, met-on, met-some, plain-first, plain-met, plain-none, plain-nothing, plain-stands}
+use Rattle.ac_automaton.proofs.in_memory.find.plain.find.Goals.{then-cursor-end-via-then-cursor-end, then-cursor-end-via-else-cursor-end+then-is_dead}
+use Rattle.ac_automaton.proofs.lemmas.CursorLemmas.{list-none}
+use Rattle.ac_automaton.proofs.lemmas.WalkEndLemmas.{Died, Ended, IsDone}
 use Rattle.ac_automaton.proofs.in_memory.find.plain.find.Goals as goal
 
 pub read_to_match-cursor-requires-clause-stands : goal.read_to_match-cursor-requires-clause-stands
 read_to_match-cursor-requires-clause-stands g c =
     let a = c.args.automaton.now in
     let asked = c.args.input.now in
-    let inside : asked.span.end ≤ length asked.haystack = rw c.end.ensures.value at c.end.ensures.within in
+    let inside : asked.span.end ≤ length asked.haystack = rw c.end-end.ensures.value at c.end-end.ensures.within in
     plain-stands g.A.Automaton a asked c.args.start (g.met.A.Automaton.tells a asked.anchored)
     (c.is_plain.ensures c.if-not-is_plain.false) c.requires.starts inside _ c.start-from.ensures c.args.steps.now
 
@@ -18,7 +23,7 @@ pub read_to_match-cursor-requires-clause-none : goal.read_to_match-cursor-requir
 read_to_match-cursor-requires-clause-none g c =
     let a = c.args.automaton.now in
     let asked = c.args.input.now in
-    let inside : asked.span.end ≤ length asked.haystack = rw c.end.ensures.value at c.end.ensures.within in
+    let inside : asked.span.end ≤ length asked.haystack = rw c.end-end.ensures.value at c.end-end.ensures.within in
     plain-nothing g.A.Automaton a asked c.args.start (g.met.A.Automaton.tells a asked.anchored)
     (c.is_plain.ensures c.if-not-is_plain.false) c.requires.starts inside _ c.start-from.ensures c.args.steps.now
 
@@ -35,73 +40,124 @@ pub read_to_match-cursor-requires-clause-before : goal.read_to_match-cursor-requ
 read_to_match-cursor-requires-clause-before g c =
     let some = (c.is_plain.ensures c.if-not-is_plain.false).some in
     let first = c.start-from.ensures in
-    let end = c.end.ensures.value in
+    let end = c.end-end.ensures.value in
     omega (arith, some, first, end)
-
-pub first_match-requires-clause-reads : goal.first_match-requires-clause-reads
-first_match-requires-clause-reads g c =
-    let a = c.args.automaton.now in
-    let asked = c.args.input.now in
-    let free = (c.is_plain.ensures c.if-not-is_plain.false).free in
-    let cursor = c.read_to_match-cursor.result in
-    let stands = c.read_to_match-cursor.ensures.stands in
-    let ordered = stands.ordered in
-    let within = stands.within in
-    let inside = stands.inside in
-    let fits : cursor.at ≤ length asked.haystack = omega (arith, within, inside) in
-    let long = slice_range-length asked.haystack cursor.from ordered fits in
-    let text = slice_range asked.haystack cursor.from cursor.at in
-    let short : length text ≤ cursor.at = omega (arith, long) in
-    (text, subst (λ k. g.A.Automaton.Reaches a k text cursor.sid) free stands.reads, short)
-
-pub first_match-requires-clause-matches : goal.first_match-requires-clause-matches
-first_match-requires-clause-matches g c = c.is_match.ensures.0 c.if-not-is_match.false
 
 pub returns-then-not-is_match-clause-found : goal.returns-then-not-is_match-clause-found
 returns-then-not-is_match-clause-found g c =
     let a = c.args.automaton.now in
     let asked = c.args.input.now in
-    let inside : asked.span.end ≤ length asked.haystack = rw c.end.ensures.value at c.end.ensures.within in
+    let inside : asked.span.end ≤ length asked.haystack = rw c.end-end.ensures.value at c.end-end.ensures.within in
     let read = c.read_to_match-cursor in
     (plain-none g.A.Automaton a asked c.args.start (g.met.A.Automaton.tells a asked.anchored)
     (c.is_plain.ensures c.if-not-is_plain.false) c.requires.starts inside _ c.start-from.ensures read.result
     c.args.steps.now read.new.steps read.ensures.stands read.ensures.from read.ensures.on
-    (λ less. read.ensures.stops less (let end = c.end.ensures.value in omega (arith, less, end)))
+    (λ less. read.ensures.stops less (let end = c.end-end.ensures.value in omega (arith, less, end)))
     (λ some. false≢true (sym c.if-not-is_match.true ∙ c.is_match.ensures.1 some))).0
 
 pub returns-then-not-is_match-clause-cost : goal.returns-then-not-is_match-clause-cost
 returns-then-not-is_match-clause-cost g c =
     let a = c.args.automaton.now in
     let asked = c.args.input.now in
-    let inside : asked.span.end ≤ length asked.haystack = rw c.end.ensures.value at c.end.ensures.within in
+    let inside : asked.span.end ≤ length asked.haystack = rw c.end-end.ensures.value at c.end-end.ensures.within in
     let read = c.read_to_match-cursor in
     (plain-none g.A.Automaton a asked c.args.start (g.met.A.Automaton.tells a asked.anchored)
     (c.is_plain.ensures c.if-not-is_plain.false) c.requires.starts inside _ c.start-from.ensures read.result
     c.args.steps.now read.new.steps read.ensures.stands read.ensures.from read.ensures.on
-    (λ less. read.ensures.stops less (let end = c.end.ensures.value in omega (arith, less, end)))
+    (λ less. read.ensures.stops less (let end = c.end-end.ensures.value in omega (arith, less, end)))
     (λ some. false≢true (sym c.if-not-is_match.true ∙ c.is_match.ensures.1 some))).1
-
-pub returns-clause-found : goal.returns-clause-found
-returns-clause-found g c =
-    let a = c.args.automaton.now in
-    let asked = c.args.input.now in
-    let inside : asked.span.end ≤ length asked.haystack = rw c.end.ensures.value at c.end.ensures.within in
-    let read = c.read_to_match-cursor in
-    (plain-some g.A.Automaton a asked c.args.start (g.met.A.Automaton.tells a asked.anchored)
-    (c.is_plain.ensures c.if-not-is_plain.false) c.requires.starts inside _ c.start-from.ensures read.result
-    c.first_match.result c.args.steps.now read.new.steps read.ensures.stands read.ensures.from read.ensures.on
-    c.first_match.ensures).0
-
-pub returns-clause-cost : goal.returns-clause-cost
-returns-clause-cost g c =
-    let a = c.args.automaton.now in
-    let asked = c.args.input.now in
-    let inside : asked.span.end ≤ length asked.haystack = rw c.end.ensures.value at c.end.ensures.within in
-    let read = c.read_to_match-cursor in
-    (plain-some g.A.Automaton a asked c.args.start (g.met.A.Automaton.tells a asked.anchored)
-    (c.is_plain.ensures c.if-not-is_plain.false) c.requires.starts inside _ c.start-from.ensures read.result
-    c.first_match.result c.args.steps.now read.new.steps read.ensures.stands read.ensures.from read.ensures.on
-    c.first_match.ensures).1
 
 pub is_match-requires : goal.is_match-requires
 is_match-requires g c = grind (arith, common_steps)
+
+pub returns-then-takes_first-clause-found : goal.returns-then-takes_first-clause-found
+returns-then-takes_first-clause-found g c =
+    let a = c.args.automaton.now in
+    let asked = c.args.input.now in
+    let inside : asked.span.end ≤ length asked.haystack = rw c.end-end.ensures.value at c.end-end.ensures.within in
+    let read = c.read_to_match-cursor in
+    (plain-first g.A.Automaton a asked c.args.start (g.met.A.Automaton.tells a asked.anchored)
+    (c.is_plain.ensures c.if-not-is_plain.false) c.requires.starts inside _ c.start-from.ensures read.result
+    c.first_match-best.result c.args.steps.now read.new.steps read.ensures.stands read.ensures.from read.ensures.on
+    c.first_match-best.ensures (c.takes_first.ensures.0 c.if-takes_first.true)).0
+
+pub returns-then-takes_first-clause-cost : goal.returns-then-takes_first-clause-cost
+returns-then-takes_first-clause-cost g c =
+    let a = c.args.automaton.now in
+    let asked = c.args.input.now in
+    let inside : asked.span.end ≤ length asked.haystack = rw c.end-end.ensures.value at c.end-end.ensures.within in
+    let read = c.read_to_match-cursor in
+    (plain-first g.A.Automaton a asked c.args.start (g.met.A.Automaton.tells a asked.anchored)
+    (c.is_plain.ensures c.if-not-is_plain.false) c.requires.starts inside _ c.start-from.ensures read.result
+    c.first_match-best.result c.args.steps.now read.new.steps read.ensures.stands read.ensures.from read.ensures.on
+    c.first_match-best.ensures (c.takes_first.ensures.0 c.if-takes_first.true)).1
+
+pub loop-cursor-init : goal.loop-cursor-init
+loop-cursor-init g c =
+    let a = c.args.automaton.now in
+    let asked = c.args.input.now in
+    let inside : asked.span.end ≤ length asked.haystack = rw c.end-end.ensures.value at c.end-end.ensures.within in
+    let read = c.read_to_match-cursor in
+    plain-met g.A.Automaton a asked c.args.start (g.met.A.Automaton.tells a asked.anchored)
+    (c.is_plain.ensures c.if-not-is_plain.false) c.requires.starts inside _ c.start-from.ensures read.result
+    c.first_match-best.result c.args.steps.now read.new.steps read.ensures.stands read.ensures.from read.ensures.on
+    c.first_match-best.ensures
+
+pub returns-then-cursor-end-clause-found : goal.returns-then-cursor-end-clause-found
+returns-then-cursor-end-clause-found g c =
+    let a = c.args.automaton.now in
+    let asked = c.args.input.now in
+    let cursor = c.loop-cursor.cursor in
+    let has = c.loop-cursor.invariant in
+    let done : IsDone (g.A.Automaton.built a).dictionary asked.anchored (kind_asked (g.A.Automaton.built a) asked)
+    asked.haystack (rest asked cursor) cursor.at (Some c.loop-cursor.best) =
+    elim c.then-cursor-end.branch [
+      | then-cursor-end-via-then-cursor-end w ↦ Ended (w.if-cursor-end.true ∙ c.end-end.ensures.value)
+      | then-cursor-end-via-else-cursor-end+then-is_dead w ↦
+          Died ((w.is_dead.ensures asked.anchored (text_read asked cursor) has.stands.reads).0 w.if-is_dead.true)
+    ] in
+    (is-found g.A.Automaton a asked cursor (Some c.loop-cursor.best) _ _ has done).0
+
+pub returns-then-cursor-end-clause-cost : goal.returns-then-cursor-end-clause-cost
+returns-then-cursor-end-clause-cost g c =
+    let a = c.args.automaton.now in
+    let asked = c.args.input.now in
+    let cursor = c.loop-cursor.cursor in
+    let has = c.loop-cursor.invariant in
+    let done : IsDone (g.A.Automaton.built a).dictionary asked.anchored (kind_asked (g.A.Automaton.built a) asked)
+    asked.haystack (rest asked cursor) cursor.at (Some c.loop-cursor.best) =
+    elim c.then-cursor-end.branch [
+      | then-cursor-end-via-then-cursor-end w ↦ Ended (w.if-cursor-end.true ∙ c.end-end.ensures.value)
+      | then-cursor-end-via-else-cursor-end+then-is_dead w ↦
+          Died ((w.is_dead.ensures asked.anchored (text_read asked cursor) has.stands.reads).0 w.if-is_dead.true)
+    ] in
+    (is-found g.A.Automaton a asked cursor (Some c.loop-cursor.best) _ _ has done).1
+
+pub loop-cursor-preserved-then-is_match : goal.loop-cursor-preserved-then-is_match
+loop-cursor-preserved-then-is_match g c =
+    let a = c.args.automaton.now in
+    let asked = c.args.input.now in
+    let tells = g.met.A.Automaton.tells a asked.anchored in
+    let has = c.loop-cursor.invariant in
+    let read = c.read_on-cursor in
+    let walks = met-on g.A.Automaton a asked tells read.result _ has
+    (λ standard. false≢true (sym c.if-takes_first.false ∙ c.takes_first.ensures.1 standard))
+    (λ dead. false≢true (sym c.if-is_dead.false ∙ (c.is_dead.ensures asked.anchored _ has.stands.reads).1 dead))
+    read.ensures.stands read.ensures.from read.ensures.on in
+    met-some g.A.Automaton a asked tells (c.is_plain.ensures c.if-not-is_plain.false).free _ _ walks
+    c.first_match-best-then-is_match.ensures
+
+pub loop-cursor-preserved : goal.loop-cursor-preserved
+loop-cursor-preserved g c =
+    let a = c.args.automaton.now in
+    let asked = c.args.input.now in
+    let tells = g.met.A.Automaton.tells a asked.anchored in
+    let has = c.loop-cursor.invariant in
+    let read = c.read_on-cursor in
+    let walks = met-on g.A.Automaton a asked tells read.result _ has
+    (λ standard. false≢true (sym c.if-takes_first.false ∙ c.takes_first.ensures.1 standard))
+    (λ dead. false≢true (sym c.if-is_dead.false ∙ (c.is_dead.ensures asked.anchored _ has.stands.reads).1 dead))
+    read.ensures.stands read.ensures.from read.ensures.on in
+    met-none g.A.Automaton a asked tells (c.is_plain.ensures c.if-not-is_plain.false).free _ walks
+    (list-none (g.A.Automaton.matches a read.result.sid)
+    (λ some. false≢true (sym c.if-is_match.false ∙ c.is_match-in-loop-cursor.ensures.1 some)))

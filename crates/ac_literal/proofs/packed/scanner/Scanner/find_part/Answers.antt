@@ -7,8 +7,8 @@ use Rattle.ac_literal.proofs.packed.OnlyLemmas.{found-from}
 use Rattle.ac_literal.proofs.packed.TeddyLemmas.{none-passed, has-marks}
 use Rattle.ac_literal.proofs.packed.scanner.Scanner.find_part.Goals as goal
 
-pub find_between-found-requires-then-marks-eq0-clause-none : goal.find_between-found-requires-then-marks-eq0-clause-none
-find_between-found-requires-then-marks-eq0-clause-none c =
+pub find_last-requires-clause-none : goal.find_last-requires-clause-none
+find_last-requires-clause-none c =
     let next = c.next_marks-block in
     none-passed c.requires.scanner.teddy c.requires.scanner.table.short c.requires.within c.requires.none
     next.ensures.passed

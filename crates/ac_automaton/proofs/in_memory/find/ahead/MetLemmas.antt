@@ -1,5 +1,5 @@
 -- How a search that has met a match reads on until none can be better, and what it has paid for by then.
-use Rattle.std.proofs.Common.{◌≡◌, ◌≢◌, ◌↔◌, ◌∙◌, IsTrue, false, ℕ, ◌+◌, ◌-◌, ◌≤◌, Bool, List, [], length, Option, Some, None, slice_range, sym, ap, subst, refl, arith}
+use Rattle.std.proofs.Common.{◌≡◌, ◌≢◌, ◌↔◌, ◌∙◌, IsTrue, false, ℕ, ◌-◌, ◌≤◌, Bool, List, [], length, Some, None, slice_range, sym, subst, refl, arith}
 use Rattle.std.proofs.lemmas.Bool.{false≢true}
 use Rattle.ac_input.specs.Number.{StateID}
 use Rattle.ac_input.specs.declared.search.Anchored.{Anchored}
@@ -16,15 +16,15 @@ use Rattle.ac_input.specs.Work.{IsLookups}
 use Rattle.ac_input.proofs.lemmas.OrderLemmas.{slice_range-length}
 use Rattle.ac_input.proofs.lemmas.SomeLemmas.{live-some}
 use Rattle.ac_automaton.specs.Ahead.{IsPaid, Settles}
-use Rattle.ac_automaton.specs.Automaton.{Built, IsFindCost, IsFound, kind_asked}
+use Rattle.ac_automaton.specs.Automaton.{IsFindCost, IsFound, kind_asked}
 use Rattle.ac_automaton.specs.InMemory.Find.Cursor.{IsFirstAt, IsReachedWithin, IsTaken, ReadsFurther, StandsIn, taken}
 use Rattle.ac_automaton.specs.declared.ahead.Ahead.{Ahead}
 use Rattle.ac_automaton.specs.declared.automaton.Automaton.{Ghosts}
 use Rattle.ac_automaton.specs.declared.in_memory.find.cursor.Cursor.{Cursor}
-use Rattle.ac_automaton.proofs.in_memory.find.FindWalkLemmas.{HasAsked, Walks, asked-on, asks, rest, text_read}
+use Rattle.ac_automaton.proofs.in_memory.find.FindWalkLemmas.{HasAsked, Walks, asked-on, asks, text_read}
 use Rattle.ac_automaton.proofs.in_memory.find.TakenLemmas.{taken-free}
 use Rattle.ac_automaton.proofs.in_memory.find.ahead.FindAheadLemmas.{is-found}
-use Rattle.ac_automaton.proofs.lemmas.WalkEndLemmas.{IsDone, Died, Ended}
+use Rattle.ac_automaton.proofs.lemmas.WalkEndLemmas.{Died, Ended}
 use Rattle.ac_automaton.proofs.stream.DecideLemmas.{dead-silent}
 use Rattle.ac_automaton.proofs.stream.SearchAheadLemmas.{paid_on, settles-on}
 

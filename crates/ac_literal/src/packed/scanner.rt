@@ -261,6 +261,9 @@ impl Scanner {
     {
         let len = self.table.hash_len();
         let to = span.end - len + 1;
+        if at == to {
+            return None;
+        }
         if to - span.start < LANES {
             return self.table.find_between(patterns, haystack, span, at, to);
         }

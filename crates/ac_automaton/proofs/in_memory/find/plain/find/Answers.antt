@@ -1,14 +1,15 @@
 -- The first match is the match of the search, or the best so far; without one, the span ends where the search has read to.
-use Rattle.std.proofs.Common.{◌≤◌, length, Some, sym, ◌∙◌, arith}
+use Rattle.std.proofs.Common.{◌≤◌, length, None, Some, sym, ◌∙◌, arith}
 use Rattle.std.proofs.lemmas.Grind.{common_steps}
 use Rattle.std.proofs.lemmas.Bool.{false≢true}
-use Rattle.ac_automaton.specs.Automaton.{kind_asked}
+use Rattle.ac_automaton.specs.Automaton.{IsFindCost, IsFound, kind_asked}
 use Rattle.ac_automaton.proofs.in_memory.find.FindWalkLemmas.{rest, text_read}
 use Rattle.ac_automaton.proofs.in_memory.find.ahead.FindAheadLemmas.{is-found}
 use Rattle.ac_automaton.proofs.in_memory.find.plain.PlainLemmas.{met-none, met-on, met-some, plain-first, plain-met, plain-none, plain-nothing, plain-stands}
 use Rattle.ac_automaton.proofs.in_memory.find.plain.find.Goals.{then-cursor-end-via-then-cursor-end, then-cursor-end-via-else-cursor-end+then-is_dead}
 use Rattle.ac_automaton.proofs.lemmas.CursorLemmas.{list-none}
 use Rattle.ac_automaton.proofs.lemmas.WalkEndLemmas.{Died, Ended, IsDone}
+use Rattle.ac_automaton.proofs.in_memory.find.plain.find.Given.{Over}
 use Rattle.ac_automaton.proofs.in_memory.find.plain.find.Goals as goal
 
 pub read_to_match-cursor-requires-clause-stands : goal.read_to_match-cursor-requires-clause-stands
@@ -43,54 +44,49 @@ read_to_match-cursor-requires-clause-before g c =
     let end = c.end-end.ensures.value in
     omega (arith, some, first, end)
 
-pub returns-then-not-is_match-clause-found : goal.returns-then-not-is_match-clause-found
-returns-then-not-is_match-clause-found g c =
+-- where no state matched
+unmet : (g : Over) (c : goal.Then-not-is_match g)
+    → IsFound (g.A.Automaton.built c.args.automaton.now) c.args.input.now None
+    × IsFindCost (g.A.Automaton.built c.args.automaton.now) c.args.input.now c.args.steps.now c.read_to_match-cursor.new.steps None
+unmet g c =
     let a = c.args.automaton.now in
     let asked = c.args.input.now in
     let inside : asked.span.end ≤ length asked.haystack = rw c.end-end.ensures.value at c.end-end.ensures.within in
     let read = c.read_to_match-cursor in
-    (plain-none g.A.Automaton a asked c.args.start (g.met.A.Automaton.tells a asked.anchored)
+    plain-none g.A.Automaton a asked c.args.start (g.met.A.Automaton.tells a asked.anchored)
     (c.is_plain.ensures c.if-not-is_plain.false) c.requires.starts inside _ c.start-from.ensures read.result
     c.args.steps.now read.new.steps read.ensures.stands read.ensures.from read.ensures.on
     (λ less. read.ensures.stops less (let end = c.end-end.ensures.value in omega (arith, less, end)))
-    (λ some. false≢true (sym c.if-not-is_match.true ∙ c.is_match.ensures.1 some))).0
+    (λ some. false≢true (sym c.if-not-is_match.true ∙ c.is_match.ensures.1 some))
+
+pub returns-then-not-is_match-clause-found : goal.returns-then-not-is_match-clause-found
+returns-then-not-is_match-clause-found g c = (unmet g c).0
 
 pub returns-then-not-is_match-clause-cost : goal.returns-then-not-is_match-clause-cost
-returns-then-not-is_match-clause-cost g c =
-    let a = c.args.automaton.now in
-    let asked = c.args.input.now in
-    let inside : asked.span.end ≤ length asked.haystack = rw c.end-end.ensures.value at c.end-end.ensures.within in
-    let read = c.read_to_match-cursor in
-    (plain-none g.A.Automaton a asked c.args.start (g.met.A.Automaton.tells a asked.anchored)
-    (c.is_plain.ensures c.if-not-is_plain.false) c.requires.starts inside _ c.start-from.ensures read.result
-    c.args.steps.now read.new.steps read.ensures.stands read.ensures.from read.ensures.on
-    (λ less. read.ensures.stops less (let end = c.end-end.ensures.value in omega (arith, less, end)))
-    (λ some. false≢true (sym c.if-not-is_match.true ∙ c.is_match.ensures.1 some))).1
+returns-then-not-is_match-clause-cost g c = (unmet g c).1
 
 pub is_match-requires : goal.is_match-requires
 is_match-requires g c = grind (arith, common_steps)
 
-pub returns-then-takes_first-clause-found : goal.returns-then-takes_first-clause-found
-returns-then-takes_first-clause-found g c =
+-- where the first match wins
+first : (g : Over) (c : goal.Then-takes_first g)
+    → IsFound (g.A.Automaton.built c.args.automaton.now) c.args.input.now (Some c.first_match-best.result)
+    × IsFindCost (g.A.Automaton.built c.args.automaton.now) c.args.input.now c.args.steps.now c.read_to_match-cursor.new.steps (Some c.first_match-best.result)
+first g c =
     let a = c.args.automaton.now in
     let asked = c.args.input.now in
     let inside : asked.span.end ≤ length asked.haystack = rw c.end-end.ensures.value at c.end-end.ensures.within in
     let read = c.read_to_match-cursor in
-    (plain-first g.A.Automaton a asked c.args.start (g.met.A.Automaton.tells a asked.anchored)
+    plain-first g.A.Automaton a asked c.args.start (g.met.A.Automaton.tells a asked.anchored)
     (c.is_plain.ensures c.if-not-is_plain.false) c.requires.starts inside _ c.start-from.ensures read.result
     c.first_match-best.result c.args.steps.now read.new.steps read.ensures.stands read.ensures.from read.ensures.on
-    c.first_match-best.ensures (c.takes_first.ensures.0 c.if-takes_first.true)).0
+    c.first_match-best.ensures (c.takes_first.ensures.0 c.if-takes_first.true)
+
+pub returns-then-takes_first-clause-found : goal.returns-then-takes_first-clause-found
+returns-then-takes_first-clause-found g c = (first g c).0
 
 pub returns-then-takes_first-clause-cost : goal.returns-then-takes_first-clause-cost
-returns-then-takes_first-clause-cost g c =
-    let a = c.args.automaton.now in
-    let asked = c.args.input.now in
-    let inside : asked.span.end ≤ length asked.haystack = rw c.end-end.ensures.value at c.end-end.ensures.within in
-    let read = c.read_to_match-cursor in
-    (plain-first g.A.Automaton a asked c.args.start (g.met.A.Automaton.tells a asked.anchored)
-    (c.is_plain.ensures c.if-not-is_plain.false) c.requires.starts inside _ c.start-from.ensures read.result
-    c.first_match-best.result c.args.steps.now read.new.steps read.ensures.stands read.ensures.from read.ensures.on
-    c.first_match-best.ensures (c.takes_first.ensures.0 c.if-takes_first.true)).1
+returns-then-takes_first-clause-cost g c = (first g c).1
 
 pub loop-cursor-init : goal.loop-cursor-init
 loop-cursor-init g c =
@@ -103,8 +99,11 @@ loop-cursor-init g c =
     c.first_match-best.result c.args.steps.now read.new.steps read.ensures.stands read.ensures.from read.ensures.on
     c.first_match-best.ensures
 
-pub returns-then-cursor-end-clause-found : goal.returns-then-cursor-end-clause-found
-returns-then-cursor-end-clause-found g c =
+-- where no better match can come
+over : (g : Over) (c : goal.Joined-then-cursor-end g)
+    → IsFound (g.A.Automaton.built c.args.automaton.now) c.args.input.now (Some c.loop-cursor.best)
+    × IsFindCost (g.A.Automaton.built c.args.automaton.now) c.args.input.now c.args.steps.now c.loop-cursor.steps (Some c.loop-cursor.best)
+over g c =
     let a = c.args.automaton.now in
     let asked = c.args.input.now in
     let cursor = c.loop-cursor.cursor in
@@ -116,22 +115,13 @@ returns-then-cursor-end-clause-found g c =
       | then-cursor-end-via-else-cursor-end+then-is_dead w ↦
           Died ((w.is_dead.ensures asked.anchored (text_read asked cursor) has.stands.reads).0 w.if-is_dead.true)
     ] in
-    (is-found g.A.Automaton a asked cursor (Some c.loop-cursor.best) _ _ has done).0
+    is-found g.A.Automaton a asked cursor (Some c.loop-cursor.best) _ _ has done
+
+pub returns-then-cursor-end-clause-found : goal.returns-then-cursor-end-clause-found
+returns-then-cursor-end-clause-found g c = (over g c).0
 
 pub returns-then-cursor-end-clause-cost : goal.returns-then-cursor-end-clause-cost
-returns-then-cursor-end-clause-cost g c =
-    let a = c.args.automaton.now in
-    let asked = c.args.input.now in
-    let cursor = c.loop-cursor.cursor in
-    let has = c.loop-cursor.invariant in
-    let done : IsDone (g.A.Automaton.built a).dictionary asked.anchored (kind_asked (g.A.Automaton.built a) asked)
-    asked.haystack (rest asked cursor) cursor.at (Some c.loop-cursor.best) =
-    elim c.then-cursor-end.branch [
-      | then-cursor-end-via-then-cursor-end w ↦ Ended (w.if-cursor-end.true ∙ c.end-end.ensures.value)
-      | then-cursor-end-via-else-cursor-end+then-is_dead w ↦
-          Died ((w.is_dead.ensures asked.anchored (text_read asked cursor) has.stands.reads).0 w.if-is_dead.true)
-    ] in
-    (is-found g.A.Automaton a asked cursor (Some c.loop-cursor.best) _ _ has done).1
+returns-then-cursor-end-clause-cost g c = (over g c).1
 
 pub loop-cursor-preserved-then-is_match : goal.loop-cursor-preserved-then-is_match
 loop-cursor-preserved-then-is_match g c =

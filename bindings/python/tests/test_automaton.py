@@ -820,8 +820,10 @@ class Callers(unittest.TestCase):
 
     @unittest.skipIf("asan" in os.environ.get("LD_PRELOAD", ""), "AddressSanitizer takes the memory that there is")
     def test_memory_that_is_limited(self):
+        # a build frees tens of megabytes: with a threshold glibc gives such blocks back, and keeps none that a call could then take
+        environment = dict(os.environ, MALLOC_MMAP_THRESHOLD_="65536")
         for made, call in LIMITED:
-            done = subprocess.run([sys.executable, "-c", LIMIT.format(made=made, call=call)], stdout=subprocess.PIPE, timeout=60)
+            done = subprocess.run([sys.executable, "-c", LIMIT.format(made=made, call=call)], env=environment, stdout=subprocess.PIPE, timeout=60)
             self.assertEqual((done.returncode, done.stdout), (0, b"MemoryError\n"), call)
 
     def test_no_patterns(self):

@@ -207,6 +207,11 @@ pub trait Automaton {
         Noted::none()
     }
 
+    /// Whether [`Automaton::note_ahead`] reads ahead, where the bytes allow it. No result depends on it.
+    fn has_lanes(&self) -> bool {
+        false
+    }
+
     /// Whether a search has more to do here than to read on: the state is dead, or matches, or is a start and there is a prefilter
     /// to run.
     fn is_special(&self, sid: StateID) -> bool

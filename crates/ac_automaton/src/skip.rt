@@ -83,7 +83,26 @@ impl Skips {
         ensures { ReadsToBy A.LookUp automaton.now anchored to sid bytes.now result
             steps.old steps.new }
     {
-        let start = self.start;
+        self.read_to_from(automaton, self.start, anchored, sid, bytes, to, steps)
+    }
+
+    /// The same by an automaton that has another number for the start, as rows have.
+    #[inline(always)]
+    pub fn read_to_from<A: LookUp>(
+        &self,
+        automaton: &A,
+        start: StateID,
+        anchored: Anchored,
+        sid: StateID,
+        bytes: &[u8],
+        to: Between,
+        steps: &mut Steps,
+    ) -> Advance
+        requires reached { IsReached (A.Reaches automaton.now anchored) sid }
+        requires may { MayReadBy A.LookUp automaton.now (record self.now { start = start }) to }
+        ensures { ReadsToBy A.LookUp automaton.now anchored to sid bytes.now result
+            steps.old steps.new }
+    {
         if bytes.len() >= FEW && to.is_before(start) {
             if let (Some(openings), Anchored::No) = (&self.openings, anchored) {
                 return skip(automaton, openings, start, sid, bytes, to, steps);

@@ -41,6 +41,8 @@ pub enum Way {
 pub struct Openings {
     way: Way,
     len: usize,
+    /// Whether the patterns are made of so few letters that, in a text of these, a search is seldom in its start.
+    few_letters: bool,
     ghost wide: { 2 ≤ len },
 }
 
@@ -73,13 +75,13 @@ fn len_of(patterns: &[&[u8]], most: usize) -> usize
     len
 }
 
-/// Whether grams find fewer places than the first bytes.
-fn prefer_grams(patterns: &[&[u8]]) -> bool {
+/// What the choice between grams and first bytes depends on.
+fn choice_for(patterns: &[&[u8]]) -> Choice {
     let mut choice = Choice::new();
     for pattern in patterns {
         choice.add(pattern);
     }
-    choice.takes_grams()
+    choice
 }
 
 /// The grams of the first `len` bytes of some patterns.
@@ -129,15 +131,17 @@ impl Openings {
         ensures { IfOk result (λ made. IfSome made (OpenAll (bytes_of patterns.now) pairing.now)) }
     {
         let len = len_of(patterns, MOST_BY_GRAMS);
-        if len < SHORTEST || !prefer_grams(patterns) {
+        if len < SHORTEST || !pairing.is_none() {
             return Ok(None);
         }
-        if !pairing.is_none() {
+        let choice = choice_for(patterns);
+        if !choice.takes_grams() {
             return Ok(None);
         }
         Ok(Some(Openings {
             way: Way::Grams(grams_of(alloc, patterns, len)?),
             len,
+            few_letters: choice.has_few_letters(),
         }))
     }
 
@@ -152,6 +156,7 @@ impl Openings {
         Some(Openings {
             way: Way::Fronts(Fronts::new(patterns, pairing, len)),
             len,
+            few_letters: false,
         })
     }
 
@@ -163,7 +168,11 @@ impl Openings {
             Way::Fronts(fronts) => Way::Fronts(*fronts),
             Way::Grams(grams) => Way::Grams(grams.clone(alloc)?),
         };
-        Ok(Openings { way, len: self.len })
+        Ok(Openings {
+            way,
+            len: self.len,
+            few_letters: self.few_letters,
+        })
     }
 
     /// The same openings in memory from `alloc`, if there are any.
@@ -192,9 +201,9 @@ impl Openings {
         self.len
     }
 
-    /// Whether few places are found in vain, however many patterns there are.
+    /// Whether few places are found in vain, however many patterns there are, and after each a search is soon in its start again.
     pub fn are_sparse(&self) -> bool {
-        matches!(self.way, Way::Grams(_))
+        matches!(self.way, Way::Grams(_)) && !self.few_letters
     }
 
     /// How many bytes at the front may be passed: up to the next place at which a pattern may begin, or up to the last ones.

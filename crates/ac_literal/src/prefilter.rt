@@ -66,6 +66,8 @@ pub struct Prefilter {
     pairing: Pairing,
     patterns: Pieces,
     strategy: Strategy,
+    /// Whether patterns of one byte are estimated to occur every few bytes.
+    close: bool,
 }
 
 impl Model for Prefilter {
@@ -125,6 +127,12 @@ impl Prefilter {
         }
     }
 
+    /// Whether a search does better without it, since matches are a few bytes apart: some patterns have one byte, and these bytes are
+    /// common.
+    pub fn finds_close(&self) -> bool {
+        self.close
+    }
+
     /// How many bytes of memory it takes, besides itself.
     pub fn memory_usage(&self) -> usize {
         self.strategy.memory_usage()
@@ -139,6 +147,7 @@ impl Prefilter {
             pairing: self.pairing,
             patterns: self.patterns.same(),
             strategy: self.strategy.clone(alloc)?,
+            close: self.close,
         })
     }
 }

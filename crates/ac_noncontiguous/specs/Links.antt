@@ -4,18 +4,24 @@ pub mod Failures
 pub mod Lists
 pub mod Order
 pub mod Own
-use Rattle.std.specs.Prelude.{◌≡◌, ℕ, ◌+◌, ◌<◌, ◌≤◌, List, length, take, drop, slice_index, slice_index_or, slice_get, Option, Some, option_map}
+pub mod Stored
+use Rattle.std.specs.Prelude.{◌≡◌, ℕ, ◌+◌, ◌<◌, ◌≤◌, List, length, map, take, drop, slice_index, slice_index_or, slice_get, Option, Some, option_map}
 use Rattle.ac_input.specs.Dictionary.{Dictionary}
 use Rattle.ac_input.specs.Failure.{IsList}
 use Rattle.ac_input.specs.States.{FailsTo}
 use Rattle.ac_noncontiguous.specs.declared.links.Links.{Links}
 use Rattle.ac_noncontiguous.specs.declared.links.Range.{Range}
+use Rattle.ac_noncontiguous.specs.declared.links.ranges.Ranges.{Ranges}
 use Rattle.ac_noncontiguous.specs.declared.trie.State.{State}
 use Rattle.ac_noncontiguous.specs.Trie.Tree.{text}
 
 -- the value that is read past the last range
 abbrev pub no_range : Range
 no_range = record { from = 0; len = 0 }
+
+-- the range of each state
+abbrev pub by_state : Ranges → List Range
+by_state it = map (λ number. slice_index_or it.each.items number no_range) it.at.items
 
 -- the patterns of a range
 abbrev pub in_range : List ℕ → Range → List ℕ
@@ -40,4 +46,4 @@ pub record AreRanges (m : Dictionary) (states : List State) (ranges : List Range
 -- the failures and the patterns of all states of the trie of a dictionary
 pub record AreLinks (m : Dictionary) (states : List State) (links : Links) : Type 0 where
   pub fails : AreFails m states links.fails.items
-  pub lists : AreRanges m states links.ranges.items links.matches.items
+  pub lists : AreRanges m states (by_state links.ranges) links.matches.items

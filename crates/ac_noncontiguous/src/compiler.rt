@@ -3,7 +3,11 @@
 //! The states get their numbers first ([`numbering`]). Then they are laid out one after another in the order of these numbers: the
 //! trie gives where each byte leads from a state ([`edges`]), and that becomes its transitions ([`transitions`]) and, near the
 //! start, its row ([`rows`]). It takes time in proportion to the states, and keeps nothing but the tables.
+//!
+//! The table of states ([`states`]) is the largest, so it comes last, when the trie and the failures are freed: where each state
+//! fails and how deep it is was noted before ([`outlines`]).
 ghost use Rattle.std.specs.Prelude.{◌<◌, length, IfOk};
+ghost use Rattle.ac_noncontiguous.specs.Links.{by_state};
 ghost use Rattle.ac_noncontiguous.specs.Links.Failures.{AreShallower};
 ghost use Rattle.ac_noncontiguous.specs.Links.Order.{IsBreadthFirst};
 ghost use Rattle.ac_noncontiguous.specs.Nfa.{AreRowsBelow};
@@ -12,11 +16,13 @@ ghost use Rattle.ac_noncontiguous.specs.Compiler.Assembly.{IsBack, AreTablesFor,
 
 mod edges;
 mod numbering;
+mod outlines;
 mod rows;
 mod states;
 mod transitions;
 
 use crate::compiler::numbering::{Numbering, is_chosen};
+use crate::compiler::outlines::outlines;
 use crate::compiler::rows::{Rows, classes};
 use crate::compiler::states::states;
 use crate::compiler::transitions::Transitions;
@@ -29,8 +35,8 @@ use std::alloc::{AllocError, Global};
 
 /// Where the bytes that begin no entered pattern lead from the unanchored start.
 fn start_back(trie: &Trie, links: &Links, start: StateID) -> StateID
-    requires { 0 < length links.now.ranges.items }
-    ensures { IsBack trie.now.kind links.now.ranges.items start result }
+    requires { 0 < length (by_state links.now.ranges) }
+    ensures { IsBack trie.now.kind (by_state links.now.ranges) start result }
 {
     if trie.kind() != MatchKind::Standard && is_chosen(links, StateID::ZERO, true) {
         StateID::ZERO
@@ -43,37 +49,40 @@ impl Tables {
     /// The tables for the trie and its links. States less deep than `dense_depth` keep a row as well; no result depends on it.
     pub(crate) fn from_trie(
         alloc: Global,
-        trie: &Trie,
-        order: &[StateID],
+        trie: Trie,
+        order: Vec<StateID>,
         links: Links,
         dense_depth: usize,
     ) -> Result<Tables, AllocError>
-        requires order { IsBreadthFirst trie.now.states.items order.now }
-        requires links { FitsTrie (length trie.now.states.items) links }
-        requires shallower { AreShallower trie.now.states.items links.fails.items }
-        ensures stands { IfOk result (AreTablesFor trie.now links) }
-        ensures classed { IfOk result (AreClassedFor trie.now) }
+        requires order { IsBreadthFirst trie.states.items order.items }
+        requires links { FitsTrie (length trie.states.items) links }
+        requires shallower { AreShallower trie.states.items links.fails.items }
+        ensures stands { IfOk result (AreTablesFor trie links) }
+        ensures classed { IfOk result (AreClassedFor trie) }
         ensures rowed { IfOk result (AreRowsBelow dense_depth) }
     {
-        let numbering = Numbering::new(alloc, trie, order, &links)?;
-        let back = start_back(trie, &links, numbering.start);
-        let classes = classes(trie);
-        let layout = Transitions::new(alloc, trie, &numbering, back)?;
+        let numbering = Numbering::new(alloc, &trie, &order, &links)?;
+        let back = start_back(&trie, &links, numbering.start);
+        let classes = classes(&trie);
+        let layout = Transitions::new(alloc, &trie, &numbering, back)?;
         let rows = Rows::new(
             alloc,
-            trie,
+            &trie,
             &numbering,
             &links,
-            order,
+            &order,
             back,
             &classes,
             dense_depth,
         )?;
+        drop(order);
+        let outlines = outlines(alloc, &trie, &numbering, &links)?;
+        drop((trie, numbering.of, links.fails));
         let states = states(
             alloc,
-            trie,
-            &numbering,
-            &links,
+            &outlines,
+            &numbering.at,
+            &links.ranges,
             &layout.offsets,
             &rows.offsets,
         )?;

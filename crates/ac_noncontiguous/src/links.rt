@@ -5,23 +5,26 @@
 //! twice in a range.
 //!
 //! The links are computed breadth first ([`order`]), since a state fails to one of lesser depth: first where each state fails
-//! ([`failures`], over [`children`] put side by side), then its patterns ([`own`], and those of its failure).
-ghost use Rattle.std.specs.Prelude.{◌≡◌, ℕ, ◌+◌, ◌<◌, length, slice_get, Some, IfOk, ◌≤◌};
+//! ([`failures`], over [`children`] put side by side), then its patterns ([`own`], and those of its failure), whose range is
+//! stored ([`ranges`]).
+ghost use Rattle.std.specs.Prelude.{◌+◌, ◌<◌, length, IfOk, ◌≤◌};
 ghost use Rattle.ac_input.specs.Dictionary.{Dictionary};
 ghost use Rattle.ac_noncontiguous.specs.Trie.Tree.{depth};
 ghost use Rattle.ac_noncontiguous.specs.Trie.Kept.{IsTrieOf};
 ghost use Rattle.ac_noncontiguous.specs.Compiler.Assembly.{AreOwnOf, AreLinksFor};
 ghost use Rattle.ac_noncontiguous.specs.Links.Order.{IsBreadthFirst};
 ghost use Rattle.ac_noncontiguous.specs.Links.{AreFails, AreLinks, in_range};
-ghost use Rattle.ac_noncontiguous.specs.Links.Lists.{EndAbove, IsRest, IsListed};
+ghost use Rattle.ac_noncontiguous.specs.Links.Lists.{EndAbove, IsListed};
 ghost use Rattle.ac_noncontiguous.specs.Links.Failures.{AreShallower};
 
 mod children;
 mod failures;
 mod order;
 pub(crate) mod own;
+pub(crate) mod ranges;
 
 use crate::links::own::OwnPatterns;
+use crate::links::ranges::Ranges;
 use crate::trie::Trie;
 use ac_input::primitives::{PatternID, StateID};
 use std::alloc::{AllocError, Global};
@@ -39,23 +42,9 @@ pub(crate) struct Links {
     /// The state to which it fails, if not the dead one.
     pub fails: Vec<Option<StateID>>,
     /// Where its patterns stand.
-    pub ranges: Vec<Range>,
+    pub ranges: Ranges,
     /// The patterns.
     pub matches: Vec<PatternID>,
-}
-
-/// Where the patterns of the state's failure stand.
-fn rest(fails: &[Option<StateID>], ranges: &[Range], id: StateID) -> Range
-    requires within { id < length fails.now }
-    requires counted { length ranges.now ≡ length fails.now }
-    requires inner { (f : ℕ) → slice_get fails.now id ≡ Some (Some f) → f < length fails.now }
-    ensures { IsRest fails.now ranges.now id result }
-{
-    let failure = fails[id.as_usize()];
-    match failure {
-        None => Range { from: 0, len: 0 },
-        Some(f) => ranges[f.as_usize()],
-    }
 }
 
 /// Lists the patterns of the state, its own and the rest, and returns where they stand.
@@ -109,12 +98,12 @@ impl Links {
         ensures shallower { IfOk result (λ links. AreShallower trie.now.states.items links.fails.items) }
     {
         let own = trie.own_patterns(alloc)?;
-        let mut ranges = vec![in alloc; Range { from: 0, len: 0 }; fails.len()]?;
+        let mut ranges = Ranges::empty(alloc, fails.len())?;
         let mut matches = Vec::new(alloc);
         for id in order {
-            let rest = rest(&fails, &ranges, *id);
-            let range = push_list(trie, &own, *id, &rest, &mut matches)?;
-            ranges[id.as_usize()] = range;
+            let rest = ranges.rest(&fails, *id);
+            let range = push_list(trie, &own, *id, &ranges.range(rest), &mut matches)?;
+            ranges.set(*id, range, rest)?;
         }
         Ok(Links {
             fails,

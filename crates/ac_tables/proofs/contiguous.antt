@@ -2,6 +2,7 @@ pub mod BuildLemmas
 pub mod ByRowLemmas
 pub mod CutLemmas
 pub mod DecodeLemmas
+pub mod EdgeLemmas
 pub mod EntryLemmas
 pub mod FollowLemmas
 pub mod FreeLemmas
@@ -18,6 +19,7 @@ pub mod NoteRowLemmas
 pub mod PackedLemmas
 pub mod PassingLemmas
 pub mod PlacesLemmas
+pub mod RowPassingLemmas
 pub mod StandLemmas
 pub mod StateLemmas
 pub mod StatesLemmas

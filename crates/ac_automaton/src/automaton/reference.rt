@@ -77,6 +77,10 @@ impl<'a, A: Automaton> Automaton for &'a A {
         (**self).note_ahead(sid, bytes, at, len, anew, notes, steps)
     }
 
+    fn has_lanes(&self) -> bool {
+        (**self).has_lanes()
+    }
+
     fn is_special(&self, sid: StateID) -> bool {
         (**self).is_special(sid)
     }

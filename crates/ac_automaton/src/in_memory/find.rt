@@ -295,7 +295,7 @@ pub(crate) fn search<A: Automaton>(
     }
 }
 
-/// The prefilter that a search of the input may use: there is none for few bytes.
+/// The prefilter that a search of the input may use: there is none for few bytes, or where matches are a few bytes apart.
 fn prefilter_for<'a, A: Automaton>(
     automaton: &'a A,
     input: &Input<'_>,
@@ -310,7 +310,11 @@ fn prefilter_for<'a, A: Automaton>(
     if input.end() - input.start() < FEW {
         return None;
     }
-    usable_prefilter(automaton, input.get_anchored(), start)
+    let prefilter = usable_prefilter(automaton, input.get_anchored(), start)?;
+    if prefilter.finds_close() {
+        return None;
+    }
+    Some(prefilter)
 }
 
 /// The match of the input, if it has one; counts what it does.

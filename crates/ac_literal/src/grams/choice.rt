@@ -11,6 +11,9 @@ pub const MOST_PATTERNS: usize = 436;
 /// One place of so many may be marked for the tables to find fewer.
 const MARKED: u64 = 32;
 
+/// With so many letters, a search of a text that is made of them seldom comes back to its start: DNA has four.
+const FEW_LETTERS: u64 = 8;
+
 /// How many buckets the tables have.
 const BUCKETS: usize = 8;
 
@@ -48,6 +51,11 @@ impl Choice {
                 self.letters = self.letters.saturating_add(1);
             }
         }
+    }
+
+    /// Whether the patterns have few different bytes.
+    pub fn has_few_letters(&self) -> bool {
+        self.letters <= FEW_LETTERS
     }
 
     /// Whether grams find fewer places.

@@ -16,7 +16,9 @@ ghost use Rattle.ac_literal.specs.Prefilter.Strategies.{AreRareOf};
 use crate::packed;
 use crate::prefilter::Prefilter;
 use crate::prefilter::needles::{FewBytes, Needles};
-use crate::prefilter::rank::{STOPS_ALONE, STOPS_BESIDE_PACKED, stops, stops_within};
+use crate::prefilter::rank::{
+    STOPS_ALONE, STOPS_BESIDE_PACKED, are_close, occurs, stops, stops_within,
+};
 use crate::prefilter::rare_bytes::RareBytesBuilder;
 use crate::prefilter::strategy::{RareBytes, Strategy};
 use ac_input::history::Pieces;
@@ -262,6 +264,8 @@ pub struct PrefilterBuilder {
     pairing: Pairing,
     patterns: Pieces,
     has_empty: bool,
+    /// How often patterns of one byte are estimated to occur in a thousand bytes.
+    occur: u32,
     builders: Builders,
 }
 
@@ -301,6 +305,7 @@ impl PrefilterBuilder {
             pairing,
             patterns: Pieces::empty(),
             has_empty: false,
+            occur: 0,
             builders: Builders::new(alloc, kind, &pairing),
         }
     }
@@ -350,6 +355,7 @@ impl PrefilterBuilder {
         } else if !self.has_empty {
             self.builders.add(self.alloc, &self.pairing, pattern)?;
         }
+        self.occur = self.occur.saturating_add(occurs(&self.pairing, pattern));
         self.patterns = self.patterns.and(pattern);
         Ok(())
     }
@@ -372,6 +378,7 @@ impl PrefilterBuilder {
             pairing: self.pairing,
             patterns: self.patterns.same(),
             strategy,
+            close: are_close(self.occur),
         }))
     }
 }

@@ -31,6 +31,9 @@ pub const STOPS_BESIDE_PACKED: u32 = 1;
 /// The same if packed search doesn't serve: an automaton alone takes as long for a thousand bytes as for a hundred stops.
 pub const STOPS_ALONE: u32 = 50;
 
+/// How often patterns occur in a thousand bytes where no prefilter pays: with so many a match comes every sixteen bytes.
+const CLOSE: u32 = 62;
+
 /// How common a byte is estimated to be: the greater, the more common.
 pub fn rank(byte: u8) -> u8 {
     match byte {
@@ -70,6 +73,26 @@ pub fn stops(needles: Needles) -> u32
         Needles::Two(a, b) => stops_at(a) + stops_at(b),
         Needles::Three(a, b, c) => stops_at(a) + stops_at(b) + stops_at(c),
     }
+}
+
+/// How often a pattern is estimated to occur in a thousand bytes of text, if it has one byte. A longer one counts nothing: it is rare.
+pub fn occurs(pairing: &Pairing, pattern: &[u8]) -> u32
+    ensures { result ≤ 2 * COMMON_STOPS }
+{
+    if pattern.len() != 1 {
+        return 0;
+    }
+    let byte = pattern[0];
+    let other = pairing.other(byte);
+    if other == byte {
+        return stops_at(byte);
+    }
+    stops_at(byte) + stops_at(other)
+}
+
+/// Whether patterns that are estimated to occur so often in a thousand bytes of text are a few bytes apart.
+pub fn are_close(occur: u32) -> bool {
+    occur > CLOSE
 }
 
 /// Whether a scan for these bytes is estimated to stop at most this often in a thousand bytes of text.

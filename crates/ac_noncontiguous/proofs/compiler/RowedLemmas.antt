@@ -1,17 +1,20 @@
 -- Which states have a row.
 use Rattle.std.proofs.Common.{◌≡◌, ◌≢◌, ◌⊎◌, ◌↔◌, ℕ, ◌+◌, ◌<◌, ◌≤◌, List, length, inl, inr, sym, ap, subst, ◌∙◌, ⊎_elim, arith, slice_index, slice_set, get_or-set_same, get_or-set_other}
 use Rattle.std.proofs.lemmas.Bool.{cases_lt, cases_eq}
+use Rattle.ac_noncontiguous.specs.Links.{by_state}
 use Rattle.ac_noncontiguous.specs.declared.links.Links.{Links}
 use Rattle.ac_noncontiguous.specs.declared.trie.Trie.{Trie}
 use Rattle.ac_noncontiguous.specs.declared.compiler.numbering.Numbering.{Numbering}
+use Rattle.ac_noncontiguous.specs.declared.compiler.outlines.Outline.{Outline}
 use Rattle.ac_noncontiguous.specs.declared.compiler.rows.Rows.{Rows}
 use Rattle.ac_noncontiguous.specs.declared.nfa.tables.Tables.{Tables}
 use Rattle.ac_noncontiguous.specs.Trie.Tree.{depth}
 use Rattle.ac_noncontiguous.specs.Links.Order.{IsBreadthFirst}
 use Rattle.ac_noncontiguous.specs.Nfa.{kept_of, row_of, no_row, AreRowsBelow}
-use Rattle.ac_noncontiguous.specs.Compiler.Assembly.{AreKept}
+use Rattle.ac_noncontiguous.specs.Compiler.Assembly.{AreOutlines, AreKept}
 use Rattle.ac_noncontiguous.specs.Compiler.Layout.{AreOfDead, AreRowsOf, IsRowedOrFull, AreRowedAbove, AddsRow, AreRowedUpTo}
 use Rattle.ac_noncontiguous.specs.Compiler.Numbering.{IsNumbering, AreInRuns}
+use Rattle.ac_noncontiguous.proofs.compiler.AssemblyLemmas.{kept-deep, kept-flat}
 use Rattle.ac_noncontiguous.proofs.trie.FailsLemmas.{place-of, shallower-before, order-apart}
 
 -- ---- one more state
@@ -172,13 +175,16 @@ own-rowed {numbering} {i} it n runs r past i_in some =
 
 -- the rows of the tables are those of the states less deep than `below`
 pub rows-below : {trie : Trie} {numbering : Numbering} {links : Links} {order : List ℕ} {back below : ℕ}
-    {transitions : List ℕ} {it : Rows} {tables : Tables} → tables.rows.items ≡ it.rows.items
+    {outlines : List Outline} {transitions : List ℕ} {it : Rows} {tables : Tables}
+    → tables.rows.items ≡ it.rows.items
     → IsNumbering (length trie.states.items) numbering → AreInRuns trie.states.items numbering.at.items numbering.start
     → IsBreadthFirst trie.states.items order
     → AreRowsOf trie numbering links back tables.classes it.offsets.items it.rows.items
     → AreRowedUpTo trie numbering order below (length order) it
-    → AreKept trie numbering links transitions it.offsets.items tables.states.items → AreRowsBelow below tables
-rows-below {trie} {numbering} {below} {it} {tables} same_rows n runs o r h kept =
+    → AreOutlines trie numbering links (length numbering.at.items) outlines
+    → AreKept outlines numbering.at.items (by_state links.ranges) transitions it.offsets.items tables.states.items
+    → AreRowsBelow below tables
+rows-below {trie} {numbering} {below} {it} {tables} same_rows n runs o r h outlined kept =
     let states = tables.states.items in
     let offsets = it.offsets.items in
     let at = numbering.at.items in
@@ -191,11 +197,11 @@ rows-below {trie} {numbering} {below} {it} {tables} same_rows n runs o r h kept 
           let stands : i ≢ 1 = λ e. some (ap (slice_index offsets) e ∙ r.have.fail) in
           ⊎_elim
           (λ (dead : i ≡ 0).
-          let flat = ((kept.kept i (inside i lt)).flat (omega (arith, dead))).3 in
+          let flat = (kept-flat outlined kept (omega (arith, dead)) (inside i lt)).1 in
           (stands, omega (arith, flat, h.dead.0 (λ e. some (ap (slice_index offsets) dead ∙ e)))))
           (λ (live : i ≢ 0).
           let past : 1 < i = omega arith in
-          let deep = (kept.kept i (inside i lt)).deep past in (
+          let deep = kept-deep outlined kept past (inside i lt) in (
             stands,
             ⊎_elim
                 (λ (less : (kept_of states i).depth < below). less)
@@ -210,7 +216,7 @@ rows-below {trie} {numbering} {below} {it} {tables} same_rows n runs o r h kept 
           (λ (dead : i ≡ 0). inl (λ e. h.dead.1 (omega arith) (ap (slice_index offsets) (sym dead) ∙ e)))
           (λ (live : i ≢ 0).
           let past : 1 < i = omega arith in
-          let deep = (kept.kept i (inside i lt)).deep past in
+          let deep = kept-deep outlined kept past (inside i lt) in
           let k = place-of o (n.places.within i (inside i lt)) in
           let same = ap (depth trie.states.items) k.2 in
           own-rowed it n runs r past (inside i lt)

@@ -11,18 +11,21 @@ use Rattle.ac_input.specs.Laws.LiveLaws.{canonical}
 use Rattle.ac_input.specs.States.{FailsTo}
 use Rattle.ac_input.proofs.lemmas.LeadsLemmas.{leads-start, leads-start_none}
 use Rattle.ac_noncontiguous.specs.declared.links.Links.{Links}
+use Rattle.ac_noncontiguous.specs.declared.links.Range.{Range}
 use Rattle.ac_noncontiguous.specs.declared.trie.Trie.{Trie}
 use Rattle.ac_noncontiguous.specs.declared.nfa.tables.State.{State}
 use Rattle.ac_noncontiguous.specs.declared.nfa.tables.Transition.{Transition}
 use Rattle.ac_noncontiguous.specs.declared.compiler.numbering.Numbering.{Numbering}
+use Rattle.ac_noncontiguous.specs.declared.compiler.outlines.Outline.{Outline}
 use Rattle.ac_noncontiguous.specs.Trie.Tree.{text}
 use Rattle.ac_noncontiguous.specs.Trie.Kept.{IsTrieOf}
-use Rattle.ac_noncontiguous.specs.Links.{no_range, in_range, AreLinks}
+use Rattle.ac_noncontiguous.specs.Links.{no_range, in_range, AreLinks, by_state}
 use Rattle.ac_noncontiguous.specs.Nfa.{state_of, byte_at, next_at, row_of, list_of, no_row, IsRowEntry, AreTransitions, AreRows, AreFailures, AreLists, kept_of}
 use Rattle.ac_noncontiguous.specs.Compiler.Numbering.{IsNumbering, AreInRuns, IsLastMatch, range_len}
 use Rattle.ac_noncontiguous.specs.Compiler.Layout.{IsLaid, AreLaidOut, LeadsOver, ByItself, ByFailure, AreRowsOf, HasAll}
-use Rattle.ac_noncontiguous.specs.Compiler.Assembly.{IsBack, number_or_dead, AreKept}
+use Rattle.ac_noncontiguous.specs.Compiler.Assembly.{IsBack, number_or_dead, AreOutlines, AreKept}
 use Rattle.ac_noncontiguous.specs.Compiler.Edges.{missing, IsChildFor}
+use Rattle.ac_noncontiguous.proofs.compiler.AssemblyLemmas.{kept-fails, kept-deep, kept-flat}
 use Rattle.ac_noncontiguous.proofs.trie.TextLemmas.{text-start, length-text}
 use Rattle.ac_noncontiguous.proofs.trie.FailLemmas.{stands-of}
 use Rattle.ac_noncontiguous.proofs.nfa.ChildLemmas.{child_for-begins}
@@ -57,11 +60,11 @@ own-none m matches from {len} within own none n is =
 pub setting : {m : Dictionary} {trie : Trie} {links : Links} {numbering : Numbering} {back : ℕ} → IsTrieOf m trie
     → AreLinks m trie.states.items links → IsNumbering (length trie.states.items) numbering
     → AreInRuns trie.states.items numbering.at.items numbering.start
-    → IsBack trie.kind links.ranges.items numbering.start back → Setting m trie numbering back
+    → IsBack trie.kind (by_state links.ranges) numbering.start back → Setting m trie numbering back
 setting {m} {trie} {links} {numbering} {back} t l n r b =
     let states = trie.states.items in
     let some : 0 < length states = trie.tree.start.0 in
-    let range = slice_index_or links.ranges.items 0 no_range in
+    let range = slice_index_or (by_state links.ranges) 0 no_range in
     let within = l.lists.within 0 some in
     let empty = text-start states trie.tree in
     let own : AreOwn m [] (in_range links.matches.items range) =
@@ -71,17 +74,17 @@ setting {m} {trie} {links} {numbering} {back} t l n r b =
       numbered = n;
       runs = r;
       to_start =
-          ⊎_elim (λ (dead : (trie.kind ≢ Standard) × (0 < range_len links.ranges.items 0) × (back ≡ 0)). inl dead.2)
-          (λ (start : (trie.kind ≢ Standard → range_len links.ranges.items 0 ≡ 0) × (back ≡ numbering.start)).
+          ⊎_elim (λ (dead : (trie.kind ≢ Standard) × (0 < range_len (by_state links.ranges) 0) × (back ≡ 0)). inl dead.2)
+          (λ (start : (trie.kind ≢ Standard → range_len (by_state links.ranges) 0 ≡ 0) × (back ≡ numbering.start)).
           inr start.1) b;
       leads = λ byte nothing.
           ⊎_elim
-          (λ (dead : (trie.kind ≢ Standard) × (0 < range_len links.ranges.items 0) × (back ≡ 0)).
+          (λ (dead : (trie.kind ≢ Standard) × (0 < range_len (by_state links.ranges) 0) × (back ≡ 0)).
           let n_own = own-some m links.matches.items range.from within own dead.1 in (
             (λ _. leads-start_none (λ is. dead.0 (sym t.kind ∙ is)) n_own.1 nothing),
             (λ is. absurd (omega (arith, dead.2, n.places.starts.0))),
           ))
-          (λ (start : (trie.kind ≢ Standard → range_len links.ranges.items 0 ≡ 0) × (back ≡ numbering.start)). (
+          (λ (start : (trie.kind ≢ Standard → range_len (by_state links.ranges) 0 ≡ 0) × (back ≡ numbering.start)). (
             (λ is. absurd (omega (arith, start.1, n.places.starts.0))),
             (λ _. leads-start
                 (λ leftmost. own-none m links.matches.items range.from within own
@@ -94,10 +97,11 @@ setting {m} {trie} {links} {numbering} {back} t l n r b =
 -- ---- the tables
 
 -- the transitions of the tables are those of the dictionary
-pub are-transitions : {m : Dictionary} {trie : Trie} {links : Links} {numbering : Numbering} {back : ℕ}
-    {offsets rows : List ℕ} {states : List State} {transitions : List Transition} → Setting m trie numbering back
+pub are-transitions : {m : Dictionary} {trie : Trie} {numbering : Numbering} {back : ℕ} {outlines : List Outline}
+    {ranges : List Range} {offsets rows : List ℕ} {states : List State} {transitions : List Transition}
+    → Setting m trie numbering back
     → AreLaidOut trie numbering back (length numbering.at.items) offsets transitions
-    → AreKept trie numbering links offsets rows states
+    → AreKept outlines numbering.at.items ranges offsets rows states
     → AreTransitions m (length numbering.at.items) numbering.start (text_of trie numbering) states transitions
 are-transitions {m} {trie} {numbering} {back} {offsets} {states} {transitions} s l k =
     let len = length numbering.at.items in
@@ -193,9 +197,10 @@ IsEntryAt m trie numbering classes rows byte i row =
 
 -- the rows of the tables are those of the dictionary
 pub are-rows : {m : Dictionary} {trie : Trie} {links : Links} {numbering : Numbering} {back : ℕ}
-    {offsets row_offsets rows classes : List ℕ} {states : List State} → Setting m trie numbering back
+    {outlines : List Outline} {offsets row_offsets rows classes : List ℕ} {states : List State}
+    → Setting m trie numbering back
     → AreLinks m trie.states.items links → AreRowsOf trie numbering links back classes row_offsets rows
-    → AreKept trie numbering links offsets row_offsets states
+    → AreKept outlines numbering.at.items (by_state links.ranges) offsets row_offsets states
     → AreRows m (length numbering.at.items) numbering.start (text_of trie numbering) states classes rows
 are-rows {m} {trie} {numbering} {row_offsets} {rows} {classes} {states} s l r k i byte lt small has =
     let len = length numbering.at.items in
@@ -221,16 +226,16 @@ are-rows {m} {trie} {numbering} {row_offsets} {rows} {classes} {states} s l r k 
 
 -- the failures of the tables are those of the dictionary
 pub are-failures : {m : Dictionary} {trie : Trie} {links : Links} {numbering : Numbering} {back : ℕ}
-    {offsets rows : List ℕ} {states : List State} → Setting m trie numbering back → AreLinks m trie.states.items links
-    → AreKept trie numbering links offsets rows states
+    {outlines : List Outline} {offsets rows : List ℕ} {states : List State} → Setting m trie numbering back
+    → AreLinks m trie.states.items links → AreOutlines trie numbering links (length numbering.at.items) outlines
+    → AreKept outlines numbering.at.items (by_state links.ranges) offsets rows states
     → AreFailures m (length numbering.at.items) numbering.start (text_of trie numbering) states
-are-failures {m} {trie} {links} {numbering} {states} s l k =
+are-failures {m} {trie} {links} {numbering} {states} s l o k =
     let len = length numbering.at.items in
     let start = numbering.start in
     let p = s.numbered.places in
     let flat : (i : ℕ) → i < 2 → ((kept_of states i).fail ≡ 0)
-    × ((kept_of states i).depth ≡ 0) = λ i lt. let f = (k.kept i (omega (arith, p.starts.0, p.starts.1))).flat lt in
-    (f.2, f.3) in
+    × ((kept_of states i).depth ≡ 0) = λ i lt. kept-flat o k lt (omega (arith, p.starts.0, p.starts.1)) in
     let number : (to : Option ℕ) (i fail : ℕ) → i < length trie.states.items → slice_get links.fails.items i ≡ Some to
     → fail ≡ number_or_dead numbering.of.items to
     → (fail < len) × (fail ≢ 1) × (fail ≢ start + 1)
@@ -238,7 +243,7 @@ are-failures {m} {trie} {links} {numbering} {states} s l k =
     λ to i fail lt at is. fail-number trie links to i s.numbered (λ f e. l.fails.within i f e) at is in
     record {
       fails = λ i past lt.
-          let f = (k.kept i lt).fails past in
+          let f = kept-fails o k past lt in
           let node = slice_index numbering.at.items i in
           let n = number f.0 node (kept_of states i).fail (p.within i lt) f.1 f.2 in
           subst (FailsTo m (text_of trie numbering i)) (sym n.3) (l.fails.leads node f.0 f.1);
@@ -247,29 +252,30 @@ are-failures {m} {trie} {links} {numbering} {states} s l k =
           (λ (low : i < 2). let f = (flat i low).0 in
           (omega (arith, p.starts.1), (λ is. absurd (omega arith)), (λ is. absurd (omega arith))))
           (λ (high : 2 ≤ i).
-          let f = (k.kept i lt).fails (omega arith) in
+          let f = kept-fails o k (omega arith) lt in
           let n = number f.0 (slice_index numbering.at.items i) (kept_of states i).fail (p.within i lt) f.1 f.2 in
           (n.0, n.1, n.2))
           (cases_lt i 2);
       none = ((flat 0 (omega arith)).0, (flat 1 (omega arith)).0);
-      depths = λ i past lt. (k.kept i lt).deep past
+      depths = λ i past lt. kept-deep o k past lt
           ∙ sym (length-text trie.states.items (slice_index numbering.at.items i));
       flat = ((flat 0 (omega arith)).1, (flat 1 (omega arith)).1);
     }
 
 -- the lists of the tables are those of the dictionary
 pub are-lists : {m : Dictionary} {trie : Trie} {links : Links} {numbering : Numbering} {back : ℕ}
-    {offsets rows : List ℕ} {states : List State} → Setting m trie numbering back → AreLinks m trie.states.items links
-    → IsLastMatch links.ranges.items numbering.at.items numbering.start numbering.max_match
-    → AreKept trie numbering links offsets rows states
+    {outlines : List Outline} {offsets rows : List ℕ} {states : List State} → Setting m trie numbering back
+    → AreLinks m trie.states.items links
+    → IsLastMatch (by_state links.ranges) numbering.at.items numbering.start numbering.max_match
+    → AreKept outlines numbering.at.items (by_state links.ranges) offsets rows states
     → AreLists m (length numbering.at.items) numbering.start numbering.max_match (text_of trie numbering) states
     links.matches.items
 are-lists {m} {trie} {links} {numbering} {states} s l last k =
     let p = s.numbered.places in
     let matches = links.matches.items in
     let flat : (i : ℕ) → i < 2 → ((kept_of states i).matches ≡ 0)
-    × ((kept_of states i).matches_len ≡ 0) = λ i lt. let f =
-    (k.kept i (omega (arith, p.starts.0, p.starts.1))).flat lt in (f.0, f.1) in
+    × ((kept_of states i).matches_len ≡ 0) = λ i lt.
+    (k.kept i (omega (arith, p.starts.0, p.starts.1))).flat lt in
     record {
       ranges = λ i lt.
           ⊎_elim
@@ -280,7 +286,7 @@ are-lists {m} {trie} {links} {numbering} {states} s l last k =
       lists = λ i past lt.
           let f = (k.kept i lt).matches past in
           let node = slice_index numbering.at.items i in
-          let same : list_of states matches i ≡ in_range matches (slice_index_or links.ranges.items node no_range) =
+          let same : list_of states matches i ≡ in_range matches (slice_index_or (by_state links.ranges) node no_range) =
           ap₂ (λ len from. take len (drop from matches)) f.1 f.0 in
           subst (IsList m (text_of trie numbering i)) (sym same) (l.lists.lists node (p.within i lt));
       none = ((flat 0 (omega arith)).1, (flat 1 (omega arith)).1);

@@ -39,6 +39,13 @@ trie-of {m} {states} {ends} {new} pairing kind is_states is_ends stands by_first
           → BeginsBefore m (text s i) (text s j)) (sym is_states) by_first;
     }
 
+-- a trie with the same states, ends and settings stands for the same dictionary
+pub trie-same : {m : Dictionary} {old new : Trie} → new.states ≡ old.states → KeepsSettings old new → IsTrieOf m old
+    → IsTrieOf m new
+trie-same is kept t =
+    trie-of (t.pairing ∙ sym kept.pairing) (t.kind ∙ sym kept.kind) (ap (λ v. v.items) is) (ap (λ v. v.items) kept.ends)
+    t.stands t.by_first
+
 -- one more pattern is entered
 pub trie-entered : {m : Dictionary} (p : List ℕ) {old mid marked new : Trie} {id : ℕ} → IsTrieOf m old
     → length p ≤ greatest_number → IsEnd old.kind old.states.items mid.states.items (map (canonical old.pairing) p)

@@ -9,6 +9,7 @@ use Rattle.ac_noncontiguous.specs.declared.links.Range.{Range}
 use Rattle.ac_noncontiguous.specs.declared.trie.Trie.{Trie}
 use Rattle.ac_noncontiguous.specs.declared.links.own.OwnPatterns.{OwnPatterns}
 use Rattle.ac_noncontiguous.specs.declared.compiler.numbering.Numbering.{Numbering}
+use Rattle.ac_noncontiguous.specs.declared.compiler.outlines.Outline.{Outline}
 use Rattle.ac_noncontiguous.specs.declared.nfa.tables.State.{State}
 use Rattle.ac_noncontiguous.specs.declared.nfa.tables.Tables.{Tables}
 use Rattle.ac_noncontiguous.specs.Trie.Tree.{depth}
@@ -28,25 +29,41 @@ abbrev pub IsFailureOf : Numbering → Links → ℕ → ℕ → Type 0
 IsFailureOf numbering links i fail =
     (to : Option ℕ) × (slice_get links.fails.items i ≡ Some to) × (fail ≡ number_or_dead numbering.of.items to)
 
+-- the outline of state i
+abbrev pub outline_of : List Outline → ℕ → Outline
+outline_of outlines i = slice_index_or outlines i (record { fail = 0; depth = 0 })
+
+-- this is the outline of state i: where the state fails, and its depth
+pub record IsOutlineOf (trie : Trie) (numbering : Numbering) (links : Links) (i : ℕ) (it : Outline) : Type 0 where
+  pub flat : i < 2 → (it.fail ≡ 0) × (it.depth ≡ 0)
+  pub deep : 1 < i → it.depth ≡ depth trie.states.items (slice_index numbering.at.items i)
+  pub fails : 1 < i → IsFailureOf numbering links (slice_index numbering.at.items i) it.fail
+
+-- the outlines of the first `to` states
+pub record AreOutlines (trie : Trie) (numbering : Numbering) (links : Links) (to : ℕ)
+    (outlines : List Outline) : Type 0 where
+  pub counted : length outlines ≡ to
+  pub right : (i : ℕ) → i < to → IsOutlineOf trie numbering links i (outline_of outlines i)
+
+-- the range of the trie state for which state i stands
+abbrev pub range_of : List ℕ → List Range → ℕ → Range
+range_of at ranges i = slice_index_or ranges (slice_index at i) no_range
+
 -- what is stored for state i, whose transitions begin at `from` and whose row begins at `row`
-pub record IsKeptOf (trie : Trie) (numbering : Numbering) (links : Links) (i from row : ℕ)
+pub record IsKeptOf (outlines : List Outline) (at : List ℕ) (ranges : List Range) (i from row : ℕ)
     (state : State) : Type 0 where
   pub places : (state.transitions ≡ from) × (state.row ≡ row)
-  pub flat : i < 2 → (state.matches ≡ 0) × (state.matches_len ≡ 0) × (state.fail ≡ 0) × (state.depth ≡ 0)
-  pub deep : 1 < i → state.depth ≡ depth trie.states.items (slice_index numbering.at.items i)
-  pub matches : 1 < i
-      → (state.matches ≡ (slice_index_or links.ranges.items (slice_index numbering.at.items i) no_range).from)
-      × (state.matches_len ≡ range_len links.ranges.items (slice_index numbering.at.items i))
-  pub fails : 1 < i → IsFailureOf numbering links (slice_index numbering.at.items i) state.fail
+  pub outline : (state.fail ≡ (outline_of outlines i).fail) × (state.depth ≡ (outline_of outlines i).depth)
+  pub flat : i < 2 → (state.matches ≡ 0) × (state.matches_len ≡ 0)
+  pub matches : 1 < i → (state.matches ≡ (range_of at ranges i).from) × (state.matches_len ≡ (range_of at ranges i).len)
 
 -- what is stored for all states, and in one more entry where the transitions end
-pub record AreKept (trie : Trie) (numbering : Numbering) (links : Links) (transitions rows : List ℕ)
+pub record AreKept (outlines : List Outline) (at : List ℕ) (ranges : List Range) (transitions rows : List ℕ)
     (states : List State) : Type 0 where
-  pub counted : length states ≡ length numbering.at.items + 1
-  pub kept : (i : ℕ) → i < length numbering.at.items
-      → IsKeptOf trie numbering links i (slice_index transitions i) (slice_index rows i) (kept_of states i)
-  pub last : (kept_of states (length numbering.at.items)).transitions
-      ≡ slice_index transitions (length numbering.at.items)
+  pub counted : length states ≡ length at + 1
+  pub kept : (i : ℕ) → i < length at
+      → IsKeptOf outlines at ranges i (slice_index transitions i) (slice_index rows i) (kept_of states i)
+  pub last : (kept_of states (length at)).transitions ≡ slice_index transitions (length at)
 
 -- Where a byte that begins no pattern leads from the unanchored start. Under a leftmost kind with an empty pattern,
 -- which has matched, it leads to the dead state; otherwise back to the start.

@@ -6,7 +6,7 @@ use Rattle.ac_noncontiguous.specs.declared.links.Range.{Range}
 use Rattle.ac_noncontiguous.specs.declared.compiler.numbering.Numbering.{Numbering}
 use Rattle.ac_noncontiguous.specs.declared.compiler.numbering.Listed.{Listed}
 use Rattle.ac_noncontiguous.specs.declared.trie.State.{State}
-use Rattle.ac_noncontiguous.specs.Links.{no_range}
+use Rattle.ac_noncontiguous.specs.Links.{no_range, by_state}
 use Rattle.ac_noncontiguous.specs.Nfa.{InOneRun}
 use Rattle.ac_noncontiguous.specs.Links.Order.{ComesBefore}
 
@@ -14,7 +14,7 @@ use Rattle.ac_noncontiguous.specs.Links.Order.{ComesBefore}
 pub record FitsTrie (states : ℕ) (links : Links) : Type 0 where
   pub fails : length links.fails.items ≡ states
   pub within : (i f : ℕ) → slice_get links.fails.items i ≡ Some (Some f) → f < states
-  pub ranges : length links.ranges.items ≡ states
+  pub ranges : length (by_state links.ranges) ≡ states
 
 -- how many patterns match at a trie state
 abbrev pub range_len : List Range → ℕ → ℕ

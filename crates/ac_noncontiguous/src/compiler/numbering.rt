@@ -6,6 +6,7 @@
 ghost use Rattle.std.specs.Prelude.{◌≡◌, ◌+◌, ◌<◌, ◌≤◌, ◌++◌, length, true, false, slice_index, EachIndex, IfOk};
 ghost use Rattle.std.specs.List.{filter};
 ghost use Rattle.ac_input.specs.Number.{greatest_number};
+ghost use Rattle.ac_noncontiguous.specs.Links.{by_state};
 ghost use Rattle.ac_noncontiguous.specs.Links.Order.{IsBreadthFirst};
 ghost use Rattle.ac_noncontiguous.specs.Compiler.Numbering.{is_chosen, AreListed, AreFirstNumbers, FitsTrie, IsNumbering, AreInRuns, IsLastMatch};
 
@@ -38,10 +39,10 @@ pub(super) struct Numbering {
 
 /// Whether some pattern matches at the trie state, or whether none does.
 pub(super) fn is_chosen(links: &Links, id: StateID, matching: bool) -> bool
-    requires { id < length links.now.ranges.items }
-    ensures { result ≡ is_chosen links.now.ranges.items matching id }
+    requires { id < length (by_state links.now.ranges) }
+    ensures { result ≡ is_chosen (by_state links.now.ranges) matching id }
 {
-    let some = links.ranges[id.as_usize()].len > 0;
+    let some = links.ranges.get(id).len > 0;
     if matching { some } else { !some }
 }
 
@@ -53,9 +54,9 @@ fn push_chosen(
     at: &mut Vec<StateID>,
 ) -> Result<(), AllocError>
     requires { EachIndex states.now
-        (λ k. slice_index states.now k < length links.now.ranges.items) }
+        (λ k. slice_index states.now k < length (by_state links.now.ranges)) }
     ensures { IfOk result (λ _. at.new.items ≡ at.old.items ++ filter
-        (is_chosen links.now.ranges.items matching) states.now) }
+        (is_chosen (by_state links.now.ranges) matching) states.now) }
 {
     for id in states {
         if is_chosen(links, *id, matching) {
@@ -68,9 +69,9 @@ fn push_chosen(
 /// The trie states in the order of their numbers, where these are all but the start.
 fn list(alloc: Global, states: &[StateID], links: &Links) -> Result<Listed, AllocError>
     requires within { EachIndex states.now
-        (λ k. slice_index states.now k < length links.now.ranges.items) }
+        (λ k. slice_index states.now k < length (by_state links.now.ranges)) }
     requires few { length states.now + 4 ≤ greatest_number + 1 }
-    ensures { IfOk result (AreListed links.now.ranges.items states.now) }
+    ensures { IfOk result (AreListed (by_state links.now.ranges) states.now) }
 {
     let mut at = Vec::with_capacity(alloc, states.len() + 4)?;
     at.push(StateID::ZERO)?;
@@ -101,10 +102,10 @@ fn inverse(alloc: Global, at: &[StateID], states: usize) -> Result<Vec<StateID>,
 
 /// The last state at which some pattern matches: the anchored start, or the state before the unanchored one.
 fn last_match(links: &Links, start: StateID) -> StateID
-    requires some { 0 < length links.now.ranges.items }
+    requires some { 0 < length (by_state links.now.ranges) }
     requires within { (1 < start) × (start < greatest_number) }
-    ensures yes { is_chosen links.now.ranges.items true 0 ≡ true → result ≡ start + 1 }
-    ensures no { is_chosen links.now.ranges.items true 0 ≡ false → result + 1 ≡ start }
+    ensures yes { is_chosen (by_state links.now.ranges) true 0 ≡ true → result ≡ start + 1 }
+    ensures no { is_chosen (by_state links.now.ranges) true 0 ≡ false → result + 1 ≡ start }
 {
     if is_chosen(links, StateID::ZERO, true) {
         StateID::must(start.one_more())
@@ -125,7 +126,7 @@ impl Numbering {
         requires links { FitsTrie (length trie.now.states.items) links.now }
         ensures made { IfOk result (IsNumbering (length trie.now.states.items)) }
         ensures matches { IfOk result
-            (λ it. IsLastMatch links.now.ranges.items it.at.items it.start it.max_match) }
+            (λ it. IsLastMatch (by_state links.now.ranges) it.at.items it.start it.max_match) }
         ensures runs { IfOk result
             (λ it. AreInRuns trie.now.states.items it.at.items it.start) }
     {

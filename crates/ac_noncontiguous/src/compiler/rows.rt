@@ -15,7 +15,7 @@ ghost use Rattle.ac_noncontiguous.specs.Compiler.Layout.{AreAlone, AreClassesOfT
 
 use crate::compiler::edges::{edges, filled};
 use crate::compiler::numbering::Numbering;
-use crate::compiler::states::failure;
+use crate::compiler::outlines::failure;
 use crate::links::Links;
 use crate::nfa::tables::{FAIL, NO_ROW};
 use crate::trie::Trie;

@@ -5,7 +5,7 @@
 //! state stand in the order of their bytes, so a hint before a missing one gives the place to walk on from.
 //!
 //! Only children that aren't the first of their parent are recorded. The table has room for twice as many as were recorded since
-//! it grew, and at most 16 megabytes; if there is no memory to grow, it starts anew.
+//! it grew, and at most 16 megabytes; if there is no memory to grow, it starts anew. It is freed when the failures are known.
 ghost use Rattle.std.specs.Prelude.{◌≡◌, ℕ, ◌<◌, length, Some, IsTrue};
 ghost use Rattle.ac_noncontiguous.specs.Trie.Tree.{IsSiblingWalk, IsChildBelow};
 ghost use Rattle.ac_noncontiguous.specs.Compiler.Edges.{IsChildFor};
@@ -158,5 +158,14 @@ impl Trie {
         if self.state(of).child != child {
             self.hints.put(of, byte, child);
         }
+    }
+
+    /// The same trie without its hints, which are freed.
+    pub(crate) fn without_hints(mut self, alloc: Global) -> Trie
+        ensures states { result.states ≡ self.states }
+        ensures rest { KeepsSettings self result }
+    {
+        self.hints = Hints::new(alloc);
+        self
     }
 }

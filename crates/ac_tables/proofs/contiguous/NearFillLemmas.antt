@@ -18,10 +18,10 @@ use Rattle.ac_automaton.specs.Named.{Naming, IsStep, IsEdgeBy, IsFailureBy, AreN
 use Rattle.ac_automaton.proofs.automaton.LinkedLemmas.{straight, stuck, following-none, following-more}
 use Rattle.ac_automaton.proofs.automaton.NamedLemmas.{stands-for}
 use Rattle.ac_tables.specs.Contiguous.Near.{AreNearRows, LeadsToNumber, IsNumberOf, place_by}
-use Rattle.ac_tables.specs.Contiguous.NearReads.{AreBytesOf, AreFound, ArePlacesNear, FailsToNumber, HasCopiedRow, IsFailureRow, HasFilledAll, HasFilledPart, HasFilledTo, HasPut, LeadsByEntry, IsByteOfClass}
+use Rattle.ac_tables.specs.Contiguous.NearReads.{AreBytesOf, AreFound, ArePlacesNear, FailsToNumber, HasCopiedRow, IsFailureRow, HasFilledAll, HasFilledPart, HasFilledTo, HasPut, HasPutEdges, LeadsByEntry, IsByteOfClass}
 use Rattle.ac_tables.specs.Contiguous.Reads.{contiguous_dictionary, IsLaidOut, IsMet, LooksUp}
 use Rattle.ac_tables.specs.Contiguous.Rows.{AreRowsIfAny, row_len}
-use Rattle.ac_tables.specs.Contiguous.WordReads.{ByteLeadsTo, FailsAt, IsOnlyClass}
+use Rattle.ac_tables.specs.Contiguous.WordReads.{ByteLeadsTo, FailsAt, ListsEdges, edge_class}
 use Rattle.ac_tables.specs.declared.contiguous.NFA.{NFA}
 use Rattle.ac_tables.specs.declared.contiguous.rows.Rows.{Rows}
 use Rattle.ac_tables.specs.declared.contiguous.table.Table.{Table}
@@ -279,71 +279,76 @@ copied-failed nfa bytes row from k place old now letters less before failure h a
     subst (FailsToNumber nfa now place (slice_index bytes k)) (same ∙ sym (h.copied k (omega (arith, less, letters))))
     (part-failed nfa bytes row from 0 k place old now letters less before failure (part-copied nfa bytes from row old now h) at)
 
--- so it is right, unless its class is the only one by which the state's transitions lead on
-pub copied-entry : (nfa : NFA) (bytes : List ℕ) (row from only k place : ℕ) (old now : Rows) → nfa.rows ≡ None
-    → length bytes ≤ row_len old → AreBytesOf nfa.table.classes bytes → k < length bytes
-    → HasFilledTo nfa bytes row old old → IsFailureRow nfa old row from → HasCopiedRow from row old now
-    → place ≡ slice_index old.places.items row → IsOnlyClass nfa.table place only → k ≢ only
-    → LeadsByEntry nfa old row (slice_index bytes k) (slice_index now.trans.items (row * row_len old + k))
-copied-entry nfa bytes row from only k place old now alone letters those less before failure h at one other =
-    let byte = slice_index bytes k in
-    let is = those.own k less in
-    let leads = number-failed nfa now place byte nowhere (slice_index now.trans.items (row * row_len old + k)) alone is.small
-    (one byte (λ e. other (sym is.same ∙ e))) refl
-    (copied-failed nfa bytes row from k place old now letters less before failure h at) in
-    entry-same nfa old now row byte _ h.places h.stride
-    (subst (λ p. LeadsToNumber (contiguous_dictionary nfa) nfa.table now.places.items (row_len now) p byte
-    (slice_index now.trans.items (row * row_len old + k)))
-    (at ∙ sym (ap (λ ps. slice_index ps row) h.places)) leads)
-
--- a copied row is filled, where no class is left that the state's transitions lead on by
-pub only-none : (nfa : NFA) (bytes : List ℕ) (row from only place : ℕ) (old now : Rows) → nfa.rows ≡ None
-    → length bytes ≤ row_len old → AreBytesOf nfa.table.classes bytes → HasFilledTo nfa bytes row old old
-    → IsFailureRow nfa old row from → HasCopiedRow from row old now → place ≡ slice_index old.places.items row
-    → IsOnlyClass nfa.table place only → length bytes ≤ only → HasFilledPart nfa bytes row (length bytes) old now
-only-none nfa bytes row from only place old now alone letters those before failure h at one past = record {
-  places = h.places;
-  stride = h.stride;
-  len = h.len;
-  before = h.before;
-  filled = λ k less. copied-entry nfa bytes row from only k place old now alone letters those less before failure h at one
-      (λ e. omega (arith, e, less, past));
+-- where another entry of the row is put, nothing before the row changes
+part-put : (nfa : NFA) (bytes : List ℕ) (row at number : ℕ) (old now new : Rows) → HasFilledPart nfa bytes row 0 old now
+    → row * row_len old ≤ at → HasPut at number now new → HasFilledPart nfa bytes row 0 old new
+part-put nfa bytes row at number old now new h past put = record {
+  places = put.places ∙ h.places;
+  stride = put.stride ∙ h.stride;
+  len = ap length put.trans ∙ (length-set now.trans.items at number ∙ h.len);
+  before = λ i low. ap (λ l. slice_index l i) put.trans
+      ∙ (get_or-set_other now.trans.items at i number 0 (λ e. omega (arith, e, low, past)) ∙ h.before i low);
+  filled = λ k less. absurd (omega (arith, less));
 }
 
--- a copied row is filled, once the entry of that class is
-pub only-one : (nfa : NFA) (bytes : List ℕ) (row from only place at number : ℕ) (old now new : Rows) → nfa.rows ≡ None
+-- a copied row is right but for the entries of the classes by which the state leads on
+pub edges-copied : (nfa : NFA) (bytes : List ℕ) (row from len : ℕ) (old now : Rows) → nfa.rows ≡ None
     → length bytes ≤ row_len old → AreBytesOf nfa.table.classes bytes → HasFilledTo nfa bytes row old old
-    → IsFailureRow nfa old row from → HasCopiedRow from row old now → place ≡ slice_index old.places.items row
-    → IsOnlyClass nfa.table place only → only < length bytes → at ≡ row * row_len old + only
-    → at < length now.trans.items → HasPut at number now new
-    → LeadsToNumber (contiguous_dictionary nfa) nfa.table now.places.items (row_len now) place (slice_index bytes only) number
-    → HasFilledPart nfa bytes row (length bytes) old new
-only-one nfa bytes row from only place at number old now new alone letters those before failure h is one less there within put
-    leads = record {
-      places = put.places ∙ h.places;
-      stride = put.stride ∙ h.stride;
-      len = ap length put.trans ∙ (length-set now.trans.items at number ∙ h.len);
-      before = λ i low. ap (λ l. slice_index l i) put.trans
-          ∙ (get_or-set_other now.trans.items at i number 0 (λ e. omega (arith, e, low, there)) ∙ h.before i low);
-      filled = λ k inside. ⊎_elim
-          (λ (here : k ≡ only).
-          let same : slice_index new.trans.items (row * row_len old + k) ≡ number =
-          ap (slice_index new.trans.items) (ap (λ j. row * row_len old + j) here ∙ sym there)
-          ∙ (ap (λ l. slice_index l at) put.trans ∙ get_or-set_same now.trans.items at number 0 within) in
-          subst (LeadsByEntry nfa old row (slice_index bytes k)) (sym same)
-          (subst (λ j. LeadsByEntry nfa old row (slice_index bytes j) number) (sym here)
-          (entry-same nfa old now row (slice_index bytes only) number h.places h.stride
-          (subst (λ p. LeadsToNumber (contiguous_dictionary nfa) nfa.table now.places.items (row_len now) p
-          (slice_index bytes only) number) (is ∙ sym (ap (λ ps. slice_index ps row) h.places)) leads))))
-          (λ (other : k ≢ only).
-          let same : slice_index new.trans.items (row * row_len old + k) ≡ slice_index now.trans.items (row * row_len old + k) =
-          ap (λ l. slice_index l (row * row_len old + k)) put.trans
-          ∙ get_or-set_other now.trans.items at (row * row_len old + k) number 0
-          (λ e. other (let n : k ≡ only = omega (arith, e, there) in n)) in
-          subst (LeadsByEntry nfa old row (slice_index bytes k)) (sym same)
-          (copied-entry nfa bytes row from only k place old now alone letters those inside before failure h is one other))
-          (cases_eq k only);
-    }
+    → IsFailureRow nfa old row from → HasCopiedRow from row old now
+    → ListsEdges nfa.table (slice_index old.places.items row) len → HasPutEdges nfa bytes row len 0 old now
+edges-copied nfa bytes row from len old now alone letters those before failure h listed = record {
+  kept = part-copied nfa bytes from row old now h;
+  right = λ k less none.
+      let byte = slice_index bytes k in
+      let place = slice_index old.places.items row in
+      let number = slice_index now.trans.items (row * row_len old + k) in
+      let is = those.own k less in
+      let leads = number-failed nfa now place byte nowhere number alone is.small
+      (listed.others byte (λ at within e. none at (omega arith) within (e ∙ is.same))) refl
+      (copied-failed nfa bytes row from k place old now letters less before failure h refl) in
+      entry-same nfa old now row byte number h.places h.stride
+      (subst (λ p. LeadsToNumber (contiguous_dictionary nfa) nfa.table now.places.items (row_len now) p byte number)
+      (sym (ap (λ ps. slice_index ps row) h.places)) leads);
+}
+
+-- the entry of one class more is put
+pub edges-more : (nfa : NFA) (bytes : List ℕ) (row len count one at number : ℕ) (old now new : Rows)
+    → HasPutEdges nfa bytes row len count old now → one ≡ edge_class nfa.table (slice_index old.places.items row) count
+    → at ≡ row * row_len old + one → at < length now.trans.items → HasPut at number now new
+    → LeadsByEntry nfa now row (slice_index bytes one) number → HasPutEdges nfa bytes row len (count + 1) old new
+edges-more nfa bytes row len count one at number old now new h is there within put entry = record {
+  kept = part-put nfa bytes row at number old now new h.kept (omega (arith, there)) put;
+  right = λ k less none. ⊎_elim
+      (λ (here : k ≡ one).
+      let same : slice_index new.trans.items (row * row_len old + k) ≡ number =
+      ap (slice_index new.trans.items) (ap (λ j. row * row_len old + j) here ∙ sym there)
+      ∙ (ap (λ l. slice_index l at) put.trans ∙ get_or-set_same now.trans.items at number 0 within) in
+      subst (LeadsByEntry nfa old row (slice_index bytes k)) (sym same)
+      (subst (λ j. LeadsByEntry nfa old row (slice_index bytes j) number) (sym here)
+      (entry-same nfa old now row (slice_index bytes one) number h.kept.places h.kept.stride entry)))
+      (λ (other : k ≢ one).
+      let same : slice_index new.trans.items (row * row_len old + k) ≡ slice_index now.trans.items (row * row_len old + k) =
+      ap (λ l. slice_index l (row * row_len old + k)) put.trans
+      ∙ get_or-set_other now.trans.items at (row * row_len old + k) number 0
+      (λ e. other (let n : k ≡ one = omega (arith, e, there) in n)) in
+      subst (LeadsByEntry nfa old row (slice_index bytes k)) (sym same)
+      (h.right k less (λ i low inside. ⊎_elim
+      (λ (last : i ≡ count). λ e. other (sym e ∙ (ap (edge_class nfa.table (slice_index old.places.items row)) last ∙ sym is)))
+      (λ (later : i ≢ count). none i (omega (arith, low, later)) inside)
+      (cases_eq i count))))
+      (cases_eq k one);
+}
+
+-- once the entries of all these classes are put, the row is filled
+pub edges-all : (nfa : NFA) (bytes : List ℕ) (row len count : ℕ) (old new : Rows) → HasPutEdges nfa bytes row len count old new
+    → len ≤ count → HasFilledPart nfa bytes row (length bytes) old new
+edges-all nfa bytes row len count old new h done = record {
+  places = h.kept.places;
+  stride = h.kept.stride;
+  len = h.kept.len;
+  before = h.kept.before;
+  filled = λ k less. h.right k less (λ at low inside. absurd (omega (arith, low, inside, done)));
+}
 
 -- no row is filled yet
 pub rows-none : (nfa : NFA) (bytes : List ℕ) (old : Rows) → HasFilledTo nfa bytes 0 old old

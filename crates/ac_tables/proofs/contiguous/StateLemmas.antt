@@ -41,7 +41,7 @@ word-of table sid {at} {word} h is read =
     (first, ap (λ n. n % 256) first ∙ sym (and_mask word 8))
 
 -- the kind in the first word is the kind of the state
-same-kind : (table : Table) (sid : ℕ) (s : StateParts) (low : ℕ) → IsStateAt table sid s
+pub same-kind : (table : Table) (sid : ℕ) (s : StateParts) (low : ℕ) → IsStateAt table sid s
     → slice_index table.words.items sid % 256 ≡ low → kind_word (form_of s) s.edges % 256 ≡ low
 same-kind table sid s low h is =
     ap (λ n. n % 256) (sym (state-kind table.words.items sid table.alphabet_len s h.stands).1) ∙ is
@@ -74,16 +74,22 @@ one-at table sid s h kind =
 
 -- ---- a state with few transitions
 
--- the classes of its transitions are bytes
-classes-bytes : (table : Table) (sid : ℕ) (s : StateParts) → IsStateAt table sid s → AreBytes (classes_of s.edges)
-classes-bytes table sid s h i within =
-    let long = length-map s.edges (λ (edge : ℕ × ℕ). edge.0) in
-    let less : i < length s.edges = omega (arith, within, long) in
+-- the class of each of its transitions is one of the alphabet
+pub class-fits : (table : Table) (sid : ℕ) (s : StateParts) → IsStateAt table sid s → (i : ℕ) → i < length s.edges
+    → get_or (classes_of s.edges) i 0 < table.alphabet_len
+class-fits table sid s h i less =
     let fits = h.fits i (get_or s.edges i (0, 0)) (slice_get-get_or s.edges i (0, 0) less) in
     let same : get_or (classes_of s.edges) i 0 ≡ (get_or s.edges i (0, 0)).0 =
     get_or-map (λ (edge : ℕ × ℕ). edge.0) s.edges i (0, 0) 0 less in
+    omega (arith, fits, same)
+
+-- so it is a byte
+classes-bytes : (table : Table) (sid : ℕ) (s : StateParts) → IsStateAt table sid s → AreBytes (classes_of s.edges)
+classes-bytes table sid s h i within =
+    let long = length-map s.edges (λ (edge : ℕ × ℕ). edge.0) in
+    let fits = class-fits table sid s h i (omega (arith, within, long)) in
     let few = h.few_classes in
-    omega (arith, fits, same, few)
+    omega (arith, fits, few)
 
 -- What is known of a sparse state's words: how many classes it has, and that they are packed before the next places.
 pub record AreSparse (words : List ℕ) (sid len : ℕ) (edges : List (ℕ × ℕ)) : Type 0 where

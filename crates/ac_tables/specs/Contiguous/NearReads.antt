@@ -1,5 +1,5 @@
 -- How the rows of the states near the start are made, and what a look-up by a number gives.
-use Rattle.std.specs.Prelude.{◌≡◌, ℕ, ◌+◌, ◌*◌, ◌<◌, ◌≤◌, false, List, [], ◌∷◌, length, slice_index, slice_set}
+use Rattle.std.specs.Prelude.{◌≡◌, ◌≢◌, ℕ, ◌+◌, ◌*◌, ◌<◌, ◌≤◌, false, List, [], ◌∷◌, length, slice_index, slice_set}
 use Rattle.std.specs.List.{All}
 use Rattle.ac_input.specs.Number.{greatest_number}
 use Rattle.ac_input.specs.Alphabet.{class, alphabet_len}
@@ -12,7 +12,7 @@ use Rattle.ac_tables.specs.Contiguous.Cut.{Rise}
 use Rattle.ac_tables.specs.Contiguous.Near.{IsNumber, numbered_place, LeadsToNumber}
 use Rattle.ac_tables.specs.Contiguous.Reads.{contiguous_built_as, contiguous_dictionary, IsContiguousRead, IsMet}
 use Rattle.ac_tables.specs.Contiguous.Rows.{row_len}
-use Rattle.ac_tables.specs.Contiguous.WordReads.{FailsAt}
+use Rattle.ac_tables.specs.Contiguous.WordReads.{FailsAt, edge_class}
 
 -- ---- look-ups
 
@@ -96,6 +96,14 @@ pub record HasFilledPart (nfa : NFA) (bytes : List ℕ) (row count : ℕ) (old n
   pub len : length new.trans.items ≡ length old.trans.items
   pub before : (at : ℕ) → at < row * row_len old → slice_index new.trans.items at ≡ slice_index old.trans.items at
   pub filled : (k : ℕ) → k < count
+      → LeadsByEntry nfa old row (slice_index bytes k) (slice_index new.trans.items (row * row_len old + k))
+
+-- A row was copied from that of its state's failure, and the entries of the first so many classes were put, of those by which the
+-- state leads on. All other entries are right.
+pub record HasPutEdges (nfa : NFA) (bytes : List ℕ) (row len count : ℕ) (old new : Rows) : Type 0 where
+  pub kept : HasFilledPart nfa bytes row 0 old new
+  pub right : (k : ℕ) → k < length bytes
+      → ((at : ℕ) → count ≤ at → at < len → edge_class nfa.table (slice_index old.places.items row) at ≢ k)
       → LeadsByEntry nfa old row (slice_index bytes k) (slice_index new.trans.items (row * row_len old + k))
 
 -- a row was filled, with an entry for each of these bytes

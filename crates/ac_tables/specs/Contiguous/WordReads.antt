@@ -1,5 +1,6 @@
 -- The results of look-ups in the words of a contiguous automaton.
 use Rattle.std.specs.Prelude.{◌≡◌, ◌≢◌, ℕ, ◌+◌, ◌-◌, ◌/◌, ◌%◌, ◌<◌, ◌≤◌, ◌==◌, ◌&&◌, nat_le, not, if◌then◌else◌, List, [], ◌∷◌, length, take, drop, slice_get, slice_index, Option, Some, None}
+use Rattle.std.specs.Int.{w32, to_le_bytes}
 use Rattle.ac_input.specs.Number.{greatest_number}
 use Rattle.ac_input.specs.Alphabet.{class, alphabet_len}
 use Rattle.ac_automaton.specs.Named.{nowhere}
@@ -36,9 +37,18 @@ abbrev pub ByteLeadsTo : Table → ℕ → ℕ → ℕ → Type 0
 ByteLeadsTo table sid byte next =
     ((s : StateParts) → IsStateAt table sid s → next ≡ next_by s.edges (class table.classes byte))
 
--- no byte of another class leads on from a state by its transitions
-abbrev pub IsOnlyClass : Table → ℕ → ℕ → Type 0
-IsOnlyClass table sid only = (byte : ℕ) → class table.classes byte ≢ only → ByteLeadsTo table sid byte nowhere
+-- the class of a transition that a state lists: that of a single one stands above the kind, of others four stand in a word
+abbrev pub edge_class : Table → ℕ → ℕ → ℕ
+edge_class table sid at =
+    if slice_index table.words.items sid % kind_count == one_kind then slice_index table.words.items sid / kind_count
+    else slice_index (to_le_bytes w32 (slice_index table.words.items (sid + head_len + at / 4))) (at % 4)
+
+-- The words of the state at a place list so many transitions with their classes. By no other class it leads on.
+pub record ListsEdges (table : Table) (sid len : ℕ) : Type 0 where
+  pub there : (at : ℕ) → at < len → sid + head_len + at / 4 < length table.words.items
+  pub classes : (at : ℕ) → at < len → edge_class table sid at < alphabet_len table.classes
+  pub others : (byte : ℕ) → ((at : ℕ) → at < len → edge_class table sid at ≢ class table.classes byte)
+      → ByteLeadsTo table sid byte nowhere
 
 -- the state at a place fails to another
 abbrev pub FailsAt : Table → ℕ → ℕ → Type 0

@@ -8,7 +8,7 @@
 //! to do than to read on. Where the patterns are few, a search that stands in the start finds the next place at which one may begin by
 //! its first bytes; where few bytes lead out of the start, it finds the next of these by `memchr`. Elsewhere a search of a stream reads
 //! four parts of its bytes side by side, where there are rows.
-ghost use Rattle.std.specs.Prelude.{false, ◌≡◌};
+ghost use Rattle.std.specs.Prelude.{false, ◌≡◌, ◌<◌};
 ghost use Rattle.ac_automaton.specs.Automaton.{IsReached};
 ghost use Rattle.ac_automaton.specs.Named.{nowhere};
 ghost use Rattle.ac_automaton.specs.Look.{ReadsTo};
@@ -80,6 +80,29 @@ impl NFA {
             Anchored::No => self.follow(sid, byte, steps),
             Anchored::Yes => StateID::ZERO,
         }
+    }
+
+    /// Reads on to the first state between two numbers, these included, and passes bytes in the start: by the rows where there are some.
+    #[inline(always)]
+    fn read_skipping(
+        &self,
+        anchored: Anchored,
+        sid: StateID,
+        bytes: &[u8],
+        to: Between,
+        steps: &mut Steps,
+    ) -> Advance
+        requires reached { IsReached (IsContiguousRead self.now anchored) sid }
+        requires stops { to.last < self.now.table.start → to.last ≡ self.now.table.max_match }
+        ensures { ReadsTo (contiguous_built_as self.now) (IsContiguousRead self.now) anchored to sid
+            bytes.now result steps.old steps.new }
+    {
+        if to.is_before(self.table.start) {
+            if let (Some(rows), Anchored::No) = (&self.rows, anchored) {
+                return self.skip_rows(rows, sid, bytes, to, steps);
+            }
+        }
+        self.skips.read_to(self, anchored, sid, bytes, to, steps)
     }
 
     /// Reads on to the first state between two numbers, these included, or to the last byte, where not all states have rows.
@@ -206,8 +229,7 @@ impl Automaton for NFA {
         steps: &mut Steps,
     ) -> Advance {
         let special = Between::new(0, self.max_special);
-        self.skips
-            .read_to(self, anchored, sid, bytes, special, steps)
+        self.read_skipping(anchored, sid, bytes, special, steps)
     }
 
     fn advance_to_match(
@@ -218,8 +240,7 @@ impl Automaton for NFA {
         steps: &mut Steps,
     ) -> Advance {
         let matching = Between::new(1, self.table.max_match);
-        self.skips
-            .read_to(self, anchored, sid, bytes, matching, steps)
+        self.read_skipping(anchored, sid, bytes, matching, steps)
     }
 
     fn advance_alone(
@@ -250,6 +271,10 @@ impl Automaton for NFA {
             Some(rows) => self.note_by_rows(rows, sid, bytes, at, len, anew, notes, steps),
             None => Noted::none(),
         }
+    }
+
+    fn has_lanes(&self) -> bool {
+        self.rows.is_some() && !self.skips.pass_many(self.lens.len())
     }
 
     #[inline]

@@ -1,5 +1,5 @@
 //! Reading on by rows, where an automaton has some: one look for a byte.
-ghost use Rattle.std.specs.Prelude.{◌≡◌, ◌≤◌, Some, IsTrue, length};
+ghost use Rattle.std.specs.Prelude.{◌≡◌, ◌<◌, ◌≤◌, Some, IsTrue, length};
 ghost use Rattle.ac_tables.specs.Dfa.Lookups.{ArePlain};
 
 use crate::contiguous::NFA;
@@ -108,6 +108,46 @@ impl NFA {
                 None => self.read_words(Anchored::No, sid, bytes, to, steps),
             },
             None => self.read_words(Anchored::No, sid, bytes, to, steps),
+        }
+    }
+
+    /// Reads on to the first state between two places, these included, and passes bytes in the start; by the words where the rows of these
+    /// states aren't found. The last place is that of the last state that matches, which is before the start.
+    #[inline(always)]
+    pub(super) fn skip_rows(
+        &self,
+        rows: &Rows,
+        sid: StateID,
+        bytes: &[u8],
+        to: Between,
+        steps: &mut Steps,
+    ) -> Advance
+        requires held { self.now.rows ≡ Some rows.now }
+        requires reached { IsReached (IsContiguousRead self.now No) sid }
+        requires before { to.last < self.now.table.start }
+        requires last { to.last ≡ self.now.table.max_match }
+        ensures { ReadsTo (contiguous_built_as self.now) (IsContiguousRead self.now) No to sid
+            bytes.now result steps.old steps.new }
+    {
+        let found = (
+            rows.row_of(sid),
+            rows.row_of(self.table.start),
+            rows.between(to),
+        );
+        let (Some(row), Some(start), Some(two)) = found else {
+            return self.read_words(Anchored::No, sid, bytes, to, steps);
+        };
+        let by = ByRows {
+            nfa: self,
+            rows,
+            plain: is_plain(&self.table.classes),
+        };
+        let stop = self
+            .skips
+            .read_to_from(&by, start, Anchored::No, row, bytes, two, steps);
+        Advance {
+            sid: rows.place(stop.sid),
+            taken: stop.taken,
         }
     }
 

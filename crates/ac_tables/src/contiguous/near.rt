@@ -2,8 +2,9 @@
 //!
 //! The states are found from the start on, breadth first, to a depth of 16. Those past the start get rows, in the order of their places.
 //! A byte that no transition of a state has leads where it does from the state's failure. That is less deep and nearly always has a row
-//! before, so its entries are copied; else a look-up in the words finds each entry. It takes a look at the words for each state and each
-//! class of bytes, twice, and where look-ups are needed as many for an entry as the state is deep, at most.
+//! before, which is copied; then an entry is put for each transition. So a state takes two look-ups for each transition that its words
+//! list, and two for each class of bytes where they have an entry for each. Where the failure has no row before, a look-up finds each
+//! entry, and follows as many failures as the state is deep, at most.
 ghost use Rattle.std.specs.Prelude.{ℕ, ◌≡◌, ◌≢◌, ◌+◌, ◌*◌, ◌^◌, ◌<◌, ◌≤◌, false, None, length, slice_index, IfOk, IfSome};
 ghost use Rattle.ac_input.specs.Alphabet.{alphabet_len, IsLeastExponent};
 ghost use Rattle.ac_input.specs.Alphabet.Classes.{ClassesLeadAlike};
@@ -14,7 +15,7 @@ ghost use Rattle.ac_tables.specs.Contiguous.Near.{AreNearRows, LeadsToNumber};
 ghost use Rattle.ac_tables.specs.Contiguous.NearReads.{AreFound, ArePlacesNear, AreBytesOf, FailsToNumber, HasCopiedRow, HasFilled, HasFilledAll, HasFilledTo, HasPut, HasRoomNear, AreBlank, IsFailureRow};
 ghost use Rattle.ac_tables.specs.Contiguous.Reads.{contiguous_dictionary, IsContiguousMadeOf, IsMet};
 ghost use Rattle.ac_tables.specs.Contiguous.Rows.{row_len};
-ghost use Rattle.ac_tables.specs.Contiguous.WordReads.{ByteLeadsTo, IsOnlyClass};
+ghost use Rattle.ac_tables.specs.Contiguous.WordReads.{ByteLeadsTo, ListsEdges};
 
 use crate::contiguous::NFA;
 use crate::contiguous::layout::NOWHERE;
@@ -46,17 +47,6 @@ fn is_left_out(next: StateID, last: StateID, len: usize, most: usize) -> bool
     ensures { result ≡ false → (next ≢ nowhere) × (last < next) × (len < most) }
 {
     next.as_u32() == NOWHERE || next.as_u32() <= last.as_u32() || len >= most
-}
-
-/// The byte of a class, or none.
-fn only_byte(bytes: &[u8], class: usize) -> &[u8]
-    ensures { length result.now ≤ 1 }
-{
-    if class < bytes.len() {
-        &bytes[class..class + 1]
-    } else {
-        &bytes[..0]
-    }
 }
 
 /// Whether a place isn't put after so many that were found: it is none, it is the start's, or there are enough.
@@ -149,8 +139,46 @@ impl NFA {
         Ok(found.push(next)?)
     }
 
-    /// Puts the places of the next states of one after those that were found.
-    fn push_nexts(
+    /// Puts the place of the state to which a byte leads by the transitions of one after those that were found.
+    fn push_child(
+        &self,
+        sid: StateID,
+        byte: u8,
+        most: usize,
+        found: &mut Vec<StateID>,
+    ) -> Result<(), AllocError>
+        requires met { IsMet self.now false sid }
+        requires found { AreFound self.now most found.old.items }
+        ensures { IfOk result (λ _. AreFound self.now most found.new.items) }
+    {
+        let next = self.child(sid, byte);
+        self.push_found(next, most, found)
+    }
+
+    /// Puts the places of the next states of one after those that were found, where its words list so many transitions.
+    fn push_listed(
+        &self,
+        sid: StateID,
+        len: usize,
+        bytes: &[u8],
+        most: usize,
+        found: &mut Vec<StateID>,
+    ) -> Result<(), AllocError>
+        requires met { IsMet self.now false sid }
+        requires listed { ListsEdges self.now.table sid len }
+        requires bytes { AreBytesOf self.now.table.classes bytes.now }
+        requires found { AreFound self.now most found.old.items }
+        ensures { IfOk result (λ _. AreFound self.now most found.new.items) }
+    {
+        for at in 0..len {
+            let class = self.table.edge_class(sid, at);
+            self.push_child(sid, bytes[class], most, found)?;
+        }
+        Ok(())
+    }
+
+    /// Puts the places of the next states of one after those that were found, where it has an entry for each class.
+    fn push_all(
         &self,
         sid: StateID,
         bytes: &[u8],
@@ -161,18 +189,32 @@ impl NFA {
         requires found { AreFound self.now most found.old.items }
         ensures { IfOk result (λ _. AreFound self.now most found.new.items) }
     {
+        for byte in bytes {
+            self.push_child(sid, *byte, most, found)?;
+        }
+        Ok(())
+    }
+
+    /// Puts the places of the next states of one after those that were found.
+    fn push_nexts(
+        &self,
+        sid: StateID,
+        bytes: &[u8],
+        most: usize,
+        found: &mut Vec<StateID>,
+    ) -> Result<(), AllocError>
+        requires met { IsMet self.now false sid }
+        requires bytes { AreBytesOf self.now.table.classes bytes.now }
+        requires found { AreFound self.now most found.old.items }
+        ensures { IfOk result (λ _. AreFound self.now most found.new.items) }
+    {
         if found.len() >= most {
             return Ok(());
         }
-        let bytes = match self.table.only_class(sid) {
-            Some(only) => only_byte(bytes, only),
-            None => bytes,
-        };
-        for byte in bytes {
-            let next = self.child(sid, *byte);
-            self.push_found(next, most, found)?;
+        match self.table.edge_len(sid) {
+            Some(len) => self.push_listed(sid, len, bytes, most, found),
+            None => self.push_all(sid, bytes, most, found),
         }
-        Ok(())
     }
 
     /// Puts the places of the next states of one that was found after the others.
@@ -184,6 +226,7 @@ impl NFA {
         found: &mut Vec<StateID>,
     ) -> Result<(), AllocError>
         requires within { at < length found.old.items }
+        requires bytes { AreBytesOf self.now.table.classes bytes.now }
         requires found { AreFound self.now most found.old.items }
         ensures { IfOk result (λ _. AreFound self.now most found.new.items) }
     {
@@ -198,7 +241,8 @@ impl NFA {
         bytes: &[u8],
         most: usize,
     ) -> Result<Vec<StateID>, AllocError>
-        requires { 0 < most }
+        requires some { 0 < most }
+        requires bytes { AreBytesOf self.now.table.classes bytes.now }
         ensures { IfOk result (λ found. AreFound self.now most found.items) }
     {
         let mut found = Vec::new(alloc);
@@ -260,7 +304,8 @@ impl NFA {
         bytes: &[u8],
         most: usize,
     ) -> Result<Vec<StateID>, AllocError>
-        requires { 0 < most }
+        requires some { 0 < most }
+        requires bytes { AreBytesOf self.now.table.classes bytes.now }
         ensures { IfOk result (λ places. ArePlacesNear self.now most places.items) }
     {
         let mut found = self.found_near(alloc, bytes, most)?;
@@ -312,8 +357,8 @@ impl NFA {
         if found < row { Some(found) } else { None }
     }
 
-    /// Fills a row by that of the state's failure and by the state's transitions, which are for the bytes of one class.
-    fn fill_only(&self, bytes: &[u8], row: usize, from: usize, only: usize, near: &mut Rows)
+    /// Fills a row by that of the state's failure and by the state's transitions, of which its words list so many.
+    fn fill_listed(&self, bytes: &[u8], row: usize, from: usize, len: usize, near: &mut Rows)
         requires alone { self.now.rows ≡ None }
         requires met { (row < length near.old.places.items) × IsMet self.now false (slice_index near.old.places.items row) }
         requires room { length near.old.trans.items + length self.now.table.words.items ≤ greatest_number }
@@ -321,23 +366,21 @@ impl NFA {
         requires bytes { AreBytesOf self.now.table.classes bytes.now }
         requires before { HasFilledTo self.now bytes.now row near.old near.old }
         requires failure { IsFailureRow self.now near.old row from }
-        requires only { IsOnlyClass self.now.table (slice_index near.old.places.items row) only }
+        requires listed { ListsEdges self.now.table (slice_index near.old.places.items row) len }
         ensures { HasFilled self.now bytes.now row near.old near.new }
     {
         let place = near.places[row];
         near.copy_row(from, row);
-        let len = bytes.len();
-        if only >= len {
-            return;
+        let first = row * near.stride();
+        let failed = from * near.stride();
+        for at in 0..len {
+            let class = self.table.edge_class(place, at);
+            let number = self.number_over(near, place, bytes[class], near.trans[failed + class]);
+            near.put(first + class, number);
         }
-        let at = row * near.stride() + only;
-        let byte = bytes[only];
-        let failed = near.trans[at];
-        let number = self.number_over(near, place, byte, failed);
-        near.put(at, number);
     }
 
-    /// Fills a row by that of the state's failure and by the state's own transitions.
+    /// Fills a row by that of the state's failure and by the state's transitions, with a look for each class.
     fn fill_over(&self, bytes: &[u8], row: usize, from: usize, near: &mut Rows)
         requires alone { self.now.rows ≡ None }
         requires met { (row < length near.old.places.items) × IsMet self.now false (slice_index near.old.places.items row) }
@@ -386,8 +429,8 @@ impl NFA {
         let Some(from) = self.failure_row(near, row) else {
             return self.fill_alone(bytes, row, near);
         };
-        match self.table.only_class(place) {
-            Some(only) => self.fill_only(bytes, row, from, only, near),
+        match self.table.edge_len(place) {
+            Some(len) => self.fill_listed(bytes, row, from, len, near),
             None => self.fill_over(bytes, row, from, near),
         }
     }

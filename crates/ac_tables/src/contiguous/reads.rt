@@ -1,12 +1,12 @@
 //! Look-ups in the words of a contiguous automaton.
-ghost use Rattle.std.specs.Prelude.{◌≡◌, ◌<◌, ◌≤◌, ℕ, ◌+◌, length, take, drop, slice_get, IfSome, Some};
+ghost use Rattle.std.specs.Prelude.{◌≡◌, ◌<◌, ◌≤◌, ℕ, ◌+◌, ◌/◌, length, take, drop, slice_get, IfSome, Some};
 ghost use Rattle.ac_input.specs.Number.{greatest_number};
 ghost use Rattle.ac_automaton.specs.Starters.{SkipsBelow};
-ghost use Rattle.ac_tables.specs.Contiguous.WordReads.{IsFirstPlace, IsOnlyClass, IsSparseAt, ByteLeadsTo, IsIdleAt, HasWordList, list_place, listed_at, transitions_len, IsStateAt};
+ghost use Rattle.ac_tables.specs.Contiguous.WordReads.{IsFirstPlace, IsSparseAt, ByteLeadsTo, IsIdleAt, HasWordList, ListsEdges, edge_class, list_place, listed_at, transitions_len, IsStateAt};
 ghost use Rattle.std.specs.Int.{w32};
 ghost use Rattle.std.specs.List.{flat_map};
 ghost use Rattle.std.specs.Int.{to_le_bytes};
-ghost use Rattle.ac_tables.specs.Contiguous.Words.{StateParts, next_by};
+ghost use Rattle.ac_tables.specs.Contiguous.Words.{StateParts, head_len, next_by};
 
 use crate::contiguous::layout::{DENSE, HEAD, KIND, NOWHERE, ONE, ONE_PATTERN};
 use crate::contiguous::table::Table;
@@ -84,17 +84,38 @@ impl Table {
         self.words[at + HEAD]
     }
 
-    /// The class of the bytes that lead on from a state of one transition and no pattern; none of any other state.
+    /// How many transitions the words of a state list, each with its class; none where they have an entry for each class.
     #[inline]
-    pub(super) fn only_class(&self, sid: StateID) -> Option<usize>
+    pub(super) fn edge_len(&self, sid: StateID) -> Option<usize>
         requires { ∥ ((s : StateParts) × IsStateAt self.now sid s) ∥₁ }
-        ensures { IfSome result (IsOnlyClass self.now sid) }
+        ensures { IfSome result (ListsEdges self.now sid) }
     {
         let word = self.words[sid.as_usize()];
-        if word & KIND != ONE {
+        let kind = word & KIND;
+        if kind == DENSE {
             return None;
         }
-        Some((word >> 8) as usize)
+        if kind == ONE {
+            return Some(1);
+        }
+        Some(kind as usize)
+    }
+
+    /// The class of one of the transitions that the words of a state list.
+    #[inline]
+    pub(super) fn edge_class(&self, sid: StateID, at: usize) -> usize
+        requires { sid + head_len + at / 4 < length self.now.words.items }
+        ensures { result ≡ edge_class self.now sid at }
+    {
+        let first = sid.as_usize();
+        let word = self.words[first];
+        let kind = word & KIND;
+        if kind == ONE {
+            return (word >> 8) as usize;
+        }
+        let four = self.words[first + HEAD + at / 4];
+        let classes = four.to_le_bytes();
+        classes[at % 4] as usize
     }
 
     /// Where the byte leads from the state by its transitions; 1 where none has it.

@@ -196,6 +196,10 @@ impl Automaton for DFA {
         )
     }
 
+    fn has_lanes(&self) -> bool {
+        !self.skips.pass_many(self.lens.len())
+    }
+
     #[inline]
     fn is_special(&self, sid: StateID) -> bool {
         sid.as_u32() <= self.max_special.as_u32()

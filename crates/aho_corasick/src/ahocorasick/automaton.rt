@@ -111,6 +111,10 @@ impl Automaton for AhoCorasick {
         dispatch!(self.note_ahead(sid, bytes, at, len, anew, notes, steps))
     }
 
+    fn has_lanes(&self) -> bool {
+        dispatch!(self.has_lanes())
+    }
+
     #[inline]
     fn is_special(&self, sid: StateID) -> bool {
         dispatch!(self.is_special(sid))

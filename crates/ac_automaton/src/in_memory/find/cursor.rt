@@ -66,7 +66,16 @@ fn are_few<A: Automaton>(automaton: &A, bytes: usize) -> bool {
     bytes < FEW || (bytes < FEW_FOR_MANY && automaton.patterns_len() > MANY_PATTERNS)
 }
 
-/// Reads on to the first state that matches, or to the last byte: by the automaton's own loop where the bytes are few.
+/// Whether matches are a few bytes apart, as the prefilter says, if there is one.
+#[inline]
+fn are_close<A: Automaton>(automaton: &A) -> bool {
+    match automaton.prefilter() {
+        Some(prefilter) => prefilter.finds_close(),
+        None => false,
+    }
+}
+
+/// Reads on to the first state that matches, or to the last byte: by the automaton's own loop where the bytes are few, or matches close.
 #[inline(always)]
 fn advance_to_first<A: Automaton>(
     automaton: &A,
@@ -80,7 +89,7 @@ fn advance_to_first<A: Automaton>(
     ensures cost { IsReadCost (A.built automaton.now) (A.Reaches automaton.now) Anchored.No sid
         (take result.taken bytes.now) steps.old steps.new }
 {
-    if are_few(automaton, bytes.len()) {
+    if are_few(automaton, bytes.len()) || are_close(automaton) {
         return automaton.advance_alone(Anchored::No, sid, bytes, steps);
     }
     automaton.advance_to_match(Anchored::No, sid, bytes, steps)

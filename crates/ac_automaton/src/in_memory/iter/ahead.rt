@@ -12,7 +12,8 @@
 //!
 //! Only an automaton with no empty pattern reads ahead, and only where the input isn't anchored and has 1 KiB to be searched; under a
 //! leftmost kind also only where the search isn't an earliest one. A prefilter passes bytes faster, unless it is packed search for
-//! more than 64 patterns that doesn't go by grams. Elsewhere this iterator goes on as `FindIter` does.
+//! more than 64 patterns that doesn't go by grams, and the automaton reads ahead, or matches are a few bytes apart. Elsewhere this
+//! iterator goes on as `FindIter` does.
 ghost use Rattle.std.specs.Prelude.{◌≡◌, ◌≤◌, [], length, IfSome};
 ghost use Rattle.std.specs.Iterator.{YieldsFirst, item_count};
 ghost use Rattle.ac_automaton.specs.Ahead.{IsPaid};
@@ -66,10 +67,13 @@ impl<'a, 'h, A: Search> Model for FindIterAhead<'a, 'h, A> {
 
 /// Whether an automaton has a prefilter that passes bytes faster than several walks side by side read them.
 fn passes_many<A: Search>(automaton: &A) -> bool {
-    match automaton.prefilter() {
-        Some(prefilter) => !prefilter.is_dense() || automaton.patterns_len() <= FEW_PATTERNS,
-        None => false,
+    let Some(prefilter) = automaton.prefilter() else {
+        return false;
+    };
+    if prefilter.finds_close() {
+        return false;
     }
+    !prefilter.is_dense() || automaton.patterns_len() <= FEW_PATTERNS || !automaton.has_lanes()
 }
 
 /// Whether the input is read ahead, and then in which state: that in which its search begins.

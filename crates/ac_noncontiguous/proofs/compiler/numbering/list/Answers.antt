@@ -1,12 +1,13 @@
 -- At most as many states are chosen as there are.
 use Rattle.std.proofs.Common.{◌≡◌, ◌+◌, true, false, length, refl, ap, arith, ◌∙◌, length-append}
 use Rattle.std.proofs.lemmas.List.Filters.{length-filter_both}
+use Rattle.ac_noncontiguous.specs.Links.{by_state}
 use Rattle.ac_noncontiguous.specs.Compiler.Numbering.{is_chosen, chosen}
 use Rattle.ac_noncontiguous.proofs.compiler.numbering.list.Goals as goal
 
 pub must-start-requires : goal.must-start-requires
 must-start-requires c =
-    let ranges = c.args.links.now.ranges.items in
+    let ranges = (by_state c.args.links.now.ranges) in
     let states = c.args.states.now in
     let both = length-filter_both (is_chosen ranges true) (is_chosen ranges false) (λ _. refl) states in
     let long : length c.push_chosen.new.at.items ≡ length c.push-2.new.self.items + length (chosen ranges true states) =

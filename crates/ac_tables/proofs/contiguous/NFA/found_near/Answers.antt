@@ -11,5 +11,5 @@ loop-at-init c =
     let a = c.args.self.now in
     subst (AreFound a c.args.most)
     (sym (c.in_ok-push.ensures.items ∙ ap (λ l. l ++ a.table.start ∷ []) c.new-found.ensures.items))
-    (found-start a c.args.most a.table.start c.requires
+    (found-start a c.args.most a.table.start c.requires.some
     (read-is_met a No a.table.start ∣ ([], start-read a No a.table.start refl) ∣₁))

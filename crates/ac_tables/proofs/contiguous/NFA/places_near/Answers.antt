@@ -17,5 +17,5 @@ push_rising-requires-clause-near c =
     let a = c.args.self.now in
     subst (ArePlacesNear a c.args.most)
     (sym (c.in_ok-push.ensures.items ∙ ap (λ l. l ++ a.table.start ∷ []) c.in_ok-places.ensures.items))
-    (near-start a c.args.most a.table.start c.requires
+    (near-start a c.args.most a.table.start c.requires.some
     (read-is_met a No a.table.start ∣ ([], start-read a No a.table.start refl) ∣₁))

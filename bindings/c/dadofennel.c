@@ -244,7 +244,7 @@ dado_status dado_replace_into(const dado_automaton *ac, const void *haystack, si
 void dado_text_free(dado_text *text) {
     dado_text none = DADO_NO_TEXT;
     if (text == NULL) return;
-    proved()->text_free(&text->owner);
+    if (text->owner != NULL) proved()->text_free(&text->owner);
     *text = none;
 }
 

@@ -1,5 +1,5 @@
 -- What a search in the start may pass: places where no pattern opens, and bytes that leave it in the start.
-use Rattle.std.specs.Prelude.{◌≡◌, ◌⊎◌, ℕ, ◌+◌, ◌<◌, ◌≤◌, Bool, false, IsTrue, List, [], ◌++◌, length, take, drop, slice_index, Option, Some, None}
+use Rattle.std.specs.Prelude.{◌≡◌, ℕ, ◌+◌, ◌<◌, ◌≤◌, Bool, false, IsTrue, List, [], ◌++◌, length, take, drop, slice_index, Option, Some, None}
 use Rattle.ac_input.specs.Number.{StateID}
 use Rattle.ac_input.specs.declared.search.Anchored.{Anchored}
 use Rattle.ac_input.specs.declared.search.Anchored.TheVariants.{No}
@@ -77,25 +77,19 @@ pub record MayReadBy {S : Type 0} (A : Ghosts S) (automaton : S) (skips : Skips)
 
 -- ---- what was passed
 
--- A search passed `skipped` bytes, each counted as one look, and then read `end` bytes from the start. No pattern opens
--- before the place where it stopped, and the bytes it read are all that can still be live.
-pub record PassesTo {S : Type 0} (A : Ghosts S) (automaton : S) (openings : Openings) (start : StateID) (bytes : List ℕ)
+-- A search passed `skipped` bytes, each counted as one look, and then read `end` bytes from the start: one fewer than an
+-- opening has. No pattern opens at a place that it passed.
+pub record HasPassed {S : Type 0} (A : Ghosts S) (automaton : S) (openings : Openings) (start : StateID) (bytes : List ℕ)
     (stop : Advance) (before after : Steps) : Type 0 where
   pub skipped : ℕ
   pub end : ℕ
   pub taken : skipped + end ≡ stop.taken
   pub within : stop.taken ≤ length bytes
-  pub enough : openings.len ≤ end + 1
-  pub none : PassesOpenings openings bytes stop.taken
+  pub short : openings.len ≡ end + 1
+  pub none : PassesOpenings openings bytes skipped
   pub between : Steps
   pub looks : Done skipped 0 0 before between
   pub reads : ReadsAll A automaton start (take end (drop skipped bytes)) stop.sid between after
-
--- some bytes were passed by the openings, or nothing was done
-abbrev pub HasPassed : {S : Type 0} → Ghosts S → S → Openings → StateID → List ℕ → Advance → Steps → Steps → Type 0
-HasPassed A automaton openings start bytes stop before after =
-    ((stop.sid ≡ start) × (stop.taken ≡ 0) × (after ≡ before))
-    ⊎ PassesTo A automaton openings start bytes stop before after
 
 -- ---- special states
 

@@ -50,6 +50,7 @@ pub trait Automaton {
     ghost use Rattle.ac_input.specs.Number.{StateID};
     ghost use Rattle.ac_input.specs.Input.{is_anchored};
     ghost use Rattle.ac_input.specs.Dictionary.{IsLive};
+    ghost use Rattle.ac_input.specs.Opening.{HasNoOccurrence};
     ghost use Rattle.ac_input.specs.Tells.{Tells};
     ghost use Rattle.ac_input.specs.Work.{longest, shortest};
     ghost use Rattle.ac_automaton.specs.Automaton.{Built, IsReached, IsState, AtEach, Leads, IsReadCost, TellsDead, TellsStart, IsSpecial, Advances, AdvancesToMatch, OwnsPrefilter, AnswersStart, Finds, CostsFind};
@@ -209,6 +210,19 @@ pub trait Automaton {
 
     /// Whether [`Automaton::note_ahead`] reads ahead, where the bytes allow it. No result depends on it.
     fn has_lanes(&self) -> bool {
+        false
+    }
+
+    /// Whether its own loop reads on faster than a prefilter that is asked every few bytes. No result depends on it.
+    fn reads_quickly(&self) -> bool {
+        true
+    }
+
+    /// Whether it shows, sooner than by reading them, that no pattern occurs in these bytes. It may say no where none does: the provided
+    /// method does so.
+    fn rules_out(&self, _bytes: &[u8]) -> bool
+        ensures { IsTrue result → HasNoOccurrence (built self.now).dictionary _bytes.now }
+    {
         false
     }
 

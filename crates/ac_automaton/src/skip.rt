@@ -4,8 +4,9 @@
 //! bytes at a time: by bytes of the patterns ([`Openings`]), and by the few bytes that lead out of the start ([`Starters`]).
 //! Between such places the automaton reads on by its own loop, which stops at the start, too.
 //!
-//! At a place that openings find, only the last bytes before it can still be live, one fewer than an opening has. The search reads
-//! those from the start, and has come to the state to which all bytes before lead. Each byte that is passed counts as one look.
+//! Of the bytes up to a place that openings find, and of those after it that are too few for an opening, only the latter can still be
+//! live: one fewer than an opening has. The search reads those from the start, and has come to the state to which all bytes up to there
+//! lead. Each byte that is passed counts as one look.
 //!
 //! An automaton stores [`Skips`] and reads on by them. They skip only where the search stops at no start, and by openings only where
 //! it isn't anchored. Where the openings pass few bytes, they are left for a while, as a prefilter is, and the automaton's loop stops
@@ -13,7 +14,10 @@
 //!
 //! The numbers of the states have one order in every automaton: those that match, the starts, the others. So one comparison decides
 //! whether a search has more to do at a state than to read on: with the last special state ([`last_special`]).
-ghost use Rattle.std.specs.Prelude.{◌≡◌, ◌<◌, ◌≤◌, IfOk, length, option_map};
+ghost use Rattle.std.specs.Prelude.{◌≡◌, ◌<◌, ◌≤◌, IfOk, IfSome, IsTrue, length, option_map};
+ghost use Rattle.ac_input.specs.Dictionary.{Dictionary};
+ghost use Rattle.ac_input.specs.Opening.{HasNoOccurrence};
+ghost use Rattle.ac_literal.specs.Openings.{AreOpenings};
 ghost use Rattle.ac_automaton.specs.Automaton.{IsReached};
 ghost use Rattle.ac_automaton.specs.Look.{StaysBut};
 ghost use Rattle.ac_automaton.specs.Skip.{HasPassed, MayReadBy, MaySkipBy, ReadsAll, ReadsSome, ReadsToBy, last_special_of};
@@ -56,6 +60,18 @@ impl Skips {
         match &self.openings {
             Some(openings) => patterns <= FEW_PATTERNS || openings.are_sparse(),
             None => self.starters.are_few(),
+        }
+    }
+
+    /// Whether the openings show that no pattern occurs in these bytes. To ask costs about as much as to read ten bytes, and two more for
+    /// each block of 32 places; where the answer is no, nothing is gained.
+    pub fn rule_out(&self, bytes: &[u8]) -> bool
+        ensures { IsTrue result → (m : Dictionary) → ∥ IfSome self.now.openings (AreOpenings m) ∥₁
+            → HasNoOccurrence m bytes.now }
+    {
+        match &self.openings {
+            Some(openings) => openings.rule_out(bytes),
+            None => false,
         }
     }
 
@@ -129,7 +145,7 @@ fn read_all<A: LookUp>(automaton: &A, sid: StateID, bytes: &[u8], steps: &mut St
     current
 }
 
-/// Passes the bytes before the next place at which a pattern may begin, from the start.
+/// Passes the bytes before the next place at which a pattern may begin, from the start, and reads those after it that can't end one.
 #[inline]
 fn pass<A: LookUp>(
     automaton: &A,
@@ -138,29 +154,27 @@ fn pass<A: LookUp>(
     bytes: &[u8],
     steps: &mut Steps,
 ) -> Advance
-    requires { IsReached (A.Reaches automaton.now Anchored.No) start }
+    requires begins { IsReached (A.Reaches automaton.now Anchored.No) start }
+    requires room { openings.now.len ≤ length bytes.now }
     ensures { HasPassed A.LookUp automaton.now openings.now start bytes.now result
         steps.old steps.new }
 {
-    let passed = openings.pass(bytes);
     let end = openings.len() - 1;
-    if passed <= end {
-        return Advance {
-            sid: start,
-            taken: 0,
-        };
-    }
-    let skipped = passed - end;
-    steps.looks(skipped);
+    let passed = openings.pass(bytes).min(bytes.len() - end);
+    steps.looks(passed);
+    let taken = passed + end;
     Advance {
-        sid: read_all(automaton, start, &bytes[skipped..passed], steps),
-        taken: passed,
+        sid: read_all(automaton, start, &bytes[passed..taken], steps),
+        taken,
     }
 }
 
 /// For how many of the bytes that are left the automaton reads on alone; 0 where the openings are asked.
 #[inline(always)]
-fn alone_for(gain: &mut Gain, read: usize, left: usize) -> usize {
+fn alone_for(gain: &mut Gain, read: usize, left: usize) -> usize
+    requires { 0 < left }
+    ensures { result ≡ 0 → 40 ≤ left }
+{
     if left < FEW { left } else { gain.alone(read) }
 }
 
@@ -213,6 +227,13 @@ fn skip<A: LookUp>(
     while read < bytes.len() {
         let rest = &bytes[read..];
         let alone = alone_for(&mut gain, read, rest.len());
+        if alone == 0 && current == start {
+            let stop = pass(automaton, openings, start, rest, steps);
+            gain.passed(stop.taken);
+            current = stop.sid;
+            read += stop.taken;
+            continue;
+        }
         let stop = read_some(
             automaton,
             start,
@@ -231,13 +252,6 @@ fn skip<A: LookUp>(
                 taken: read,
             };
         }
-        if alone > 0 || current != start {
-            continue;
-        }
-        let stop = pass(automaton, openings, start, &bytes[read..], steps);
-        gain.passed(stop.taken);
-        current = stop.sid;
-        read += stop.taken;
     }
     Advance {
         sid: current,

@@ -44,6 +44,7 @@ pub struct Openings {
     /// Whether the patterns are made of so few letters that, in a text of these, a search is seldom in its start.
     few_letters: bool,
     ghost wide: { 2 ≤ len },
+    ghost few: { len ≤ 16 },
 }
 
 /// How often a byte that begins a pattern may come in a thousand bytes, so that a scan for these bytes is faster.
@@ -99,7 +100,10 @@ fn grams_of(alloc: Global, patterns: &[&[u8]], len: usize) -> Result<Grams, Allo
 }
 
 impl Openings {
-    ghost use Rattle.ac_literal.specs.Openings.{AreCopied, AreCopiedIfAny, OpenAll, PassesOpenings};
+    ghost use Rattle.std.specs.Prelude.{IsTrue};
+    ghost use Rattle.ac_input.specs.Dictionary.{Dictionary};
+    ghost use Rattle.ac_input.specs.Opening.{HasNoOccurrence};
+    ghost use Rattle.ac_literal.specs.Openings.{AreCopied, AreCopiedIfAny, AreOpenings, OpenAll, PassesOpenings};
 
     /// The openings of some patterns; none where they are too many, or too short, or where so rare bytes begin them that a scan for
     /// these is faster.
@@ -216,5 +220,13 @@ impl Openings {
             Way::Fronts(fronts) => fronts.pass(bytes),
             Way::Grams(grams) => grams.pass(bytes),
         }
+    }
+
+    /// Whether no pattern can begin at any place of these bytes, so that none occurs in them.
+    pub fn rule_out(&self, bytes: &[u8]) -> bool
+        ensures { IsTrue result
+            → (m : Dictionary) → AreOpenings m self.now → HasNoOccurrence m bytes.now }
+    {
+        bytes.len() < self.len || self.pass(bytes) > bytes.len() - self.len
     }
 }

@@ -1,6 +1,6 @@
 -- Reading on past places at which no pattern opens: all but the last bytes are passed, and those are read from the
 -- start.
-use Rattle.std.proofs.Common.{◌≡◌, inl, inr, ⊎_elim, ℕ, ◌+◌, ◌-◌, ◌<◌, ◌≤◌, Bool, false, IsTrue, zero, suc, List, [], ◌∷◌, ◌++◌, length, take, drop, Option, Some, None, sym, ap, subst, refl, ◌∙◌, arith, length-append, length-drop}
+use Rattle.std.proofs.Common.{◌≡◌, ⊎_elim, ℕ, ◌+◌, ◌-◌, ◌<◌, ◌≤◌, Bool, false, IsTrue, zero, suc, List, [], ◌∷◌, ◌++◌, length, take, drop, Option, Some, None, sym, ap, subst, refl, ◌∙◌, arith, length-append, length-drop}
 use Rattle.std.specs.Coded.{le_prop}
 use Rattle.std.specs.Prelude.{slice_index, IfSome}
 use Rattle.std.proofs.Math.Logic.{∥∥₁_elim}
@@ -100,12 +100,12 @@ module _ (b : Built) (Reaches : Anchored → List ℕ → StateID → Type 0) (m
   pub advanced-passed : {sid next : StateID} {bytes : List ℕ} {n skipped : ℕ} (tail : ℕ) {s t u z : Steps}
       → ((k : ℕ) → slice_index bytes k < 256)
       → n + (skipped + tail) ≤ length bytes
-      → ((at : ℕ) → at < (skipped + tail) → ¬ IsOpening b.dictionary len (drop n bytes) at) → len ≤ tail + 1
+      → ((at : ℕ) → at < skipped → ¬ IsOpening b.dictionary len (drop n bytes) at) → len ≡ tail + 1
       → Leads (Reaches No) start (take tail (drop skipped (drop n bytes))) next
       → Done skipped 0 0 t u → IsReadCost b Reaches No start (take tail (drop skipped (drop n bytes))) u z
       → HasAdvanced b Reaches No stops sid bytes n start s t
       → HasAdvanced b Reaches No stops sid bytes (n + (skipped + tail)) next s z
-  advanced-passed {sid} {next} {bytes} {n} {skipped} tail {s} {t} {z} small fits none enough leads done cost has =
+  advanced-passed {sid} {next} {bytes} {n} {skipped} tail {s} {t} {z} small fits none short leads done cost has =
       record {
         reads = λ text reads.
             let there = can.may.forgets front end next whole_none enough_end leads (text ++ take n bytes)
@@ -119,7 +119,7 @@ module _ (b : Built) (Reaches : Anchored → List ℕ → StateID → Type 0) (m
             let e : n + j ≡ at = omega (arith, here) in
             let mid = passed-mid (take j rest) (few j)
             (front-opens-not b.dictionary rest can.some can.long inside
-            (omega (arith, le, here)) none) in (
+            (omega (arith, le, here)) none_within) in (
               mid.0,
               subst (λ i. Leads (Reaches No) sid (take i bytes) mid.0) e
                   (λ text reads. subst (λ l. Reaches No l mid.0) (joined text j)
@@ -181,14 +181,17 @@ module _ (b : Built) (Reaches : Anchored → List ℕ → StateID → Type 0) (m
       enough_end =
           let l = length-drop skipped (drop n bytes) in
           let k = length-take-le tail (drop skipped (drop n bytes)) (omega (arith, l, inside)) in
-          omega (arith, k, enough)
+          omega (arith, k, short)
+
+      none_within : (at : ℕ) → at + len ≤ skipped + tail → ¬ IsOpening b.dictionary len (drop n bytes) at
+      none_within at within = none at (omega (arith, within, short))
 
       whole_none : HasNoOpening b.dictionary len
           (take skipped (drop n bytes) ++ take tail (drop skipped (drop n bytes)))
       whole_none =
           subst (HasNoOpening b.dictionary len) parts
           (front-opens-not b.dictionary (drop n bytes) can.some can.long inside
-          (omega arith) none)
+          (omega arith) none_within)
 
       joined : (text : List ℕ) (j : ℕ) → (text ++ take n bytes) ++ take j (drop n bytes) ≡ text ++ take (n + j) bytes
       joined text j =
@@ -200,7 +203,7 @@ module _ (b : Built) (Reaches : Anchored → List ℕ → StateID → Type 0) (m
           small-take j k (drop n bytes) (λ i. let same : slice_index (drop n bytes) i ≡ slice_index bytes (n + i) =
           get_or-drop n bytes i 0 in subst (λ v. v < 256) (sym same) (small (n + i)))
 
--- Reading on after a pass, whether anything was passed or not.
+-- Reading on after a pass.
 pub advanced-on : {S : Type 0} {A : Ghosts S} {automaton : S} {openings : Openings} {start : StateID} {two : Between}
     {sid current : StateID} {bytes rest : List ℕ} {n : ℕ} {stop : Advance} {s t u : Steps}
     → MaySkipBy A automaton openings start two
@@ -212,20 +215,8 @@ pub advanced-on : {S : Type 0} {A : Ghosts S} {automaton : S} {openings : Openin
     → HasAdvanced (A.built automaton) (A.Reaches automaton) No (is_between two) sid bytes n current s t
     → (n + stop.taken ≤ length bytes) × HasAdvanced (A.built automaton) (A.Reaches automaton) No (is_between two) sid
     bytes (n + stop.taken) stop.sid s u
-advanced-on {A} {automaton} {two} {sid} {current} {bytes} {n} {stop} {s} {u} may some tells small within is at
-    (inl none) has =
-    let e : n ≡ n + stop.taken = let z = none.1 in omega (arith, z) in (
-      let z = none.1 in omega (arith, z, within),
-      subst (λ i. HasAdvanced (A.built automaton) (A.Reaches automaton) No (is_between two) sid bytes i stop.sid s
-          u) e
-          (subst (λ i. HasAdvanced (A.built automaton) (A.Reaches automaton) No (is_between two) sid bytes n
-          i s u) (at ∙ sym none.0)
-          (subst (λ x. HasAdvanced (A.built automaton) (A.Reaches automaton) No (is_between two) sid bytes n
-          current s x) (sym none.2) has)),
-    )
 advanced-on {A} {automaton} {openings} {start} {two} {sid} {bytes} {n} {stop} {s} {t}
-    {u} may some tells small within is at
-    (inr to) has =
+    {u} may some tells small within is at to has =
     let b = A.built automaton in
     let R = A.Reaches automaton in
     let left = length-drop n bytes in
@@ -234,17 +225,16 @@ advanced-on {A} {automaton} {openings} {start} {two} {sid} {bytes} {n} {stop} {s
     let all = to.taken in
     let fits : n + (to.skipped + to.end) ≤ length bytes = omega (arith, left, size, inside, all, within) in
     let long = may.open_.short in
-    let none : ((at : ℕ) → at < (to.skipped + to.end) → ¬ IsOpening b.dictionary openings.len (drop n bytes) at) =
-    subst (λ k. ((at : ℕ) → at < k → ¬ IsOpening b.dictionary openings.len (drop n bytes) at)) (sym all)
-    (subst (λ l. ((at : ℕ) → at < stop.taken → ¬ IsOpening b.dictionary openings.len l at)) is
-    (to.none b.dictionary may.open_)) in
+    let none : ((at : ℕ) → at < to.skipped → ¬ IsOpening b.dictionary openings.len (drop n bytes) at) =
+    subst (λ l. ((at : ℕ) → at < to.skipped → ¬ IsOpening b.dictionary openings.len l at)) is
+    (to.none b.dictionary may.open_) in
     let end = subst (λ l. ReadsAll A automaton start (take to.end (drop to.skipped l)) stop.sid to.between u)
     is to.reads in
     let here = subst (λ i. HasAdvanced b R No (is_between two) sid bytes n i s t) at has in
     let can : CanPass b R (A.matches automaton) (is_between two) openings.len start =
     record { some = some; long = long; may = may.may; tells = tells; quiet = may.quiet } in
     let on = advanced-passed b R (A.matches automaton) (is_between two) openings.len start can to.end small fits none
-    to.enough end.leads to.looks end.cost here in (
+    to.short end.leads to.looks end.cost here in (
       omega (arith, fits, all),
       subst (λ k. HasAdvanced b R No (is_between two) sid bytes (n + k) stop.sid s u) all on,
     )
@@ -252,7 +242,7 @@ advanced-on {A} {automaton} {openings} {start} {two} {sid} {bytes} {n} {stop} {s
 -- ---- what an automaton provides for passing
 
 -- the openings that an automaton has are those of its dictionary
-opened : {m : Dictionary} {held : Option Openings} {openings : Openings} → held ≡ Some openings
+pub opened : {m : Dictionary} {held : Option Openings} {openings : Openings} → held ≡ Some openings
     → ∥ IfSome held (AreOpenings m) ∥₁ → AreOpenings m openings
 opened {m} {openings} is h =
     record {

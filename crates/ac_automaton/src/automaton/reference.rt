@@ -81,6 +81,14 @@ impl<'a, A: Automaton> Automaton for &'a A {
         (**self).has_lanes()
     }
 
+    fn reads_quickly(&self) -> bool {
+        (**self).reads_quickly()
+    }
+
+    fn rules_out(&self, bytes: &[u8]) -> bool {
+        (**self).rules_out(bytes)
+    }
+
     fn is_special(&self, sid: StateID) -> bool {
         (**self).is_special(sid)
     }

@@ -311,7 +311,7 @@ fn prefilter_for<'a, A: Automaton>(
         return None;
     }
     let prefilter = usable_prefilter(automaton, input.get_anchored(), start)?;
-    if prefilter.finds_close() {
+    if prefilter.finds_close() && automaton.reads_quickly() {
         return None;
     }
     Some(prefilter)

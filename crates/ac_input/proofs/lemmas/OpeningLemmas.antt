@@ -25,7 +25,7 @@ use Rattle.ac_input.proofs.lemmas.StateLemmas.{alive-shifted, live-of_live, from
 -- ---- openings of a text and of its front
 
 -- an opening has all its bytes in the text
-opening-within : (m : Dictionary) (len : ℕ) (text : List ℕ) (at : ℕ) → 0 < len
+pub opening-within : (m : Dictionary) (len : ℕ) (text : List ℕ) (at : ℕ) → 0 < len
     → ((n : ℕ) (p : List ℕ) → IsPattern m n p → len ≤ length p) → IsOpening m len text at → at + len ≤ length text
 opening-within m len text at some long h =
     let whole_len : length (take len h.1) ≡ len = length-take-le len h.1 (long h.0 h.1 h.2) in
@@ -42,7 +42,7 @@ opening-within m len text at some long h =
 -- what opens in the front of a text opens in the text
 opening-front : (m : Dictionary) (len : ℕ) (text : List ℕ) (n at : ℕ) → 0 < len
     → ((n : ℕ) (p : List ℕ) → IsPattern m n p → len ≤ length p) → n ≤ length text → IsOpening m len (take n text) at
-    → (at < n) × IsOpening m len text at
+    → (at + len ≤ n) × IsOpening m len text at
 opening-front m len text n at some long fits h =
     let inside = opening-within m len (take n text) at some long h in
     let size = length-take-le n text fits in
@@ -53,14 +53,14 @@ opening-front m len text n at some long fits h =
     ∙ drop-take at rest text in
     let part : take len (drop at (take n text)) ≡ take len (drop at text) = ap (take len) front
     ∙ take-take len rest (drop at text) (omega (arith, before)) in (
-      omega (arith, before, some),
+      before,
       (h.0, h.1, h.2, subst (λ xs. IsTrue (same_text m.pairing (take len h.1) xs)) part h.3),
     )
 
--- where nothing opens before a place, a front of the text up to that place has no opening
+-- where nothing opens that ends before a place, a front of the text up to that place has no opening
 pub front-opens-not : (m : Dictionary) {len : ℕ} (text : List ℕ) {count n : ℕ} → 0 < len
     → ((n : ℕ) (p : List ℕ) → IsPattern m n p → len ≤ length p) → count ≤ length text → n ≤ count
-    → ((at : ℕ) → at < count → ¬ IsOpening m len text at) → HasNoOpening m len (take n text)
+    → ((at : ℕ) → at + len ≤ count → ¬ IsOpening m len text at) → HasNoOpening m len (take n text)
 front-opens-not m {len} text {n} some long fits le none at h =
     let there = opening-front m len text n at some long (omega (arith, fits, le)) h in
     none at (omega (arith, there.0, le)) there.1
@@ -68,7 +68,7 @@ front-opens-not m {len} text {n} some long fits le none at h =
 -- ---- what opens
 
 -- an opening stands where an occurrence starts
-occurs-opens : (m : Dictionary) (len : ℕ) (text : List ℕ) (o : Occurrence)
+pub occurs-opens : (m : Dictionary) (len : ℕ) (text : List ℕ) (o : Occurrence)
     → ((n : ℕ) (p : List ℕ) → IsPattern m n p → len ≤ length p) → Occurs (whole m text false) o
     → IsOpening m len text o.start
 occurs-opens m len text o long h =

@@ -3,7 +3,7 @@ use Rattle.std.proofs.Common.{◌≡◌, ◌≢◌, ⊎_elim, ℕ, zero, suc, �
 use Rattle.std.specs.Int.{bit_at}
 use Rattle.std.specs.Borrow.{Bor}
 use Rattle.std.proofs.lemmas.Bool.{cases_eq, cases_lt, and_parts}
-use Rattle.std.proofs.lemmas.List.{get_or-drop, get_or-map, length-map}
+use Rattle.std.proofs.lemmas.List.{get_or-drop, get_or-map, length-map, drop-take, take-take}
 use Rattle.std.proofs.lemmas.Option.{get_or_from_slice_get, slice_get_within}
 use Rattle.ac_input.specs.declared.search.MatchKind.{MatchKind}
 use Rattle.ac_input.specs.Dictionary.{dictionary_of, IsPattern}
@@ -216,6 +216,41 @@ module _ {f : Fronts} {text : List ℕ} {from to block marks : ℕ} (next : IsNe
       → ((k : ℕ) → k < count → bit_at marks k ≡ 1 → ¬ IsPrinted f.prints (take f.len (drop (block + k) text)))
       → (place : ℕ) → place < block + count → ¬ MayOpen f text place
   block-passed few some unprinted = marked-passed marks block-before (next.set some) few unprinted
+
+-- ---- a copy of few bytes
+
+module _ (f : Fronts) (bytes block : List ℕ) (near : LooksBefore f.len f.teddy)
+    (copied : take (length bytes) block ≡ bytes) where
+  -- a copy has the same byte at each place
+  copied-byte : (k : ℕ) → k < length bytes → get_or bytes k 0 ≡ get_or block k 0
+  copied-byte k within =
+      ap (λ xs. get_or xs k 0) (sym copied) ∙ get_or-take (length bytes) block k 0 within
+
+  -- the same buckets are left at each place whose bytes are copied
+  copied-marked : (place : ℕ) → place + f.len ≤ length bytes → marked_at f.teddy bytes place ≡ marked_at f.teddy block place
+  copied-marked place room =
+      let one = near.first in
+      let two = near.second in
+      let three = near.third in
+      let four = near.fourth in
+      let first = copied-byte (place + f.teddy.first.offset) (omega (arith, room, one)) in
+      let second = copied-byte (place + f.teddy.second.offset) (omega (arith, room, two)) in
+      let third = copied-byte (place + f.teddy.third.offset) (omega (arith, room, three)) in
+      let fourth = copied-byte (place + f.teddy.fourth.offset) (omega (arith, room, four)) in
+      rw (first, second, third, fourth) (refl {a = marked_at f.teddy block place})
+
+  -- the same bytes stand there
+  copied-front : (place : ℕ) → place + f.len ≤ length bytes → take f.len (drop place bytes) ≡ take f.len (drop place block)
+  copied-front place room =
+      sym (drop-take place f.len bytes) ∙ ap (λ xs. drop place (take (place + f.len) xs)) (sym copied)
+      ∙ ap (drop place) (take-take (place + f.len) (length bytes) block room) ∙ drop-take place f.len block
+
+  -- so a pattern that may open in the bytes may open in the copy
+  pub copied-opens : (place : ℕ) → place + f.len ≤ length bytes → MayOpen f bytes place → MayOpen f block place
+  copied-opens place room opens = record {
+    left = λ none. opens.left (copied-marked place room ∙ none);
+    printed = subst (IsPrinted f.prints) (copied-front place room) opens.printed;
+  }
 
 -- ---- patterns that are lent
 

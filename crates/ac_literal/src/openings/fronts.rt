@@ -31,6 +31,7 @@ pub struct Fronts {
     prints: Fingerprints,
     len: usize,
     ghost wide: { 2 ≤ len },
+    ghost few: { len ≤ 4 },
     ghost near: { LooksBefore len teddy },
 }
 
@@ -105,6 +106,16 @@ fn prints_of(patterns: &[&[u8]], pairing: &Pairing, len: usize) -> Fingerprints
     prints
 }
 
+/// A block with these bytes at its front, and others after them.
+fn block_of(bytes: &[u8]) -> [u8; LANES + MOST]
+    requires { length bytes.now ≤ 36 }
+    ensures { take (length bytes.now) result ≡ bytes.now }
+{
+    let mut block = [0; LANES + MOST];
+    block[..bytes.len()].copy_from_slice(bytes);
+    block
+}
+
 impl Fronts {
     ghost use Rattle.ac_literal.specs.Openings.Fronts.{AreFronts, PassesFronts};
 
@@ -143,8 +154,21 @@ impl Fronts {
         LANES
     }
 
+    /// How many places at the front may be passed, where there are fewer than a block has: they are looked at in a copy of the bytes that
+    /// has others after it.
+    fn pass_short(&self, bytes: &[u8], to: usize) -> usize
+        requires short { to < 32 }
+        requires end { to + self.now.len ≡ length bytes.now + 1 }
+        ensures within { result ≤ to }
+        ensures passed { PassesFronts self.now bytes.now result }
+    {
+        let block = block_of(bytes);
+        let marks = self.teddy.marks_at(&block, 0, self.len);
+        self.first_printed(&block, 0, marks).min(to)
+    }
+
     /// How many places at the front may be passed, where those before `at` may, and fewer than a block are left: the last ones are
-    /// looked at once more, in a block that ends with them. Where there are fewer places than a block has, these are left.
+    /// looked at once more, in a block that ends with them.
     ///
     /// Not inlined, since only the end of the bytes comes to it.
     #[inline(never)]
@@ -156,8 +180,11 @@ impl Fronts {
         ensures within { result ≤ to }
         ensures passed { PassesFronts self.now bytes.now result }
     {
-        if at == to || to < LANES {
+        if at == to {
             return at;
+        }
+        if to < LANES {
+            return self.pass_short(bytes, to);
         }
         let block = to - LANES;
         let marks = self.teddy.marks_at(bytes, block, self.len);

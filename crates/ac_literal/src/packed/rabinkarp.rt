@@ -241,6 +241,7 @@ impl RabinKarp {
     }
 
     /// The match at a place, by the hash of the bytes there.
+    #[inline(always)]
     pub fn find_place(
         &self,
         patterns: &Patterns,

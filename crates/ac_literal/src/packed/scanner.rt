@@ -29,7 +29,7 @@ use crate::packed::api::MatchKind;
 use crate::packed::needle::{clone_needle, find_needle, only_needle};
 use crate::packed::pattern::Patterns;
 use crate::packed::rabinkarp::RabinKarp;
-use crate::packed::teddy::{LANES, Teddy, lowest, without};
+use crate::packed::teddy::{LANES, Teddy, from_place, lowest, without};
 use ac_input::primitives::PatternID;
 use ac_input::search::{Match, Span};
 use memchr::memmem;
@@ -209,6 +209,7 @@ impl Scanner {
     }
 
     /// The match of the kind, if it begins in the block at `at`, where none begins before it.
+    #[inline(always)]
     fn find_marked(
         &self,
         patterns: &Patterns,
@@ -268,7 +269,7 @@ impl Scanner {
             return self.table.find_between(patterns, haystack, span, at, to);
         }
         let block = to - LANES;
-        let marks = self.teddy.marks_at(haystack, block, len);
+        let marks = from_place(self.teddy.marks_at(haystack, block, len), at - block);
         self.find_marked(patterns, haystack, span, block, marks)
     }
 

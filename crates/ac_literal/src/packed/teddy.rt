@@ -339,3 +339,14 @@ pub fn without(marks: u64, place: usize) -> u64
 {
     marks & !(1 << place)
 }
+
+/// The marks at a place and after it.
+#[inline(always)]
+pub fn from_place(marks: u64, place: usize) -> u64
+    requires within { place < 32 }
+    requires few { marks < 4294967296 }
+    ensures kept { (k : ℕ) → place ≤ k → k < 32 → bit_at result k ≡ bit_at marks k }
+    ensures few { result < 4294967296 }
+{
+    marks & ((1 << LANES) - (1 << place))
+}

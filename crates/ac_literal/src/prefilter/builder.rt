@@ -16,9 +16,7 @@ ghost use Rattle.ac_literal.specs.Prefilter.Strategies.{AreRareOf};
 use crate::packed;
 use crate::prefilter::Prefilter;
 use crate::prefilter::needles::{FewBytes, Needles};
-use crate::prefilter::rank::{
-    STOPS_ALONE, STOPS_BESIDE_PACKED, are_close, occurs, stops, stops_within,
-};
+use crate::prefilter::rank::{STOPS_ALONE, STOPS_BESIDE_PACKED, Singles, stops, stops_within};
 use crate::prefilter::rare_bytes::RareBytesBuilder;
 use crate::prefilter::strategy::{RareBytes, Strategy};
 use ac_input::history::Pieces;
@@ -264,8 +262,7 @@ pub struct PrefilterBuilder {
     pairing: Pairing,
     patterns: Pieces,
     has_empty: bool,
-    /// How often patterns of one byte are estimated to occur in a thousand bytes.
-    occur: u32,
+    singles: Singles,
     builders: Builders,
 }
 
@@ -305,7 +302,7 @@ impl PrefilterBuilder {
             pairing,
             patterns: Pieces::empty(),
             has_empty: false,
-            occur: 0,
+            singles: Singles::new(),
             builders: Builders::new(alloc, kind, &pairing),
         }
     }
@@ -355,7 +352,7 @@ impl PrefilterBuilder {
         } else if !self.has_empty {
             self.builders.add(self.alloc, &self.pairing, pattern)?;
         }
-        self.occur = self.occur.saturating_add(occurs(&self.pairing, pattern));
+        self.singles.add(&self.pairing, pattern);
         self.patterns = self.patterns.and(pattern);
         Ok(())
     }
@@ -378,7 +375,7 @@ impl PrefilterBuilder {
             pairing: self.pairing,
             patterns: self.patterns.same(),
             strategy,
-            close: are_close(self.occur),
+            close: self.singles.are_close(),
         }))
     }
 }

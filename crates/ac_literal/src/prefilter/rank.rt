@@ -31,7 +31,7 @@ pub const STOPS_BESIDE_PACKED: u32 = 1;
 /// The same if packed search doesn't serve: an automaton alone takes as long for a thousand bytes as for a hundred stops.
 pub const STOPS_ALONE: u32 = 50;
 
-/// How often patterns occur in a thousand bytes where no prefilter pays: with so many a match comes every sixteen bytes.
+/// How often patterns of one byte occur in a thousand bytes where no prefilter pays: with so many a match comes every sixteen bytes.
 const CLOSE: u32 = 62;
 
 /// How common a byte is estimated to be: the greater, the more common.
@@ -75,24 +75,37 @@ pub fn stops(needles: Needles) -> u32
     }
 }
 
-/// How often a pattern is estimated to occur in a thousand bytes of text, if it has one byte. A longer one counts nothing: it is rare.
-pub fn occurs(pairing: &Pairing, pattern: &[u8]) -> u32
-    ensures { result ≤ 2 * COMMON_STOPS }
-{
-    if pattern.len() != 1 {
-        return 0;
-    }
-    let byte = pattern[0];
-    let other = pairing.other(byte);
-    if other == byte {
-        return stops_at(byte);
-    }
-    stops_at(byte) + stops_at(other)
+/// The bytes that are patterns of their own, with their partners.
+#[derive(Drop)]
+pub struct Singles {
+    are: [bool; 256],
 }
 
-/// Whether patterns that are estimated to occur so often in a thousand bytes of text are a few bytes apart.
-pub fn are_close(occur: u32) -> bool {
-    occur > CLOSE
+impl Singles {
+    /// None yet.
+    pub fn new() -> Singles {
+        Singles { are: [false; 256] }
+    }
+
+    /// One more pattern. A longer one counts nothing: it is rare.
+    pub fn add(&mut self, pairing: &Pairing, pattern: &[u8]) {
+        if pattern.len() == 1 {
+            let byte = pattern[0];
+            self.are[byte as usize] = true;
+            self.are[pairing.other(byte) as usize] = true;
+        }
+    }
+
+    /// Whether they are estimated to be a few bytes apart in a text.
+    pub fn are_close(&self) -> bool {
+        let mut occur: u32 = 0;
+        for byte in 0..self.are.len() {
+            if self.are[byte] {
+                occur = occur.saturating_add(stops_at(byte as u8));
+            }
+        }
+        occur > CLOSE
+    }
 }
 
 /// Whether a scan for these bytes is estimated to stop at most this often in a thousand bytes of text.

@@ -104,6 +104,16 @@ impl Automaton for NFA {
     }
 
     #[inline]
+    fn reads_quickly(&self) -> bool {
+        false
+    }
+
+    #[inline]
+    fn rules_out(&self, bytes: &[u8]) -> bool {
+        self.skips.rule_out(bytes)
+    }
+
+    #[inline]
     fn is_special(&self, sid: StateID) -> bool {
         sid.as_u32() <= self.max_special.as_u32()
     }

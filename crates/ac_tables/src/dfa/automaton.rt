@@ -201,6 +201,11 @@ impl Automaton for DFA {
     }
 
     #[inline]
+    fn rules_out(&self, bytes: &[u8]) -> bool {
+        self.skips.rule_out(bytes)
+    }
+
+    #[inline]
     fn is_special(&self, sid: StateID) -> bool {
         sid.as_u32() <= self.max_special.as_u32()
     }

@@ -115,6 +115,15 @@ impl Automaton for AhoCorasick {
         dispatch!(self.has_lanes())
     }
 
+    fn reads_quickly(&self) -> bool {
+        dispatch!(self.reads_quickly())
+    }
+
+    #[inline]
+    fn rules_out(&self, bytes: &[u8]) -> bool {
+        dispatch!(self.rules_out(bytes))
+    }
+
     #[inline]
     fn is_special(&self, sid: StateID) -> bool {
         dispatch!(self.is_special(sid))

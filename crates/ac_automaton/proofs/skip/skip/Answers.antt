@@ -1,6 +1,6 @@
 -- Reading on goes by the automaton's own loop, and over places at which no pattern opens.
-use Rattle.std.proofs.Common.{◌≡◌, ◌+◌, [], sym, refl, ◌∙◌, arith}
-use Rattle.std.proofs.lemmas.Bool.{eqb-true, not-false}
+use Rattle.std.proofs.Common.{◌≡◌, [], sym, refl, ◌∙◌, arith}
+use Rattle.std.proofs.lemmas.Bool.{eqb-true}
 use Rattle.std.proofs.lemmas.List.{take_rest}
 use Rattle.ac_input.specs.declared.search.Anchored.TheVariants.{No}
 use Rattle.ac_automaton.specs.Look.{is_between}
@@ -28,28 +28,38 @@ returns-then-has g c =
     c.read_some-stop.result c.has.result _ _ _ (take_rest c.args.bytes.now c.loop-read.read) c.loop-read.invariant.0
     c.read_some-stop.ensures c.loop-read.invariant.1 c.has.ensures).0 c.if-has.true
 
-pub loop-read-preserved-then-alone-gt0 : goal.loop-read-preserved-then-alone-gt0
-loop-read-preserved-then-alone-gt0 g c =
-    let a = c.args.automaton.now in
-    (after-some g.A.LookUp a No c.args.to c.args.sid c.args.bytes.now c.loop-read.current _ c.loop-read.read
-    c.read_some-stop.result c.has.result _ _ _ (take_rest c.args.bytes.now c.loop-read.read) c.loop-read.invariant.0
-    c.read_some-stop.ensures c.loop-read.invariant.1 c.has.ensures).1 c.if-has.false
+pub pass-stop-requires-clause-begins : goal.pass-stop-requires-clause-begins
+pass-stop-requires-clause-begins g c = ∣ ([], c.requires.may.may.begins) ∣₁
 
-pub pass-stop-requires : goal.pass-stop-requires
-pass-stop-requires g c = ∣ ([], c.requires.may.may.begins) ∣₁
+pub pass-stop-requires-clause-room : goal.pass-stop-requires-clause-room
+pass-stop-requires-clause-room g c =
+    let left = c.alone_for-alone.ensures c.if-alone-eq0.true in
+    let few = c.args.openings.now.few in
+    omega (arith, left, few)
+
+pub loop-read-preserved-then-eq : goal.loop-read-preserved-then-eq
+loop-read-preserved-then-eq g c =
+    let a = c.args.automaton.now in
+    let at : c.loop-read.current ≡ c.args.start = eqb-true c.loop-read.current c.args.start (sym c.eq.ensures ∙ c.if-eq.true) in
+    advanced-on c.requires.may (let wide = c.args.openings.now.wide in omega (arith, wide))
+    (λ text i reads. g.met.A.LookUp.tells a No text i reads) (λ k. (c.type_inv.bytes k).fits) c.loop-read.invariant.0
+    (take_rest c.args.bytes.now c.loop-read.read) at c.pass-stop.ensures c.loop-read.invariant.1
+
+pub loop-read-smaller-then-eq : goal.loop-read-smaller-then-eq
+loop-read-smaller-then-eq g c =
+    let passed = c.pass-stop.ensures in
+    let wide = c.args.openings.now.wide in
+    let less = c.loop-read-test.true in
+    let all = passed.taken in
+    let short = passed.short in
+    omega (arith, all, short, wide, less)
 
 pub loop-read-preserved : goal.loop-read-preserved
 loop-read-preserved g c =
     let a = c.args.automaton.now in
-    let more =
     (after-some g.A.LookUp a No c.args.to c.args.sid c.args.bytes.now c.loop-read.current _ c.loop-read.read
     c.read_some-stop.result c.has.result _ _ _ (take_rest c.args.bytes.now c.loop-read.read) c.loop-read.invariant.0
-    c.read_some-stop.ensures c.loop-read.invariant.1 c.has.ensures).1 c.if-has.false in
-    let at : c.read_some-stop.result.sid ≡ c.args.start =
-    eqb-true c.read_some-stop.result.sid c.args.start (not-false _ (sym c.ne.ensures ∙ c.if-ne.false)) in
-    advanced-on c.requires.may (let wide = c.args.openings.now.wide in omega (arith, wide))
-    (λ text i reads. g.met.A.LookUp.tells a No text i reads) (λ k. (c.type_inv.bytes k).fits) more.0
-    (take_rest c.args.bytes.now (c.loop-read.read + c.read_some-stop.result.taken)) at c.pass-stop.ensures more.1
+    c.read_some-stop.ensures c.loop-read.invariant.1 c.has.ensures).1 c.if-has.false
 
 pub returns : goal.returns
 returns g c =

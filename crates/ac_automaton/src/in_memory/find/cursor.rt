@@ -70,7 +70,7 @@ fn are_few<A: Automaton>(automaton: &A, bytes: usize) -> bool {
 #[inline]
 fn are_close<A: Automaton>(automaton: &A) -> bool {
     match automaton.prefilter() {
-        Some(prefilter) => prefilter.finds_close(),
+        Some(prefilter) => prefilter.finds_close() && automaton.reads_quickly(),
         None => false,
     }
 }

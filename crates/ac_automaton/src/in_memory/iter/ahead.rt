@@ -70,7 +70,7 @@ fn passes_many<A: Search>(automaton: &A) -> bool {
     let Some(prefilter) = automaton.prefilter() else {
         return false;
     };
-    if prefilter.finds_close() {
+    if prefilter.finds_close() && automaton.reads_quickly() {
         return false;
     }
     !prefilter.is_dense() || automaton.patterns_len() <= FEW_PATTERNS || !automaton.has_lanes()

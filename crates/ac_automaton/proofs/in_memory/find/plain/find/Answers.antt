@@ -1,16 +1,33 @@
 -- The first match is the match of the search, or the best so far; without one, the span ends where the search has read to.
-use Rattle.std.proofs.Common.{◌≤◌, length, None, Some, sym, ◌∙◌, arith}
+use Rattle.std.proofs.Common.{◌-◌, ◌≤◌, length, None, Some, ap, subst, sym, ◌∙◌, arith}
+use Rattle.ac_input.specs.Steps.{Done}
 use Rattle.std.proofs.lemmas.Grind.{common_steps}
 use Rattle.std.proofs.lemmas.Bool.{false≢true}
 use Rattle.ac_automaton.specs.Automaton.{IsFindCost, IsFound, kind_asked}
 use Rattle.ac_automaton.proofs.in_memory.find.FindWalkLemmas.{rest, text_read}
 use Rattle.ac_automaton.proofs.in_memory.find.ahead.FindAheadLemmas.{is-found}
 use Rattle.ac_automaton.proofs.in_memory.find.plain.PlainLemmas.{met-none, met-on, met-some, plain-first, plain-met, plain-none, plain-nothing, plain-stands}
+use Rattle.ac_automaton.proofs.in_memory.find.plain.RuledOutLemmas.{ruled-cost, ruled-found}
 use Rattle.ac_automaton.proofs.in_memory.find.plain.find.Goals.{then-cursor-end-via-then-cursor-end, then-cursor-end-via-else-cursor-end+then-is_dead}
 use Rattle.ac_automaton.proofs.lemmas.CursorLemmas.{list-none}
 use Rattle.ac_automaton.proofs.lemmas.WalkEndLemmas.{Died, Ended, IsDone}
 use Rattle.ac_automaton.proofs.in_memory.find.plain.find.Given.{Over}
 use Rattle.ac_automaton.proofs.in_memory.find.plain.find.Goals as goal
+
+pub returns-then-is_ruled_out-clause-found : goal.returns-then-is_ruled_out-clause-found
+returns-then-is_ruled_out-clause-found g c =
+    let asked = c.args.input.now in
+    let inside : asked.span.end ≤ length asked.haystack = rw c.end-end.ensures.value at c.end-end.ensures.within in
+    ruled-found (g.A.Automaton.built c.args.automaton.now) asked (c.is_plain.ensures c.if-not-is_plain.false).free
+    c.requires.ordered inside (c.is_ruled_out.ensures c.if-is_ruled_out.true)
+
+pub returns-then-is_ruled_out-clause-cost : goal.returns-then-is_ruled_out-clause-cost
+returns-then-is_ruled_out-clause-cost g c =
+    let asked = c.args.input.now in
+    let many = ap (λ end. end - c.start-from.result) c.end-end.ensures.value ∙ ap (λ from. asked.span.end - from) c.start-from.ensures in
+    ruled-cost (g.A.Automaton.built c.args.automaton.now) asked (c.is_plain.ensures c.if-not-is_plain.false).free
+    c.requires.ordered c.args.steps.now c.looks.new.self
+    (subst (λ n. Done n 0 0 c.args.steps.now c.looks.new.self) many c.looks.ensures)
 
 pub read_to_match-cursor-requires-clause-stands : goal.read_to_match-cursor-requires-clause-stands
 read_to_match-cursor-requires-clause-stands g c =

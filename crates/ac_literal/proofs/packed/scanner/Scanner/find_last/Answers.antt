@@ -1,5 +1,5 @@
 -- Nothing begins before the last block, and its marks include all that begins in it.
-use Rattle.std.proofs.Common.{arith}
+use Rattle.std.proofs.Common.{ℕ, ◌+◌, ◌-◌, ◌∙◌, arith}
 use Rattle.ac_literal.proofs.packed.TeddyLemmas.{has-marks}
 use Rattle.ac_literal.proofs.packed.scanner.Scanner.find_last.Goals as goal
 
@@ -9,8 +9,14 @@ find_marked-requires-clause-none c = λ o h.
     let short = c.requires.short in
     omega (arith, later, short)
 
+-- of the marks those are left that no earlier block had
 pub find_marked-requires-clause-marks : goal.find_marked-requires-clause-marks
-find_marked-requires-clause-marks c =
+find_marked-requires-clause-marks c o h within =
     let short = c.requires.short in
-    has-marks c.requires.scanner.teddy c.requires.scanner.table.short c.requires.within c.marks_at-marks.result
-    (λ o h. let later = c.requires.none o h in omega (arith, later, short)) c.marks_at-marks.ensures.set
+    let later = c.requires.none o h in
+    let size = c.hash_len-len.ensures in
+    let block : ℕ = c.args.span.end - c.hash_len-len.result + 1 - 32 in
+    let all = has-marks c.requires.scanner.teddy c.requires.scanner.table.short c.requires.within c.marks_at.result
+    (λ p occurs. let after = c.requires.none p occurs in omega (arith, after, short, size)) c.marks_at.ensures.set in
+    c.from_place-marks.ensures.kept (o.start - block) (omega (arith, later)) (omega (arith, within, later, short, size))
+    ∙ all o h within

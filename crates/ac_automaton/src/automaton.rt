@@ -100,8 +100,7 @@ pub trait Automaton {
     ) -> StateID
         requires { IsReached (Reaches self.now anchored) sid }
         ensures next { Leads (Reaches self.now anchored) sid (byte ∷ []) result }
-        ensures cost { IsReadCost (built self.now) (Reaches self.now) anchored sid
-            (byte ∷ []) steps.old steps.new };
+        ensures cost { IsReadCost (built self.now) (Reaches self.now) anchored sid (byte ∷ []) steps.old steps.new };
 
     /// Reads on from a state over bytes, to the first state that is special, or to the last byte. It reads at least one byte, if
     /// there is one.
@@ -412,12 +411,9 @@ pub trait Automaton {
     ) -> Result<(), MatchError>
     where
         Self: Search,
-        requires { CameFrom (built self.now) (Reaches self.now) (matches self.now) input.now
-            state.old }
-        ensures came { CameFrom (built self.now) (Reaches self.now) (matches self.now)
-            input.now state.new }
-        ensures answer { AnswersOverlapping (built self.now) (supports self.now) input.now
-            state.old state.new result }
+        requires { CameFrom (built self.now) (Reaches self.now) (matches self.now) input.now state.old }
+        ensures came { CameFrom (built self.now) (Reaches self.now) (matches self.now) input.now state.new }
+        ensures answer { AnswersOverlapping (built self.now) (supports self.now) input.now state.old state.new result }
         ensures cost { IsOverlappingCost (built self.now) input.now state.new.sums }
     {
         overlapping::find_overlapping(self, input, state)
@@ -432,8 +428,7 @@ pub trait Automaton {
     ) -> Result<FindOverlappingIter<'a, 'h, Self>, MatchError>
     where
         Self: Sized + Search,
-        ensures answer { AnswersListing (built self.now) (supports self.now) input.entry
-            result }
+        ensures answer { AnswersListing (built self.now) (supports self.now) input.entry result }
         ensures few { IfOk result (AreFewForEach (built self.now) input.entry) }
         ensures lie { IfOk result (EachLiesWithin rest_of (built self.now) input.entry) }
     {
@@ -454,8 +449,7 @@ pub trait Automaton {
     where
         Self: Sized + Search,
         requires { reader.old.ended ≡ false }
-        ensures { FindsStream OnlyStandard (built self.now) (supports self.now) reader.entry
-            result }
+        ensures { FindsStream OnlyStandard (built self.now) (supports self.now) reader.entry result }
     {
         stream::stream_find_iter(reader, self, StreamKinds::OnlyStandard, alloc)
     }
@@ -477,8 +471,7 @@ pub trait Automaton {
     where
         Self: Sized + Search,
         requires { reader.old.ended ≡ false }
-        ensures { FindsStream AnyKind (built self.now) (supports self.now) reader.entry
-            result }
+        ensures { FindsStream AnyKind (built self.now) (supports self.now) reader.entry result }
     {
         stream::stream_find_iter(reader, self, StreamKinds::AnyKind, alloc)
     }
@@ -547,8 +540,7 @@ pub trait Automaton {
     where
         Self: Search,
         requires { length replacements.now ≡ length (built self.now).dictionary.patterns }
-        ensures { ReplacesText (built self.now) (supports self.now) haystack.now replacements.now
-            result }
+        ensures { ReplacesText (built self.now) (supports self.now) haystack.now replacements.now result }
     {
         replace::replace_all(self, alloc, haystack, replacements)
     }
@@ -563,8 +555,7 @@ pub trait Automaton {
     where
         Self: Search,
         requires { length replacements.now ≡ length (built self.now).dictionary.patterns }
-        ensures { ReplacesBytes (built self.now) (supports self.now) haystack.now replacements.now
-            result }
+        ensures { ReplacesBytes (built self.now) (supports self.now) haystack.now replacements.now result }
     {
         replace::replace_all_bytes(self, alloc, haystack, replacements)
     }
@@ -669,8 +660,7 @@ pub trait Automaton {
     where
         Self: Search,
         requires open { reader.old.ended ≡ false }
-        requires one_each { length replacements.now
-            ≡ length (built self.now).dictionary.patterns }
+        requires one_each { length replacements.now ≡ length (built self.now).dictionary.patterns }
         ensures replaced { ReplacesStream R.remaining W.contents (built self.now)
             (map (λ r. r.now) replacements.now) reader.old reader.new writer.old writer.new result }
         ensures accepted { AcceptsStream OnlyStandard (built self.now) (supports self.now) result }
@@ -692,13 +682,11 @@ pub trait Automaton {
     where
         Self: Search,
         requires open { reader.old.ended ≡ false }
-        requires one_each { length replacements.now
-            ≡ length (built self.now).dictionary.patterns }
+        requires one_each { length replacements.now ≡ length (built self.now).dictionary.patterns }
         ensures replaced { ReplacesStream R.remaining W.contents (built self.now)
             (map (λ r. r.now) replacements.now) reader.old reader.new writer.old writer.new result }
         ensures accepted { AcceptsStream OnlyStandard (built self.now) (supports self.now) result }
-        ensures cost { CostsStream (built self.now) reader.old reader.new
-            steps.old steps.new result }
+        ensures cost { CostsStream (built self.now) reader.old reader.new steps.old steps.new result }
     {
         let kinds = StreamKinds::OnlyStandard;
         replace_all_counted(self, kinds, alloc, reader, writer, replacements, steps)
@@ -721,8 +709,7 @@ pub trait Automaton {
         Self: Search,
         F: FnMut(&Match, &[u8], &mut Watched<W>) -> Result<(), StreamError>,
         requires open { reader.old.ended ≡ false }
-        requires ready { IsForMatches F.FnMut (length (built self.now).dictionary.patterns)
-            replace_with }
+        requires ready { IsForMatches F.FnMut (length (built self.now).dictionary.patterns) replace_with }
         ensures { ReplacesStreamWith W.contents F.FnMut R.remaining OnlyStandard (built self.now)
             (supports self.now) replace_with reader.old reader.new writer.old writer.new result }
     {
@@ -746,8 +733,7 @@ pub trait Automaton {
     where
         Self: Search,
         requires open { reader.old.ended ≡ false }
-        requires one_each { length replacements.now
-            ≡ length (built self.now).dictionary.patterns }
+        requires one_each { length replacements.now ≡ length (built self.now).dictionary.patterns }
         ensures replaced { ReplacesStream R.remaining W.contents (built self.now)
             (map (λ r. r.now) replacements.now) reader.old reader.new writer.old writer.new result }
         ensures accepted { AcceptsStream AnyKind (built self.now) (supports self.now) result }
@@ -775,13 +761,11 @@ pub trait Automaton {
     where
         Self: Search,
         requires open { reader.old.ended ≡ false }
-        requires one_each { length replacements.now
-            ≡ length (built self.now).dictionary.patterns }
+        requires one_each { length replacements.now ≡ length (built self.now).dictionary.patterns }
         ensures replaced { ReplacesStream R.remaining W.contents (built self.now)
             (map (λ r. r.now) replacements.now) reader.old reader.new writer.old writer.new result }
         ensures accepted { AcceptsStream AnyKind (built self.now) (supports self.now) result }
-        ensures cost { CostsStream (built self.now) reader.old reader.new
-            steps.old steps.new result }
+        ensures cost { CostsStream (built self.now) reader.old reader.new steps.old steps.new result }
     {
         let kinds = StreamKinds::AnyKind;
         replace_all_counted(self, kinds, alloc, reader, writer, replacements, steps)

@@ -162,8 +162,15 @@ def hex_rules(text):
     return rules
 
 
+def is_foreign(text):
+    """Whether a file is no plain text: it begins with a byte order mark, or has a NUL in its first line."""
+    return text.startswith((b"\xef\xbb\xbf", b"\xff\xfe", b"\xfe\xff")) or b"\0" in text.partition(b"\n")[0]
+
+
 def text_rules(text):
     """The rules of lines of plain text, or the fault of the first line that is none."""
+    if is_foreign(text):
+        raise Fault("rules: line 1", 3)
     rules = []
     while text:
         line, _, text = text.partition(b"\n")

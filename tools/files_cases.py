@@ -8,6 +8,7 @@ import pty
 import pwd
 import random
 import re
+import resource
 import shutil
 import stat
 import subprocess
@@ -167,6 +168,28 @@ def files_to_a_full_device(stage, expect):
             words = [stage.program, mode, rules, "--text", *paths]
             ended = subprocess.run(words, stdout=full, stderr=subprocess.PIPE, timeout=60)
             expect(mode, (ended.returncode, ended.stderr), (6, b"acsub: write failed\n"))
+
+
+@case
+def files_out_of_memory(stage, expect):
+    """lines with a path of 4,000 bytes under each limit of memory: a FILE's lines are all there, or none was begun at status 7"""
+    room, rules, text = folder(stage), text_rules(stage), b"the fox " * 500
+    deep = room + f"/{'d' * 200}" * 19
+    os.makedirs(deep)
+    paths = [write(f"{deep}/{'f' * (4000 - len(deep) - 1)}", text), write(f"{room}/b", text)]
+    first, second = (labelled(it, listed(overlapping(PAIRS, text))) for it in paths)
+    allowed = [(0, first + second, b""), *((7, it, b"acsub: out of memory\n") for it in (b"", first))]
+    ends = set()
+    for size in range(4 << 20, 32 << 20, 256 << 10):
+        limit = lambda: resource.setrlimit(resource.RLIMIT_AS, (size, size))
+        try:
+            ended = run(stage, "overlap", rules, "--text", *paths, preexec_fn=limit)
+        except (MemoryError, OSError, subprocess.SubprocessError):
+            continue
+        if ended[0] >= 0:
+            expect(f"{size} bytes", ended, *allowed)
+            ends.add(ended[0])
+    expect("the ends", ends, {0, 7}, {0})
 
 
 # ---- counts

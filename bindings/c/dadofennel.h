@@ -30,8 +30,8 @@
  *   haystack is never copied; a stream copies each piece once.
  * - Stack. No proof bounds it. As measured a build takes 108 KiB, the calls of a stream, a replacer or a masker 31 KiB, and all others
  *   14 KiB, whatever the patterns. So a thread that builds is given 128 KiB at least.
- * - Cost. What a call says of looks at states and of bytes moved is proved of the body below it, which counts them: docs/TRUST.md says
- *   of which calls. Neither the time of a call is proved, nor how much memory it takes.
+ * - Cost. What a call says of looks at states and of bytes moved is proved of a body below it, which counts them; docs/TRUST.md names
+ *   these, and the calls that have none. Neither the time of a call is proved, nor how much memory it takes.
  * - Bytes that a call is given must stay the same until it returns, and what it writes to must not overlap what it reads.
  *
  * What is proved of this library, and what a caller in C must not do, is in docs/TRUST.md. Each function here tests its pointers for
@@ -366,8 +366,10 @@ dado_status dado_next(const dado_automaton *ac, const void *haystack, size_t len
  * room, is NULL. Of `out` the entries from `*count` on may have changed.
  *
  * Under the standard kind a call looks at no more than two states for each byte that the walk passes in it, or at one with a DFA. Where
- * it reads ahead, it also looks at one for each of at most 8192 bytes after these, and the next call looks at those again. It takes no
- * memory. Threads as with dado_next.
+ * it reads ahead, it also looks at one for each of at most 8192 bytes after these, and the next call looks at those again. Under a
+ * leftmost kind without an empty pattern it looks as often, too, at up to as many bytes after each match as the longest pattern has, and
+ * one; and where it reads ahead, at one state for each byte up to the end at most, none twice for it. It takes no memory. Threads as with
+ * dado_next.
  */
 dado_status dado_some(const dado_automaton *ac, const void *haystack, size_t len, dado_cursor *cursor, dado_match *out, size_t room,
                       size_t *count);

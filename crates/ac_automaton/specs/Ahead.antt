@@ -82,7 +82,7 @@ abbrev pub TakesEach : (List ℕ → StateID → Type 0) → (StateID → List �
 TakesEach Reaches matches = TakesEachBy (Frees Reaches matches) matches
 
 -- An automaton has read so many bytes ahead of a search, of the next `len` from a place on: just those that these notes
--- cover. It looked at one state for each. A search of the standard kind takes each note.
+-- cover, and none if it has no lanes. It looked at one state for each. A search of the standard kind takes each note.
 pub record ReadsAheadBy (Free : ℕ → StateID → Type 0) (b : Built) (Reaches : List ℕ → StateID → Type 0)
     (matches : StateID → List ℕ) (anew : Option StateID) (sid : StateID) (bytes : List ℕ) (at len read : ℕ)
     (notes : List Note) (before after : Steps) : Type 0 where
@@ -90,6 +90,7 @@ pub record ReadsAheadBy (Free : ℕ → StateID → Type 0) (b : Built) (Reaches
   pub within : All (λ note. (at ≤ note.from) × (note.from + note.len ≤ at + len)) notes
   pub covered : noted_len notes ≡ read
   pub most : read ≤ len
+  pub lanes : ¬ IsTrue b.lanes → read ≡ 0
   pub counted : Done read 0 0 before after
   pub taken : b.dictionary.kind ≡ Standard → TakesEachBy Free matches anew bytes at sid notes
 
@@ -108,13 +109,14 @@ left_notes ahead = drop ahead.next (take ahead.end ahead.notes)
 abbrev pub bytes_ahead : Ahead → ℕ
 bytes_ahead ahead = noted_len (left_notes ahead) + ahead.lost.value
 
--- What was read ahead of a search that stands at a place of the bytes in a state. A search of the standard kind loses
--- no note.
+-- What was read ahead of a search that stands at a place of the bytes in a state: nothing by an automaton without lanes.
+-- A search of the standard kind loses no note.
 pub record IsAhead (b : Built) (Reaches : List ℕ → StateID → Type 0) (matches : StateID → List ℕ)
     (anew : Option StateID) (bytes : List ℕ) (at : ℕ) (sid : StateID) (ahead : Ahead) : Type 0 where
   pub room : ahead.end ≤ length ahead.notes
   pub are : All (IsNote Reaches matches bytes) (left_notes ahead)
   pub most : noted_len (left_notes ahead) ≤ most_ahead
+  pub none : ¬ IsTrue b.lanes → bytes_ahead ahead ≡ 0
   pub taken : b.dictionary.kind ≡ Standard
       → (ahead.lost.value ≡ 0) × TakesEach Reaches matches anew bytes at sid (left_notes ahead)
 
@@ -148,9 +150,16 @@ pub record HasForgotten (before : Ahead) (place : ℕ) (after : Ahead) : Type 0 
 abbrev pub IsReadOnce : ℕ → List ℕ → Ahead → Type 0
 IsReadOnce base bytes ahead = bytes_ahead ahead ≤ base + min ahead.until (length bytes)
 
--- if no byte was read ahead twice before a call, none was after it
+-- Before a place, nothing was read ahead. No byte of the bytes was read ahead twice, and none after the place up to
+-- which nothing more is read ahead.
+abbrev pub IsReadOnceFrom : ℕ → List ℕ → Ahead → Type 0
+IsReadOnceFrom first bytes ahead = min first (length bytes) + bytes_ahead ahead ≤ min ahead.until (length bytes)
+
+-- A call read at most as many bytes ahead as it moved the place up to which nothing more is read ahead. So if no byte
+-- was read ahead twice before it, none was after it.
 abbrev pub StaysReadOnce : List ℕ → Ahead → Ahead → Type 0
-StaysReadOnce bytes before after = (base : ℕ) → IsReadOnce base bytes before → IsReadOnce base bytes after
+StaysReadOnce bytes before after =
+    bytes_ahead after + min before.until (length bytes) ≤ bytes_ahead before + min after.until (length bytes)
 
 -- What a call's bytes cost, whenever they were looked at: the looks that the call made, and those that were made ahead
 -- of it, less those that it made ahead of later bytes.
@@ -338,11 +347,12 @@ lanes_notes notes begun lanes =
     lane_notes notes begun.a lanes.a
     ++ (lane_notes notes begun.b lanes.b ++ (lane_notes notes begun.c lanes.c ++ lane_notes notes begun.d lanes.d))
 
--- What walking side by side requires of an automaton. It looks at one state for a byte, a search begins in `start`, and
--- no state after `last` matches. Under the standard kind all others do, and a byte of `after` leads each search to the
+-- What walking side by side requires of an automaton. It looks at one state for a byte, is built with lanes, a search begins
+-- in `start`, and no state after `last` matches. Under the standard kind all others do, and a byte of `after` leads each search to the
 -- start.
 pub record MayNote {S : Type 0} (A : Ghosts S) (automaton : S) (start last : StateID) (after : List Bool) : Type 0 where
   pub one : IsTrue (A.built automaton).deterministic
+  pub lanes : IsTrue (A.built automaton).lanes
   pub starts : A.Reaches automaton No [] start
   pub quiet : (sid : StateID) → last < sid → A.matches automaton sid ≡ []
   pub some : (A.built automaton).dictionary.kind ≡ Standard → (sid : StateID) → IsReached (A.Reaches automaton No) sid

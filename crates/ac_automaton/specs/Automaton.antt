@@ -16,11 +16,24 @@ use Rattle.ac_automaton.specs.declared.automaton.Advance.{Advance}
 use Rattle.ac_automaton.specs.declared.error.MatchErrorKind.{MatchErrorKind}
 use Rattle.ac_automaton.specs.declared.error.MatchErrorKind.TheVariants.{InvalidInputAnchored, InvalidInputUnanchored}
 
--- What an automaton was built as: what it finds, whether it looks at exactly one state for a byte, and its prefilter.
+-- What an automaton was built as: what it finds, whether it looks at exactly one state for a byte, its prefilter, and whether
+-- it has lanes: it may read ahead of a search.
 pub record Built : Type 0 where
   pub dictionary : Dictionary
   pub deterministic : Bool
   pub prefilter : Option Filter
+  pub lanes : Bool
+
+-- of at most how many bytes, and of at most how many patterns, an automaton is asked whether it rules out that any occurs
+abbrev pub most_asked_bytes : ℕ
+most_asked_bytes = 128
+
+abbrev pub most_asked_patterns : ℕ
+most_asked_patterns = 16
+
+-- the bytes and the patterns are few enough for that
+abbrev pub MayAsk : Built → List ℕ → Type 0
+MayAsk b bytes = (length bytes ≤ most_asked_bytes) × (length b.dictionary.patterns ≤ most_asked_patterns)
 
 -- an automaton's prefilter, if it has one, was made for its own dictionary
 abbrev pub OwnsPrefilter : Built → Type 0

@@ -16,7 +16,7 @@ pub mod Search
 pub mod SinkLaws
 pub mod Texts
 pub mod WholeWords
-use Rattle.std.specs.Prelude.{◌≡◌, ◌≢◌, ◌⊎◌, ℕ, ◌+◌, ◌-◌, ◌*◌, ◌<◌, ◌≤◌, max, Bool, List, [], ◌∷◌, ◌++◌, length, drop, take, false, true, Option, None, Some, Result, Ok, Err}
+use Rattle.std.specs.Prelude.{◌≡◌, ◌≢◌, ◌⊎◌, ℕ, ◌+◌, ◌-◌, ◌*◌, ◌<◌, ◌≤◌, max, if◌then◌else◌, Bool, List, [], ◌∷◌, ◌++◌, length, drop, take, false, true, Option, None, Some, Result, Ok, Err}
 use Rattle.std.specs.List.{All, Contains, concat}
 use Rattle.ac_input.specs.Number.{usize_max}
 use Rattle.ac_input.specs.declared.search.Anchored.{Anchored}
@@ -258,20 +258,32 @@ IsDecided {q} s =
     → (rest : List Occurrence) × (items_of q s.built.dictionary (read_by s ++ more) ≡ s.given ++ rest)
     × All (λ o. cut_of s ≤ place_of q o) rest
 
--- How many of n bytes may be looked at again, with so many matches: none under standard; under a leftmost kind each
--- once, read ahead in vain, and after each match as many as the longest pattern has, and one.
-abbrev pub again_for : MatchKind → ℕ → ℕ → ℕ → ℕ
-again_for Standard longest n matches = 0
-again_for LeftmostFirst longest n matches = n + (longest + 1) * matches
-again_for LeftmostLongest longest n matches = n + (longest + 1) * matches
+-- How many of n bytes may be read ahead in vain: none without lanes, since nothing is read ahead; nor of whole words, which
+-- never read ahead, nor of all occurrences, which lose nothing of it.
+abbrev pub in_vain : Sequence → Built → ℕ → ℕ
+in_vain Picks b n = if b.lanes then n else 0
+in_vain Occurrences b n = 0
+in_vain Words b n = 0
+in_vain AllWords b n = 0
 
--- how many of n bytes may be looked at again, by the dictionary's kind and patterns
+-- How many bytes may be looked at again, with so many matches: none under standard; under a leftmost kind those that were
+-- read ahead in vain, and after each match as many as the longest pattern has, and one.
+abbrev pub again_for : MatchKind → ℕ → ℕ → ℕ → ℕ
+again_for Standard longest vain matches = 0
+again_for LeftmostFirst longest vain matches = vain + (longest + 1) * matches
+again_for LeftmostLongest longest vain matches = vain + (longest + 1) * matches
+
+-- how many bytes may be looked at again, by the dictionary's kind and patterns
 abbrev pub read_again : Dictionary → ℕ → ℕ → ℕ
-read_again m n matches = again_for m.kind (longest m.patterns) n matches
+read_again m vain matches = again_for m.kind (longest m.patterns) vain matches
+
+-- how many looks at n bytes and at those looked at again may be made, where each takes one
+abbrev pub looked_in_all : Sequence → Built → ℕ → ℕ → ℕ
+looked_in_all q b n matches = n + read_again b.dictionary (in_vain q b n) matches
 
 -- how many bytes a search may have looked at, those that it looked at again included
 abbrev pub read_in_all : {q : Sequence} → StreamProgress q → ℕ
-read_in_all s = length (read_by s) + read_again s.built.dictionary (length (read_by s)) (length s.given)
+read_in_all {q} s = looked_in_all q s.built (length (read_by s)) (length s.given)
 
 -- What a search has cost. It made at least one look for each byte that it has passed. In total it made at most one, or
 -- two if the automaton isn't deterministic, for each byte that was read, those looked at again included. Under standard

@@ -139,7 +139,7 @@ BeginsIfIdle A a old new =
 
 -- What a search pays that last began anew at one place, and reads on from a second one to a third: if the bytes up to the second one
 -- paid for some looks, and for one more for each byte that is live there, then those up to the third pay for its own, too. It looks
--- at least once at each byte.
+-- at least once at each byte, and if it doesn't read on, at none.
 pub record PaysForWords (b : Built) (x : List ℕ) (last from to : ℕ) (before after : Steps) : Type 0 where
   pub paid : (looks more : ℕ)
       → IsPaidAt b.dictionary b.deterministic (text_from b.dictionary x last) last from looks
@@ -147,6 +147,7 @@ pub record PaysForWords (b : Built) (x : List ℕ) (last from to : ℕ) (before 
       → IsPaidAt b.dictionary b.deterministic (text_from b.dictionary x last) last to more
   pub only : OnlyLooked before after
   pub some : before.looked.value + (to - from) ≤ after.looked.value
+  pub rests : to ≤ from → after.looked.value ≡ before.looked.value
 
 -- What the next word costs: the search reads on to a place that is no further than the word needs; or to where it stands then.
 abbrev pub CostsWord : Built → List ℕ → WordPlace → WordPlace → Option Occurrence → Steps → Steps → Type 0

@@ -22,11 +22,10 @@ use crate::in_memory::overlapping::{FindOverlappingIter, OverlappingState};
 use crate::in_memory::{overlapping, replace};
 use crate::search::Search;
 use crate::stream::devices::watched::Watched;
-use crate::stream::overlapping::{self as stream_overlapping, StreamFindOverlappingIter};
 use crate::stream::replace::replace_all_counted;
 use crate::stream::replace_with::replace_all_with;
 use crate::stream::sink::Sink;
-use crate::stream::{self, StreamFindIter, StreamKinds, StreamReplacer, StreamSearch};
+use crate::stream::{self, StreamFindIter, StreamKinds};
 use ac_input::primitives::{PatternID, StateID};
 use ac_input::search::{Anchored, Input, Match, MatchKind};
 use ac_input::steps::Steps;
@@ -53,18 +52,16 @@ pub trait Automaton {
     ghost use Rattle.ac_input.specs.Opening.{HasNoOccurrence};
     ghost use Rattle.ac_input.specs.Tells.{Tells};
     ghost use Rattle.ac_input.specs.Work.{longest, shortest};
-    ghost use Rattle.ac_automaton.specs.Automaton.{Built, IsReached, IsState, AtEach, Leads, IsReadCost, TellsDead, TellsStart, IsSpecial, Advances, AdvancesToMatch, OwnsPrefilter, AnswersStart, Finds, CostsFind};
+    ghost use Rattle.ac_automaton.specs.Automaton.{Built, IsReached, IsState, AtEach, Leads, IsReadCost, TellsDead, TellsStart, IsSpecial, Advances, AdvancesToMatch, OwnsPrefilter, AnswersStart, Finds, CostsFind, MayAsk};
     ghost use Rattle.ac_automaton.specs.Ahead.{ReadsAhead, most_ahead};
     ghost use Rattle.ac_automaton.specs.InMemory.Iter.{AnswersFindIter, AnswersFindIterFrom, IsPlaceIn, left_of};
     ghost use Rattle.ac_automaton.specs.InMemory.Overlapping.{CameFrom, IsOverlappingCost, AnswersOverlapping};
     ghost use Rattle.ac_automaton.specs.InMemory.Overlapping.OverlappingIter.{AnswersListing, rest_of};
     ghost use Rattle.ac_automaton.specs.InMemory.Items.{AreFewForEach, MatchesAreInOrder, EachLiesWithin, FindsWithin};
-    ghost use Rattle.ac_automaton.specs.Stream.{AnswersNew};
-    ghost use Rattle.ac_automaton.specs.Stream.Iter.{AnswersStreamListing, FindsStream};
+    ghost use Rattle.ac_automaton.specs.Stream.Iter.{FindsStream};
     ghost use Rattle.ac_automaton.specs.Stream.Pump.{PumpsMatches, PumpsOccurrences};
     ghost use Rattle.ac_automaton.specs.Stream.Replace.{AcceptsStream, CostsStream, ReplacesStream};
     ghost use Rattle.ac_automaton.specs.Stream.ReplaceWith.{ReplacesStreamWith};
-    ghost use Rattle.ac_automaton.specs.Stream.Replacer.{AnswersReplacer};
     ghost use Rattle.ac_automaton.specs.declared.stream.StreamKinds.TheVariants.{AnyKind, OnlyStandard};
     ghost use Rattle.ac_automaton.specs.InMemory.Replace.{IsForMatches, ReplacesText, ReplacesBytes, ReplacesTextWith, ReplacesBytesWith};
 
@@ -207,10 +204,10 @@ pub trait Automaton {
         Noted::none()
     }
 
-    /// Whether [`Automaton::note_ahead`] reads ahead, where the bytes allow it. No result depends on it.
-    fn has_lanes(&self) -> bool {
-        false
-    }
+    /// Whether [`Automaton::note_ahead`] reads ahead, where the bytes allow it. No result depends on it, but what a stream may cost
+    /// under a leftmost kind does.
+    fn has_lanes(&self) -> bool
+        ensures { result ≡ (built self.now).lanes };
 
     /// Whether its own loop reads on faster than a prefilter that is asked every few bytes. No result depends on it.
     fn reads_quickly(&self) -> bool {
@@ -218,8 +215,9 @@ pub trait Automaton {
     }
 
     /// Whether it shows, sooner than by reading them, that no pattern occurs in these bytes. It may say no where none does: the provided
-    /// method does so.
+    /// method does so. What it looks at for this isn't counted, so it is asked of few bytes and few patterns alone.
     fn rules_out(&self, _bytes: &[u8]) -> bool
+        requires { MayAsk (built self.now) _bytes.now }
         ensures { IsTrue result → HasNoOccurrence (built self.now).dictionary _bytes.now }
     {
         false
@@ -454,79 +452,6 @@ pub trait Automaton {
         stream::stream_find_iter(reader, self, StreamKinds::OnlyStandard, alloc)
     }
 
-    /// The same under any kind: under a leftmost one each match is returned once it is decided, so that no byte that follows can
-    /// change it. That is where the automaton's state is dead, or at the end of the input. At most as many bytes are held back as the
-    /// longest pattern has.
-    ///
-    /// After a match under a leftmost kind it reads again what it has read past its end: at most as many bytes as the longest pattern
-    /// has, and one. There it may also look at each byte once more, read ahead in vain.
-    ///
-    /// Returns an error if the automaton has no start for a search that isn't anchored, or has an empty pattern, checked in that
-    /// order, and then if there is no memory for the buffer.
-    final fn try_stream_find_iter_any_kind<'a, R>(
-        &'a self,
-        alloc: Global,
-        reader: &'a mut Watched<R>,
-    ) -> Result<StreamFindIter<'a, Self, R>, StreamError>
-    where
-        Self: Sized + Search,
-        requires { reader.old.ended ≡ false }
-        ensures { FindsStream AnyKind (built self.now) (supports self.now) reader.entry result }
-    {
-        stream::stream_find_iter(reader, self, StreamKinds::AnyKind, alloc)
-    }
-
-    /// A search of a stream whose pieces are pushed when they come: see [`StreamSearch`]. It searches under any kind, as
-    /// [`try_stream_find_iter_any_kind`](Automaton::try_stream_find_iter_any_kind) does, and takes the same buffer. It borrows the
-    /// automaton; [`StreamSearch::any_kind`] makes a search that owns it.
-    ///
-    /// Returns an error if the automaton has no start for a search that isn't anchored, or has an empty pattern, checked in that
-    /// order, and then if there is no memory for the buffer.
-    final fn try_stream_search<'a>(
-        &'a self,
-        alloc: Global,
-    ) -> Result<StreamSearch<&'a Self>, StreamError>
-    where
-        Self: Sized + Search,
-        ensures { AnswersNew AnyKind (built self.now) (supports self.now) result }
-    {
-        StreamSearch::any_kind(self, alloc)
-    }
-
-    /// A replacement over a stream whose pieces are pushed when they come, and whose text comes out in slices: see [`StreamReplacer`].
-    /// It borrows the automaton; [`StreamReplacer::any_kind`] makes one that owns it.
-    ///
-    /// It takes the buffer of [`try_stream_search`](Automaton::try_stream_search), and returns an error where that does.
-    final fn try_stream_replacer<'a>(
-        &'a self,
-        alloc: Global,
-    ) -> Result<StreamReplacer<&'a Self>, StreamError>
-    where
-        Self: Sized + Search,
-        ensures { AnswersReplacer (built self.now) (supports self.now) result }
-    {
-        StreamReplacer::any_kind(self, alloc)
-    }
-
-    /// Every occurrence in a stream, one after another: see [`StreamFindOverlappingIter`]. Each is returned after the read that
-    /// returned its last byte, and before the next one, by end, start and number. It allocates one buffer of 64 KiB, and nothing after
-    /// that.
-    ///
-    /// Returns an error if the automaton has no start for a search that isn't anchored, isn't of the standard kind, or has an empty
-    /// pattern, checked in that order, and then if there is no memory for the buffer. Nothing was read then.
-    final fn try_stream_find_overlapping_iter<'a, R>(
-        &'a self,
-        alloc: Global,
-        reader: &'a mut Watched<R>,
-    ) -> Result<StreamFindOverlappingIter<'a, Self, R>, StreamError>
-    where
-        Self: Sized + Search,
-        requires { reader.old.ended ≡ false }
-        ensures { AnswersStreamListing (built self.now) (supports self.now) reader.entry result }
-    {
-        stream_overlapping::stream_find_overlapping_iter(reader, self, alloc)
-    }
-
     /// The text with each match replaced by the replacement of its pattern. There is one replacement for each pattern. A match
     /// that begins or ends within a character is skipped: its bytes stay.
     ///
@@ -710,46 +635,21 @@ pub trait Automaton {
         F: FnMut(&Match, &[u8], &mut Watched<W>) -> Result<(), StreamError>,
         requires open { reader.old.ended ≡ false }
         requires ready { IsForMatches F.FnMut (length (built self.now).dictionary.patterns) replace_with }
-        ensures { ReplacesStreamWith W.contents F.FnMut R.remaining OnlyStandard (built self.now)
+        ensures { ReplacesStreamWith W.contents F.FnMut R.remaining (built self.now)
             (supports self.now) replace_with reader.old reader.new writer.old writer.new result }
     {
-        let kinds = StreamKinds::OnlyStandard;
-        replace_all_with(self, kinds, alloc, reader, writer, replace_with)
+        replace_all_with(self, alloc, reader, writer, replace_with)
     }
 
     /// The same as `try_stream_replace_all` under any kind: under a leftmost one each match is replaced once it is decided. Before
     /// each read it writes everything, unless the last bytes may still begin or change a match; then it holds back at most as many
     /// bytes as the longest pattern has.
     ///
-    /// Returns an error where [`try_stream_find_iter_any_kind`](Automaton::try_stream_find_iter_any_kind) does, and if there is no
-    /// memory for its two buffers; the reader and the writer are then unchanged. It allocates nothing after that.
-    final fn try_stream_replace_all_any_kind<R: Read, W: Write>(
-        &self,
-        alloc: Global,
-        reader: &mut Watched<R>,
-        writer: &mut Watched<W>,
-        replacements: &[&[u8]],
-    ) -> Result<(), StreamError>
-    where
-        Self: Search,
-        requires open { reader.old.ended ≡ false }
-        requires one_each { length replacements.now ≡ length (built self.now).dictionary.patterns }
-        ensures replaced { ReplacesStream R.remaining W.contents (built self.now)
-            (map (λ r. r.now) replacements.now) reader.old reader.new writer.old writer.new result }
-        ensures accepted { AcceptsStream AnyKind (built self.now) (supports self.now) result }
-    {
-        let mut steps = Steps::new();
-        self.try_stream_replace_all_any_kind_counted(
-            alloc,
-            reader,
-            writer,
-            replacements,
-            &mut steps,
-        )
-    }
-
-    /// The same; counts what it does. Under a leftmost kind it looks at more than `try_stream_replace_all_counted` does: after each
-    /// match at what it reads again, and at each byte at most once more, read ahead in vain.
+    /// Returns an error if the automaton has no start for a search that isn't anchored, or has an empty pattern, checked in that
+    /// order, and if there is no memory for its two buffers; the reader and the writer are then unchanged. It allocates nothing after that.
+    ///
+    /// It counts what it does. Under a leftmost kind it looks at more than `try_stream_replace_all_counted` does: after each match at
+    /// what it reads again, and at each byte at most once more, read ahead in vain.
     final fn try_stream_replace_all_any_kind_counted<R: Read, W: Write>(
         &self,
         alloc: Global,
@@ -769,26 +669,5 @@ pub trait Automaton {
     {
         let kinds = StreamKinds::AnyKind;
         replace_all_counted(self, kinds, alloc, reader, writer, replacements, steps)
-    }
-
-    /// The same as `try_stream_replace_all_with` under any kind.
-    final fn try_stream_replace_all_any_kind_with<R: Read, W: Write, F>(
-        &self,
-        alloc: Global,
-        reader: &mut Watched<R>,
-        writer: &mut Watched<W>,
-        replace_with: F,
-    ) -> Result<(), StreamError>
-    where
-        Self: Search,
-        F: FnMut(&Match, &[u8], &mut Watched<W>) -> Result<(), StreamError>,
-        requires open { reader.old.ended ≡ false }
-        requires ready { IsForMatches F.FnMut (length (built self.now).dictionary.patterns)
-            replace_with }
-        ensures { ReplacesStreamWith W.contents F.FnMut R.remaining AnyKind (built self.now)
-            (supports self.now) replace_with reader.old reader.new writer.old writer.new result }
-    {
-        let kinds = StreamKinds::AnyKind;
-        replace_all_with(self, kinds, alloc, reader, writer, replace_with)
     }
 }

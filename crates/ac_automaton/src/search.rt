@@ -12,20 +12,16 @@ use crate::error::{MatchError, ReplaceError, StreamError};
 use crate::in_memory::mask::{mask_all, mask_words};
 use crate::in_memory::overlapping::{Position, Shown};
 use crate::in_memory::replace::replace_words;
-use crate::in_memory::words::overlapping::{FindOverlappingWordIter, find_overlapping_word_iter};
 use crate::in_memory::words::{FindWordIter, find_word_iter, find_word_iter_from};
 use crate::in_memory::{find, overlapping};
+use crate::stream::Progress;
 use crate::stream::devices::watched::Watched;
+use crate::stream::mask::mask_stream;
 use crate::stream::mask::words::mask_words_stream;
-use crate::stream::mask::{StreamMask, StreamWordMask, mask_stream};
 use crate::stream::overlapping::{ListPlace, Listed};
 use crate::stream::pump::{pump_all_words, pump_words};
 use crate::stream::replace::replace_words_counted;
 use crate::stream::sink::Sink;
-use crate::stream::{
-    Progress, StreamFindOverlappingWordIter, StreamFindWordIter, stream_find_overlapping_word_iter,
-    stream_find_word_iter,
-};
 use crate::{masking, stream};
 use ac_input::primitives::StateID;
 use ac_input::search::{Input, Match, MatchKind};
@@ -44,17 +40,15 @@ pub trait Search: Automaton {
     ghost use Rattle.ac_automaton.specs.InMemory.Items.{FindsWithin};
     ghost use Rattle.ac_automaton.specs.InMemory.Overlapping.OverlappingSearch.{CountsOn, HasLeft, IsAheadAt, KeepsPaying, ShowsNextAt};
     ghost use Rattle.ac_automaton.specs.InMemory.Words.{AnswersWords, AnswersWordsFrom};
-    ghost use Rattle.ac_automaton.specs.InMemory.Words.Overlapping.{AnswersWordListing};
     ghost use Rattle.ac_automaton.specs.InMemory.Words.Replace.{ReplacesWholeWords};
     ghost use Rattle.ac_automaton.specs.Masking.{CostsMask, Masks, MasksFrom};
     ghost use Rattle.ac_automaton.specs.Masking.Words.{CostsMaskWords, MasksWords};
     ghost use Rattle.ac_automaton.specs.Masking.Words.Stream.{CostsMaskWordsStream, MasksWordsStream};
-    ghost use Rattle.ac_automaton.specs.Masking.Words.Pushed.{AnswersNewWordMasking};
-    ghost use Rattle.ac_automaton.specs.Stream.Mask.{AnswersNewMask, CostsMaskStream, MasksStream};
+    ghost use Rattle.ac_automaton.specs.Stream.Mask.{CostsMaskStream, MasksStream};
     ghost use Rattle.ac_automaton.specs.Stream.Overlapping.{AcceptsListing};
     ghost use Rattle.ac_automaton.specs.Stream.Overlapping.Walk.{IsAheadFor, ListsNext, MayList};
     ghost use Rattle.ac_automaton.specs.Stream.Search.Walk.{IsAheadBy, MayWalk, WalksOn};
-    ghost use Rattle.ac_automaton.specs.Stream.WholeWords.{CostsWordStream, FindsStreamAllWords, FindsStreamWords, PumpsAllWords, PumpsWords, ReplacesWords, asked_for};
+    ghost use Rattle.ac_automaton.specs.Stream.WholeWords.{CostsWordStream, PumpsAllWords, PumpsWords, ReplacesWords, asked_for};
 
     /// The match of the input, if it has one, as [`Automaton::try_find_counted`] returns it; counts what it does.
     fn search(&self, input: &Input<'_>, steps: &mut Steps) -> Result<Option<Match>, MatchError>
@@ -232,27 +226,6 @@ pub trait Search: Automaton {
         find_word_iter_from(self, kind, haystack, at)
     }
 
-    /// All whole words of a text, overlapping ones too, one after another: by their ends, those that end together by their starts, and
-    /// then by number. What a word is, is the same as for [`try_find_word_iter`](Self::try_find_word_iter): these are the occurrences
-    /// that [`try_find_overlapping_iter`](crate::automaton::Automaton::try_find_overlapping_iter) returns and beside which no word byte
-    /// stands. So with `new`, `york` and `new york` a text `new york` has all three.
-    ///
-    /// The automaton has to be of the standard kind, since it then meets every occurrence. It takes no memory, and uses no prefilter. It
-    /// looks once at each byte, or twice if it isn't deterministic, however many words there are.
-    ///
-    /// Returns an error if the automaton has no start for a search that isn't anchored, isn't of the standard kind, or has an empty
-    /// pattern, checked in that order.
-    final fn try_find_overlapping_word_iter<'a, 'h>(
-        &'a self,
-        haystack: &'h [u8],
-    ) -> Result<FindOverlappingWordIter<'a, 'h, Self>, MatchError>
-    where
-        Self: Sized,
-        ensures { AnswersWordListing (Self.built self.now) (Self.supports self.now) haystack.entry.now result }
-    {
-        find_overlapping_word_iter(self, haystack)
-    }
-
     /// The text with each of its whole words under a kind replaced by the replacement of its pattern, as
     /// [`try_find_word_iter`](Search::try_find_word_iter) finds them. The memory is at first as large as the text, and grows as any
     /// `Vec` does.
@@ -273,46 +246,6 @@ pub trait Search: Automaton {
         replace_words(self, kind, alloc, haystack, replacements)
     }
 
-    /// The whole words of a stream under a kind, one after another, as [`try_find_word_iter`](Search::try_find_word_iter) gives those of a
-    /// text in memory. A word waits for the byte after it, and under a leftmost kind for what may still be preferred to it: for one byte
-    /// more than the longest pattern has, from its start on, or for a place where nothing is live. Each is returned before the next read
-    /// once it is decided. It allocates one buffer of `max(65536, 8 * (longest + 1))` bytes, and nothing after that.
-    ///
-    /// Returns an error if the automaton has no start for a search that isn't anchored, isn't of the standard kind, or has an empty
-    /// pattern, checked in that order, and then if there is no memory for the buffer. Nothing was read then.
-    final fn try_stream_find_word_iter<'a, R>(
-        &'a self,
-        kind: MatchKind,
-        alloc: Global,
-        reader: &'a mut Watched<R>,
-    ) -> Result<StreamFindWordIter<'a, Self, R>, StreamError>
-    where
-        Self: Sized,
-        requires { reader.old.ended ≡ false }
-        ensures { FindsStreamWords kind (Self.built self.now) (Self.supports self.now) reader.entry result }
-    {
-        stream_find_word_iter(reader, self, kind, alloc)
-    }
-
-    /// All whole words of a stream, overlapping ones too, one after another, as
-    /// [`try_find_overlapping_word_iter`](Search::try_find_overlapping_word_iter) gives those of a text in memory: by end, start and
-    /// number. A word waits only for the byte after it. It allocates one buffer of `max(65536, 8 * (longest + 1))` bytes, and nothing
-    /// after that. It looks once at each byte, or twice if the automaton isn't deterministic.
-    ///
-    /// Returns an error where [`try_stream_find_word_iter`](Search::try_stream_find_word_iter) does.
-    final fn try_stream_find_overlapping_word_iter<'a, R>(
-        &'a self,
-        alloc: Global,
-        reader: &'a mut Watched<R>,
-    ) -> Result<StreamFindOverlappingWordIter<'a, Self, R>, StreamError>
-    where
-        Self: Sized,
-        requires { reader.old.ended ≡ false }
-        ensures { FindsStreamAllWords (Self.built self.now) (Self.supports self.now) reader.entry result }
-    {
-        stream_find_overlapping_word_iter(reader, self, alloc)
-    }
-
     /// Writes the input with each of its whole words under a kind replaced by the replacement of its pattern. There is one replacement
     /// for each pattern. The input ends at its first empty read. Before each read it has written everything up to where a word may still
     /// begin: all but at most as many bytes as the longest pattern has, or one, and all of them where nothing is live. The writer isn't
@@ -321,27 +254,8 @@ pub trait Search: Automaton {
     /// It requires that the reader has not ended. Returns an error if the automaton has no start for an unanchored search, isn't of the
     /// standard kind, or has an empty pattern, checked in that order, and if there is no memory for its two buffers; the reader and the
     /// writer are then unchanged. It allocates nothing after that. Where a read or a write fails, nothing is tried again.
-    final fn try_stream_replace_words<R: Read, W: Write>(
-        &self,
-        kind: MatchKind,
-        alloc: Global,
-        reader: &mut Watched<R>,
-        writer: &mut Watched<W>,
-        replacements: &[&[u8]],
-    ) -> Result<(), StreamError>
-    where
-        Self: Sized,
-        requires open { reader.old.ended ≡ false }
-        requires one_each { length replacements.now ≡ length (Self.built self.now).dictionary.patterns }
-        ensures replaced { ReplacesWords R.remaining W.contents (asked_for kind (Self.built self.now))
-            (map (λ r. r.now) replacements.now) reader.old reader.new writer.old writer.new result }
-        ensures accepted { AcceptsListing (Self.built self.now) (Self.supports self.now) result }
-    {
-        let mut steps = Steps::new();
-        replace_words_counted(self, kind, alloc, reader, writer, replacements, &mut steps)
-    }
-
-    /// The same; counts what it does.
+    ///
+    /// It counts what it does.
     final fn try_stream_replace_words_counted<R: Read, W: Write>(
         &self,
         kind: MatchKind,
@@ -365,7 +279,7 @@ pub trait Search: Automaton {
 
     /// Reads a stream to its end, and passes its whole words under a kind to a [`Sink`] with the text between them, all that is decided
     /// before each read; counts what it does. It returns an error where
-    /// [`try_stream_find_word_iter`](Search::try_stream_find_word_iter) does, before it reads, and if a read fails, the sink stops, or
+    /// [`stream_find_word_iter`](crate::stream::stream_find_word_iter) does, before it reads, and if a read fails, the sink stops, or
     /// there are more bytes than places.
     final fn try_stream_pump_words<R: Read, W, K: Sink<W>>(
         &self,
@@ -389,7 +303,7 @@ pub trait Search: Automaton {
 
     /// Reads a stream to its end, and passes all its whole words, overlapping ones too, to a [`Sink`], without the text between them, all
     /// that are decided before each read; counts what it does. It returns an error where
-    /// [`try_stream_find_word_iter`](Search::try_stream_find_word_iter) does, before it reads, and if a read fails, the sink stops, or
+    /// [`stream_find_word_iter`](crate::stream::stream_find_word_iter) does, before it reads, and if a read fails, the sink stops, or
     /// there are more bytes than places.
     final fn try_stream_pump_all_words<R: Read, W, K: Sink<W>>(
         &self,
@@ -416,16 +330,8 @@ pub trait Search: Automaton {
     ///
     /// It takes no memory. Returns an error if the automaton has no start for a search that isn't anchored, or isn't of the standard
     /// kind; the text is then unchanged.
-    final fn try_mask(&self, text: &mut [u8], mask: u8) -> Result<(), MatchError>
-    where
-        Self: Sized,
-        ensures { Masks (Self.built self.now) (Self.supports self.now) mask text.old text.new result }
-    {
-        let mut steps = Steps::new();
-        self.try_mask_counted(text, mask, &mut steps)
-    }
-
-    /// The same; counts what it does: at least one look at a state for each byte, and at most two.
+    ///
+    /// It counts what it does: at least one look at a state for each byte, and at most two.
     final fn try_mask_counted(
         &self,
         text: &mut [u8],
@@ -446,21 +352,8 @@ pub trait Search: Automaton {
     ///
     /// It takes a copy of the text. Returns an error if the automaton has no start for a search that isn't anchored, or isn't of the
     /// standard kind, checked in that order, and then if there is no memory for the copy; the text is then unchanged.
-    final fn try_mask_words(
-        &self,
-        alloc: Global,
-        text: &mut [u8],
-        mask: u8,
-    ) -> Result<(), ReplaceError>
-    where
-        Self: Sized,
-        ensures { MasksWords (Self.built self.now) (Self.supports self.now) mask text.old text.new result }
-    {
-        let mut steps = Steps::new();
-        self.try_mask_words_counted(alloc, text, mask, &mut steps)
-    }
-
-    /// The same; counts what it does, but not the copying: at least one look at a state for each byte, and at most two.
+    ///
+    /// It counts what it does, but not the copying: at least one look at a state for each byte, and at most two.
     final fn try_mask_words_counted(
         &self,
         alloc: Global,
@@ -477,33 +370,16 @@ pub trait Search: Automaton {
     }
 
     /// Writes the input with each byte that lies in an occurrence of some pattern replaced by `mask`, as
-    /// [`try_mask`](Search::try_mask) does in memory. The input ends at its first empty read. Before each read it writes everything but
-    /// the last bytes that may still be covered: fewer than the longest pattern has, and none where nothing is live. The writer isn't
-    /// flushed.
+    /// [`try_mask_counted`](Search::try_mask_counted) does in memory. The input ends at its first empty read. Before each read it writes
+    /// everything but the last bytes that may still be covered: fewer than the longest pattern has, and none where nothing is live. The
+    /// writer isn't flushed.
     ///
     /// Returns an error if the automaton has no start for a search that isn't anchored, isn't of the standard kind, or has an empty
     /// pattern, checked in that order, and then if there is no memory for its buffer of `max(65536, 8 * max(1, longest))` bytes; the
     /// reader and the writer are then unchanged. It allocates nothing after that. Where a read or a write fails, nothing is tried again.
-    final fn try_mask_stream<R: Read, W: Write>(
-        &self,
-        alloc: Global,
-        reader: &mut Watched<R>,
-        writer: &mut Watched<W>,
-        mask: u8,
-    ) -> Result<(), StreamError>
-    where
-        Self: Sized,
-        requires open { reader.old.ended ≡ false }
-        ensures masked { MasksStream R.remaining W.contents (Self.built self.now) mask reader.old reader.new
-            writer.old writer.new result }
-        ensures accepted { AcceptsListing (Self.built self.now) (Self.supports self.now) result }
-    {
-        let mut steps = Steps::new();
-        self.try_mask_stream_counted(alloc, reader, writer, mask, &mut steps)
-    }
-
-    /// The same; counts what it does: at most two looks at states for each byte that it reads, and a seventh of the bytes moved. If it
-    /// reaches the end, it has looked at one state at least for each.
+    ///
+    /// It counts what it does: at most two looks at states for each byte that it reads, and a seventh of the bytes moved. If it reaches
+    /// the end, it has looked at one state at least for each.
     final fn try_mask_stream_counted<R: Read, W: Write>(
         &self,
         alloc: Global,
@@ -523,32 +399,16 @@ pub trait Search: Automaton {
         mask_stream(self, alloc, reader, writer, mask, steps)
     }
 
-    /// Writes the input with its whole words masked, as [`try_mask_words`](Search::try_mask_words) does in memory. The input ends at its
-    /// first empty read. Before each read it writes everything but the last bytes, of which a word may still be found: at most as many as
-    /// the longest pattern has, and none where nothing is live. The writer isn't flushed.
+    /// Writes the input with its whole words masked, as [`try_mask_words_counted`](Search::try_mask_words_counted) does in memory. The
+    /// input ends at its first empty read. Before each read it writes everything but the last bytes, of which a word may still be found:
+    /// at most as many as the longest pattern has, and none where nothing is live. The writer isn't flushed.
     ///
-    /// Returns an error where [`try_mask_stream`](Search::try_mask_stream) does. It has two buffers of `max(65536, 8 * (longest + 1))`
-    /// bytes each, which it allocates before the first read: one for the bytes as they were read, and one for the masked ones.
-    final fn try_mask_words_stream<R: Read, W: Write>(
-        &self,
-        alloc: Global,
-        reader: &mut Watched<R>,
-        writer: &mut Watched<W>,
-        mask: u8,
-    ) -> Result<(), StreamError>
-    where
-        Self: Sized,
-        requires open { reader.old.ended ≡ false }
-        ensures masked { MasksWordsStream R.remaining W.contents (Self.built self.now) mask reader.old reader.new
-            writer.old writer.new result }
-        ensures accepted { AcceptsListing (Self.built self.now) (Self.supports self.now) result }
-    {
-        let mut steps = Steps::new();
-        self.try_mask_words_stream_counted(alloc, reader, writer, mask, &mut steps)
-    }
-
-    /// The same; counts what it does: at most two looks at states for each byte that it reads, and in each buffer a seventh of the bytes
-    /// moved. If it reaches the end, it has looked at one state at least for each.
+    /// Returns an error where [`try_mask_stream_counted`](Search::try_mask_stream_counted) does. It has two buffers of
+    /// `max(65536, 8 * (longest + 1))` bytes each, which it allocates before the first read: one for the bytes as they were read, and one
+    /// for the masked ones.
+    ///
+    /// It counts what it does: at most two looks at states for each byte that it reads, and in each buffer a seventh of the bytes moved.
+    /// If it reaches the end, it has looked at one state at least for each.
     final fn try_mask_words_stream_counted<R: Read, W: Write>(
         &self,
         alloc: Global,
@@ -566,35 +426,6 @@ pub trait Search: Automaton {
         ensures cost { CostsMaskWordsStream (Self.built self.now) reader.old reader.new steps.old steps.new result }
     {
         mask_words_stream(self, alloc, reader, writer, mask, steps)
-    }
-
-    /// A masking of a stream whose pieces are pushed when they come: see [`StreamMask`]. It borrows the automaton; [`StreamMask::new`]
-    /// makes one that owns it. Returns an error where [`try_mask_stream`](Search::try_mask_stream) does before it reads.
-    final fn try_stream_mask<'a>(
-        &'a self,
-        alloc: Global,
-        mask: u8,
-    ) -> Result<StreamMask<&'a Self>, StreamError>
-    where
-        Self: Sized,
-        ensures { AnswersNewMask (Self.built self.now) (Self.supports self.now) mask result }
-    {
-        StreamMask::new(self, mask, alloc)
-    }
-
-    /// A masking of the whole words of a stream whose pieces are pushed when they come: see [`StreamWordMask`]. It borrows the automaton;
-    /// [`StreamWordMask::new`] makes one that owns it. Returns an error where [`try_mask_words_stream`](Search::try_mask_words_stream)
-    /// does before it reads.
-    final fn try_stream_word_mask<'a>(
-        &'a self,
-        alloc: Global,
-        mask: u8,
-    ) -> Result<StreamWordMask<&'a Self>, StreamError>
-    where
-        Self: Sized,
-        ensures { AnswersNewWordMasking (Self.built self.now) (Self.supports self.now) mask result }
-    {
-        StreamWordMask::new(self, mask, alloc)
     }
 }
 

@@ -5,20 +5,19 @@
 //! memory is taken on the way. A match may begin in one piece and end in another; how a text is cut into pieces changes nothing.
 //!
 //! Under the standard kind a match is decided with its last byte. Under a leftmost kind it may depend on bytes far after it, and is held
-//! back until none of them can change it; only the calls with `any_kind`, and those whose pieces are pushed, search so. An empty pattern
-//! is an error, since it would match at each place before anything is read. No prefilter is used.
+//! back until none of them can change it; only the calls that take [`StreamKinds::AnyKind`] or have `any_kind` in their name search so. An
+//! empty pattern is an error, since it would match at each place before anything is read. No prefilter is used.
 //!
-//! - [`StreamFindIter`] is the search as an iterator that reads from a reader, from
+//! - [`StreamFindIter`] is the search as an iterator that reads from a reader, from [`stream_find_iter`] or
 //!   [`try_stream_find_iter`](crate::automaton::Automaton::try_stream_find_iter). The first empty read ends it, and so does the first
 //!   error. It is a [`StreamIter`], as the iterator over every occurrence is: see [`overlapping`].
-//! - [`StreamSearch`] owns no reader: its pieces are pushed when they come. From
-//!   [`try_stream_search`](crate::automaton::Automaton::try_stream_search).
+//! - [`StreamSearch`] owns no reader: its pieces are pushed when they come. From [`StreamSearch::any_kind`].
 //! - [`StreamReplacer`] is passed its pieces too, and hands out the text with each match replaced. From
-//!   [`try_stream_replacer`](crate::automaton::Automaton::try_stream_replacer).
+//!   [`StreamReplacer::any_kind`].
 //! - [`StreamFindWordIter`] returns the whole words of a stream under a kind, by [`WordSearch`]: a word waits for the byte after it. From
-//!   [`try_stream_find_word_iter`](crate::search::Search::try_stream_find_word_iter). A [`WordSearch`] may also be passed its pieces.
+//!   [`stream_find_word_iter`]. A [`WordSearch`] may also be passed its pieces.
 //! - [`StreamFindOverlappingWordIter`] returns all whole words of a stream, by [`OverlappingWordSearch`], which takes pieces as well. From
-//!   [`try_stream_find_overlapping_word_iter`](crate::search::Search::try_stream_find_overlapping_word_iter).
+//!   [`stream_find_overlapping_word_iter`].
 //! - [`mask`] replaces each byte that an occurrence covers by one byte: with a reader and a writer, or pushed.
 //!
 //! Streams stand on the states of an automaton, as searches in memory do, and on [`devices`]: a watched reader and writer, and the
@@ -160,11 +159,17 @@ enum Turn {
     Failed(StreamError),
 }
 
-/// The matches of a stream, one after another, of an automaton of one of these kinds: as
-/// [`try_stream_find_iter`](crate::automaton::Automaton::try_stream_find_iter) and
-/// [`try_stream_find_iter_any_kind`](crate::automaton::Automaton::try_stream_find_iter_any_kind), but the reader is the first
-/// parameter. Call this one where your own contract speaks of the reader: it says that the reader is unchanged if the search returns
-/// an error. A contract can say what becomes of a borrowed value only for the first parameter.
+/// The matches of a stream, one after another, of an automaton of one of these kinds. Under the standard one it does as
+/// [`try_stream_find_iter`](crate::automaton::Automaton::try_stream_find_iter). Under a leftmost one each match is returned once it is
+/// decided, so that no byte that follows can change it. That is where the automaton's state is dead, or at the end of the input. At most
+/// as many bytes are held back as the longest pattern has.
+///
+/// After a match under a leftmost kind it reads again what it has read past its end: at most as many bytes as the longest pattern has,
+/// and one. There it may also look at each byte once more, read ahead in vain.
+///
+/// Returns an error if the automaton has no start for a search that isn't anchored, isn't of a kind that is accepted, or has an empty
+/// pattern, checked in that order, and then if there is no memory for the buffer. The reader is unchanged then. A contract can say what
+/// becomes of a borrowed value only for the first parameter, so that is the reader.
 pub fn stream_find_iter<'a, A: Search, R>(
     reader: &'a mut Watched<R>,
     automaton: &'a A,

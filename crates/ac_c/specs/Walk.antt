@@ -1,5 +1,5 @@
 -- What a walk returns, from a cursor that C keeps.
-use Rattle.std.specs.Prelude.{◌≡◌, ◌⊎◌, ℕ, ◌==◌, ◌<◌, ◌≤◌, ◌^◌, ◌-◌, ◌&&◌, nat_le, nat_lt, Bool, if◌then◌else◌, min, List, [], ◌∷◌, length, map, take, drop, Option, Some, None, IfSome, MatchOption, Result, Ok, Err}
+use Rattle.std.specs.Prelude.{◌≡◌, ◌⊎◌, ℕ, ◌==◌, ◌+◌, ◌<◌, ◌≤◌, ◌^◌, ◌-◌, ◌&&◌, nat_le, nat_lt, Bool, if◌then◌else◌, min, List, [], ◌∷◌, length, map, take, drop, Option, Some, None, IfSome, MatchOption, Result, Ok, Err}
 use Rattle.ac_input.specs.declared.steps.Steps.{Steps}
 use Rattle.ac_input.specs.Occurrence.{Occurrence}
 use Rattle.ac_automaton.specs.InMemory.Iter.{IsPickCost, IsPlaceIn, PickCounts, Walk, left_of, walk_from_place}
@@ -101,13 +101,17 @@ pub record AreGiven (left : List Occurrence) (old new : List Found) (n : ℕ) : 
   pub count : n ≡ min (length old) (length left)
   pub given : take n new ≡ map shown (take n left)
 
+-- the second walk is the first one after its next n matches
+abbrev pub IsWalkPast : ℕ → Walk → Walk → Type 0
+IsWalkPast n w v = (left_of v ≡ drop n (left_of w)) × (v.given ≡ w.given + n)
+
 -- The walk, which may read ahead or not, stands at the first cursor, and its next matches went to the buffer. It stands
 -- at the second cursor after them.
 pub record TakesSome (ahead : Bool) (w : Walk) (c : Cursor) (old new : List Found) (before after : Steps)
     (taken : ℕ × Cursor) : Type 0 where
   pub given : AreGiven (left_of w) old new taken.0
   pub moved : Walk
-  pub rest : left_of moved ≡ drop taken.0 (left_of w)
+  pub past : IsWalkPast taken.0 w moved
   pub cost : WalksTo ahead w moved before after
   pub within : IsPlaceIn moved.asked (record { start = moved.at; last = moved.last })
   pub goes : Goes c (record { start = moved.at; last = moved.last }) taken.1
@@ -123,11 +127,12 @@ IsSomeBy ac haystack c old new (Err status) = IsRefusedWalk ac haystack c status
 abbrev pub are_many : ℕ → Bool
 are_many room = nat_le 16 room
 
--- The next matches cost what the walk does from one cursor to the other. With room for few it reads nothing ahead. A
--- call that is refused costs nothing.
+-- The next matches cost what the walk does from one cursor to the other, which gives as many. With room for few it reads
+-- nothing ahead. A call that is refused costs nothing.
 abbrev pub CostsSome : AhoCorasick → List ℕ → Cursor → ℕ → Steps → Steps → Result (ℕ × Cursor) ℕ → Type 0
 CostsSome ac haystack c room before after (Ok taken) =
     (v : Walk) × WalksTo (are_many room) (walk_of_cursor ac haystack c) v before after × (v.at ≡ taken.1.start)
+    × (v.given ≡ taken.0)
 CostsSome ac haystack c room before after (Err status) = after ≡ before
 
 -- the status of a call that returned this count, for a buffer with this room

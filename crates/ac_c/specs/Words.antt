@@ -24,7 +24,7 @@ use Rattle.ac_c.specs.declared.words.Words.{Words}
 
 -- the walk over the words of a text that stands at a place
 abbrev pub words_from : AhoCorasick → MatchKind → List ℕ → ℕ → WordWalk
-words_from ac kind haystack from = record (fresh_words (as_built ac) kind haystack) { at = from }
+words_from ac kind haystack from = record (fresh_words (as_built ac) kind haystack) { at = from; read = from }
 
 -- the words that are left from a place on
 abbrev pub left_of_words : AhoCorasick → MatchKind → List ℕ → ℕ → List Occurrence
@@ -43,7 +43,8 @@ from_after from out (suc n) = elim (slice_get out n) [ None ↦ from | Some f �
 pub record GivesWords (w v : WordWalk) (old new : List Found) (n : ℕ) : Type 0 where
   pub given : AreGiven (words_left w) old new n
   pub rest : words_left v ≡ drop n (words_left w)
-  pub same : v ≡ record w { at = from_after w.at new n; looked = v.looked; scanned = v.scanned; moved = v.moved }
+  pub same : v ≡ record w
+      { at = from_after w.at new n; read = v.read; looked = v.looked; scanned = v.scanned; moved = v.moved }
 
 -- how far past the end of a word its search may read
 abbrev pub past_word : MatchKind → List (List ℕ) → ℕ

@@ -24,7 +24,7 @@ use std::ptr::NonNull;
 pub fn mask(ac: &AhoCorasick, text: &mut [u8], byte: u8) -> u32
     ensures { AnswersMasked ac.now byte text.old text.new result }
 {
-    match ac.try_mask(text, byte) {
+    match ac.try_mask_counted(text, byte, &mut Steps::new()) {
         Ok(()) => OK,
         Err(error) => refused(&error),
     }
@@ -34,7 +34,7 @@ pub fn mask(ac: &AhoCorasick, text: &mut [u8], byte: u8) -> u32
 pub fn mask_words(ac: &AhoCorasick, alloc: Global, text: &mut [u8], byte: u8) -> u32
     ensures { AnswersMaskedWords ac.now byte text.old text.new result }
 {
-    match ac.try_mask_words(alloc, text, byte) {
+    match ac.try_mask_words_counted(alloc, text, byte, &mut Steps::new()) {
         Ok(()) => OK,
         Err(ReplaceError::Match(error)) => refused(&error),
         Err(ReplaceError::Memory) => NO_MEMORY,

@@ -110,7 +110,7 @@ fn configured_standard(ac: &AhoCorasick) -> Result<(), MatchError>
     ensures can { OnOk result (CanBegin OnlyStandard ac.now) }
     ensures error { IfErr result (IsBeginError OnlyStandard ac.now) }
 {
-    ac.try_mask(&mut [], 0)?;
+    ac.try_mask_counted(&mut [], 0, &mut Steps::new())?;
     if ac.min_pattern_len() == 0 {
         return Err(MatchError::unsupported_empty());
     }

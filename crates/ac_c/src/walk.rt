@@ -1,8 +1,8 @@
 //! The walk over a haystack, from a cursor that C keeps.
-ghost use Rattle.std.specs.Prelude.{◌≡◌, MatchOption, drop, length};
+ghost use Rattle.std.specs.Prelude.{◌≡◌, MatchOption, length};
 ghost use Rattle.ac_automaton.specs.InMemory.Iter.{left_of};
 ghost use Rattle.ac_c.specs.Walking.{IsAccounted, WalksTo};
-ghost use Rattle.ac_c.specs.Walk.{AnswersSome, AnswersStep, AreGiven, CostsSome, CostsStep, Goes, IsCursorIn, IsSomeBy, IsStepBy, TakesSome, batch_of, bounds_of, cursor, place_of_cursor, step_of};
+ghost use Rattle.ac_c.specs.Walk.{AnswersSome, AnswersStep, AreGiven, CostsSome, CostsStep, Goes, IsCursorIn, IsSomeBy, IsStepBy, IsWalkPast, TakesSome, batch_of, bounds_of, cursor, place_of_cursor, step_of};
 ghost use Rattle.ac_c.specs.Find.{asked_by};
 
 use crate::find::{Bounds, input_of};
@@ -117,7 +117,7 @@ fn step_counted(
 fn fill<W: Walking>(matches: &mut W, out: &mut [Found], steps: &mut Steps) -> usize
     requires { IsAccounted W.ahead (W.walk matches.old) }
     ensures given { AreGiven (left_of (W.walk matches.old)) out.old out.new result }
-    ensures rest { left_of (W.walk matches.new) ≡ drop result (left_of (W.walk matches.old)) }
+    ensures past { IsWalkPast result (W.walk matches.old) (W.walk matches.new) }
     ensures cost { WalksTo W.ahead (W.walk matches.old) (W.walk matches.new) steps.old steps.new }
 {
     for at in 0..out.len() {

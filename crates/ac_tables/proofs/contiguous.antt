@@ -15,6 +15,7 @@ pub mod NameLemmas
 pub mod NearCopyLemmas
 pub mod NearFillLemmas
 pub mod NearLemmas
+pub mod NearPlacesLemmas
 pub mod NoteRowLemmas
 pub mod PackedLemmas
 pub mod PassingLemmas

@@ -53,7 +53,7 @@ mod states;
 mod table;
 mod words;
 
-ghost use Rattle.std.specs.Prelude.{◌≡◌, IfSome};
+ghost use Rattle.std.specs.Prelude.{◌≡◌, None, IfSome, IsTrue, is_some};
 ghost use Rattle.std.proofs.Props.{props};
 ghost use Rattle.ac_input.specs.Dictionary.{dictionary_of};
 ghost use Rattle.ac_input.specs.Limits.{IsWithinLimits};
@@ -94,6 +94,8 @@ pub struct NFA {
     max_special: StateID,
     /// Bytes that no pattern has; each shares its class with another.
     unused: ByteSet,
+    /// Whether it reads ahead of a search.
+    lanes: bool,
     prefilter: Option<Prefilter>,
     pairing: Pairing,
     kind: MatchKind,
@@ -110,7 +112,7 @@ pub struct NFA {
 }
 
 impl NFA {
-    ghost use Rattle.ac_tables.specs.Contiguous.Reads.{IsContiguousMadeOf};
+    ghost use Rattle.ac_tables.specs.Contiguous.Reads.{IsContiguousMadeOf, contiguous_dictionary};
 
     /// The automaton of these words, rows, patterns and settings.
     pub(crate) fn from_parts(
@@ -124,7 +126,8 @@ impl NFA {
     ) -> NFA
         requires parts { AreContiguousParts (dictionary_of lens pairing kind) table rows prefilter }
         requires opened { ∥ IfSome openings (AreOpenings (dictionary_of lens pairing kind)) ∥₁ }
-        ensures { IsContiguousMadeOf (dictionary_of lens pairing kind) table rows prefilter result }
+        ensures made { IsContiguousMadeOf (dictionary_of lens pairing kind) table rows prefilter result }
+        ensures alone { result.near ≡ None }
     {
         let max_special = last_special(&prefilter, table.start_anchored, table.max_match);
         let skips = Skips {
@@ -141,9 +144,27 @@ impl NFA {
             lens,
             max_special,
             unused,
+            lanes: false,
             prefilter,
             pairing,
             kind,
         }
+    }
+
+    /// Sets whether it reads ahead of a search.
+    fn set_lanes(&mut self, lanes: bool)
+        ensures made { IsContiguousMadeOf (contiguous_dictionary self.old) self.old.table self.old.rows self.old.prefilter
+            self.new }
+        ensures value { self.new.lanes ≡ lanes }
+        ensures near { self.new.near ≡ self.old.near }
+    {
+        self.lanes = lanes;
+    }
+
+    /// Whether it pays to read ahead: there are rows for all states, and nothing passes bytes faster than several walks read them.
+    fn pays_for_lanes(&self) -> bool
+        ensures { IsTrue result → IsTrue (is_some self.now.rows) }
+    {
+        self.rows.is_some() && !self.skips.pass_many(self.lens.len())
     }
 }

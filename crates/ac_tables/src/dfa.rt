@@ -39,7 +39,7 @@ mod lists;
 pub(crate) mod numbers;
 mod table;
 
-ghost use Rattle.std.specs.Prelude.{◌≡◌, IfOk, IfSome};
+ghost use Rattle.std.specs.Prelude.{◌≡◌, false, IfOk, IfSome};
 ghost use Rattle.std.proofs.Props.{props};
 ghost use Rattle.ac_input.specs.Dictionary.{dictionary_of};
 ghost use Rattle.ac_input.specs.Pairing.{IsPairing};
@@ -75,6 +75,8 @@ pub struct DFA {
     max_special: StateID,
     /// Bytes that no pattern has; each shares its class with another.
     unused: ByteSet,
+    /// Whether it reads ahead of a search.
+    lanes: bool,
     prefilter: Option<Prefilter>,
     pairing: Pairing,
     kind: MatchKind,
@@ -90,7 +92,7 @@ pub struct DFA {
 
 impl DFA {
     ghost use Rattle.ac_tables.specs.Dfa.Builder.{IsDfaCopy, states_in};
-    ghost use Rattle.ac_tables.specs.Dfa.Reads.{IsDfaMadeOf};
+    ghost use Rattle.ac_tables.specs.Dfa.Reads.{IsDfaMadeOf, dfa_dictionary};
 
     /// The automaton of this table, these patterns and settings.
     pub(crate) fn from_parts(
@@ -103,7 +105,7 @@ impl DFA {
     ) -> DFA
         requires parts { AreDfaParts (dictionary_of lens pairing kind) table prefilter }
         requires opened { ∥ IfSome openings (AreOpenings (dictionary_of lens pairing kind)) ∥₁ }
-        ensures { IsDfaMadeOf (dictionary_of lens pairing kind) table prefilter result }
+        ensures { IsDfaMadeOf (dictionary_of lens pairing kind) table prefilter false result }
     {
         let max_special = last_special(&prefilter, table.start_anchored, table.max_match);
         let skips = Skips {
@@ -118,10 +120,18 @@ impl DFA {
             lens,
             max_special,
             unused,
+            lanes: false,
             prefilter,
             pairing,
             kind,
         }
+    }
+
+    /// Sets whether it reads ahead of a search.
+    fn set_lanes(&mut self, lanes: bool)
+        ensures { IsDfaMadeOf (dfa_dictionary self.old) self.old.table self.old.prefilter lanes self.new }
+    {
+        self.lanes = lanes;
     }
 
     /// The next states, a row for each state, and in it an entry for each class of bytes.
@@ -160,6 +170,8 @@ impl DFA {
         let lens = self.lens.clone(alloc)?;
         let prefilter = clone_prefilter(alloc, self.prefilter.as_ref())?;
         let openings = Openings::clone_any(alloc, &self.skips.openings)?;
-        Ok(DFA::from_parts(table, lens, prefilter, openings, self.pairing, self.kind))
+        let mut copy = DFA::from_parts(table, lens, prefilter, openings, self.pairing, self.kind);
+        copy.set_lanes(self.lanes);
+        Ok(copy)
     }
 }

@@ -1,1 +1,2 @@
 pub mod FileRunLemmas
+pub mod FoldLemmas

@@ -5,7 +5,7 @@ use Rattle.ac_automaton.specs.declared.stream.devices.watched.Watched.{Watched}
 use Rattle.aho_corasick.specs.declared.ahocorasick.AhoCorasick.{AhoCorasick}
 use Rattle.acsub.specs.Early.{IsUnready, as_early}
 use Rattle.acsub.specs.Finder.{IsServing}
-use Rattle.acsub.specs.Masked.{AnswersMask, AnswersMaskIn, IsMaskOf, IsMaskReady, mask_demand, mask_of}
+use Rattle.acsub.specs.Masked.{AnswersMask, AnswersMaskIn, IsMaskOf, IsMaskReady, LeavesNone, mask_demand, mask_of}
 use Rattle.acsub.specs.Plan.{plan_of}
 use Rattle.acsub.specs.Run.{IsPrepared, Prepares, RanIn, RanRules}
 use Rattle.acsub.specs.Tally.{Counts, plan_matches, plan_words}
@@ -97,6 +97,12 @@ module _ {R W : Type 0} (remaining : R → Option (List ℕ)) (contents : W → 
   RanInputIn holds None true stream settings result = AnswersWordRunIn remaining contents old new holds settings result
   RanInputIn holds (Some byte) word stream settings result =
       AnswersMaskIn remaining contents old new holds settings (mask_of byte word) result
+
+-- where the job masks, no pattern occurs in what was written since
+abbrev pub MasksCleanly : {W : Type 0} → Job → Watched W → Watched W → Type 0
+MasksCleanly (jobs.Mask prepared) before after =
+    LeavesNone prepared.mask prepared.settings prepared.rules.now before after
+MasksCleanly other before after = Unit {0}
 
 -- the tally has grown by as many matches as the job found, or words; a mask counts nothing
 abbrev pub CountsJob : {R : Type 0} → Job → Watched R → Watched R → Tally → Tally → Type 0

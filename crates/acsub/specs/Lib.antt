@@ -16,3 +16,9 @@ pub mod Plan
 pub mod Tally
 pub mod Jobs
 pub mod Files
+pub mod Visits
+pub mod Swap
+pub mod Comparing
+pub mod InPlace
+pub mod Labelled
+pub mod Folds

@@ -1,5 +1,5 @@
 -- What the program did, by its outcome.
-use Rattle.std.specs.Prelude.{◌≡◌, ◌↔◌, ℕ, ◌+◌, true, false, List, [], ◌⊎◌, Option, IfSome, Result, Ok, Err, String, Vec, map, string_bytes}
+use Rattle.std.specs.Prelude.{◌≡◌, ◌↔◌, ℕ, ◌+◌, ◌==◌, ◌&&◌, if◌then◌else◌, true, false, List, [], ◌++◌, ◌⊎◌, Option, None, Some, IfSome, OnOk, Result, Ok, Err, String, Vec, codes, decimal, map, string_bytes}
 use Rattle.std.specs.Io.KnownBytes.{Keeps}
 use Rattle.ac_input.specs.Rules.{Rule}
 use Rattle.std.specs.IoError.{error_kind}
@@ -23,11 +23,15 @@ use Rattle.acsub.specs.declared.args.Words.{Words}
 use Rattle.acsub.specs.declared.args.WordsFault.{WordsFault}
 use Rattle.acsub.specs.declared.args.WordsFault.TheVariants.{Help, Bad, Memory, Pairing}
 use Rattle.acsub.specs.Given.{form_wanted, given_file}
+use Rattle.acsub.specs.Files.{IsJobOf}
 use Rattle.acsub.specs.Jobs.{RanInput, RanInputIn}
 use Rattle.acsub.specs.Rules.File.{grammar_of}
 use Rattle.acsub.specs.Stream.{IsReturnedAs}
 use Rattle.acsub.specs.Tool.{IsFaultOf, early_fault, exit_of, status_of}
+use Rattle.acsub.specs.Visits.{CountsWhole}
 use Rattle.acsub.specs.Args.Words.{Reads}
+use Rattle.acsub.specs.declared.job.Job.{Job}
+use Rattle.acsub.specs.declared.tally.Tally.{Tally}
 
 -- ---- the rule file
 
@@ -105,6 +109,17 @@ module _ {R W : Type 0} (remaining : R → Option (List ℕ)) (contents : W → 
       RanInputIn remaining contents old new ((grammar_of (form_wanted asked)).holds file) asked.mask asked.word asked.stream
       asked.settings
 
+-- the matches of the run that was asked for were counted, by these rules
+abbrev pub CountsByRules : {R : Type 0} → Words → List Rule → Watched R → Watched R → Tally → Tally → Type 0
+CountsByRules asked rules reader_before reader_after before after =
+    (job : Job) × IsJobOf asked rules job × CountsWhole job reader_before reader_after before after
+
+-- the same by the bytes of the rules, from nothing on
+abbrev pub CountsByFile : {R : Type 0} → Words → List ℕ → Watched R → Watched R → Tally → Type 0
+CountsByFile asked file reader_before reader_after tally =
+    (rules : List Rule) × (grammar_of (form_wanted asked)).holds file rules
+    × (none : Tally) × (none.found ≡ 0) × CountsByRules asked rules reader_before reader_after none tally
+
 -- the result of a run as an outcome of the program
 abbrev pub told_as : Result (Unit {0}) EarlyError → Result (Unit {0}) Fault
 told_as (Ok done) = Ok done
@@ -125,13 +140,14 @@ ReadsRuleText held asked (Err fault) = (fault ≡ faults.RuleFile) ⊎ (fault �
 -- The rules have these bytes, in the form that was asked for, and a run by them returned this result. The first bad
 -- line is reported whatever memory does.
 pub record RanFile {F R W : Type 0} (held : F → Option (List ℕ)) (remaining : R → Option (List ℕ))
-    (contents : W → Option (List ℕ)) (asked : Words) (old new : Watched R × Watched W)
+    (contents : W → Option (List ℕ)) (asked : Words) (old new : Watched R × Watched W) (tally : Tally)
     (answer : Result (Unit {0}) Fault) : Type 0 where
   pub file : List ℕ
   pub is_file : IsRuleText held asked asked.source file
   pub result : Result (Unit {0}) EarlyError
   pub told : answer ≡ told_as result
   pub ran : RanByFile remaining contents asked old new file result
+  pub counts : OnOk result (CountsByFile asked file old.0 new.0 tally)
   pub fault : (n : ℕ)
       → (result ≡ Err (early.Run (errors.Rule (rule_errors.Line n)))) ↔ (grammar_of (form_wanted asked)).bad file n
 
@@ -140,41 +156,54 @@ pub record HasOneInput (asked : Words) : Type 0 where
   pub files : asked.files.items ≡ []
   pub check : asked.check ≡ false
 
--- the status for an outcome: 1 in the place of 0 only where that is asked for
-abbrev pub IsStatusOf : Words → Result (Unit {0}) Fault → ℕ → Type 0
-IsStatusOf asked (Ok done) status = (status ≡ 0) ⊎ ((status ≡ 1) × (asked.fail_if_none ≡ true))
-IsStatusOf asked (Err fault) status = status ≡ status_of fault
+-- the status where no fault ended the runs, by how much was found and the status of what could not be read or written: 1
+-- in the place of 0 only where nothing was found, and that is asked for
+abbrev pub concluded : Words → ℕ → ℕ → ℕ
+concluded asked found status =
+    if asked.check then status else (if ((status == 0) && asked.fail_if_none) && (found == 0) then 1 else status)
 
--- the status where no fault ended the runs, by the status of what could not be read or written
-pub record IsConcluded (asked : Words) (status ended : ℕ) : Type 0 where
-  pub fault : ended ≡ 0 → status ≡ 0
-  pub alone : status ≡ 0 → IsStatusOf asked (Ok tt) ended
+-- the status for an outcome of one run
+abbrev pub status_for : Words → ℕ → Result (Unit {0}) Fault → ℕ
+status_for asked found (Ok done) = concluded asked found 0
+status_for asked found (Err fault) = status_of fault
+
+-- what is counted: matches, or the bytes of a mask
+abbrev pub found_text : Option ℕ → ℕ → List ℕ
+found_text None found = if found == 1 then codes "match" else codes "matches"
+found_text (Some mask) found = if found == 1 then codes "masked byte" else codes "masked bytes"
+
+-- the line that says how much was found
+abbrev pub count_line : Option ℕ → ℕ → List ℕ
+count_line mask found = codes "acsub: " ++ decimal found ++ codes " " ++ found_text mask found ++ codes "\n"
 
 module _ {F R W : Type 0} (held : F → Option (List ℕ)) (remaining : R → Option (List ℕ))
     (contents : W → Option (List ℕ)) (old new : Watched R × Watched W) where
   module _ (asked : Words) where
-    -- A run by the rules returned this result; then the writer was flushed, and this many flushes failed.
-    abbrev pub RanAndFlushed : Result (Unit {0}) Fault → ℕ → Type 0
-    RanAndFlushed answer failed =
-        (between : Watched W) × RanFile held remaining contents asked old (new.0, between) answer
-        × Flushes contents between new.1 failed
+    module _ (tally : Tally) where
+      -- A run by the rules returned this result; then the writer was flushed, and this many flushes failed.
+      abbrev pub RanAndFlushed : Result (Unit {0}) Fault → ℕ → Type 0
+      RanAndFlushed answer failed =
+          (between : Watched W) × RanFile held remaining contents asked old (new.0, between) tally answer
+          × Flushes contents between new.1 failed
 
-    -- what each outcome means where a run over standard input was asked for
-    abbrev pub AnswersFile : Result (Unit {0}) Fault → Type 0
-    AnswersFile (Ok done) = RanAndFlushed (Ok tt) 0
-    AnswersFile (Err faults.Words) = ⊥
-    AnswersFile (Err (faults.Pairs e)) = ⊥
-    AnswersFile (Err faults.RuleFile) = new ≡ old
-    AnswersFile (Err (faults.Refused r)) =
-        RanAndFlushed (Err (faults.Refused r)) 0 ⊎ RanAndFlushed (Err (faults.Refused r)) 1
-    AnswersFile (Err (faults.Run e)) =
-        RanAndFlushed (Err (faults.Run e)) 0 ⊎ RanAndFlushed (Err (faults.Run e)) 1
-        ⊎ ((e ≡ errors.Memory) × (new ≡ old))
-    AnswersFile (Err faults.Flush) = RanAndFlushed (Ok tt) 1
+      -- what each outcome means where a run over standard input was asked for
+      abbrev pub AnswersFile : Result (Unit {0}) Fault → Type 0
+      AnswersFile (Ok done) = RanAndFlushed (Ok tt) 0
+      AnswersFile (Err faults.Words) = ⊥
+      AnswersFile (Err (faults.Pairs e)) = ⊥
+      AnswersFile (Err faults.RuleFile) = new ≡ old
+      AnswersFile (Err (faults.Refused r)) =
+          RanAndFlushed (Err (faults.Refused r)) 0 ⊎ RanAndFlushed (Err (faults.Refused r)) 1
+      AnswersFile (Err (faults.Run e)) =
+          RanAndFlushed (Err (faults.Run e)) 0 ⊎ RanAndFlushed (Err (faults.Run e)) 1
+          ⊎ ((e ≡ errors.Memory) × (new ≡ old))
+      AnswersFile (Err faults.Flush) = RanAndFlushed (Ok tt) 1
 
     -- what the status means where a run over standard input was asked for
     abbrev pub EndsOne : ℕ → Type 0
-    EndsOne status = (outcome : Result (Unit {0}) Fault) × IsStatusOf asked outcome status × AnswersFile outcome
+    EndsOne status =
+        (tally : Tally) × (outcome : Result (Unit {0}) Fault) × (status ≡ status_for asked tally.found outcome)
+        × AnswersFile tally outcome
 
     -- what the status means: nothing is said where FILEs are run over, or a report was asked for
     abbrev pub EndsAsked : ℕ → Type 0

@@ -131,7 +131,7 @@ sequence_of modes.Overlap = AllWords
 abbrev pub looks_for_words : Settings → List Rule → List ℕ → ℕ
 looks_for_words settings rules x =
     length x
-    + read_again (dictionary_for settings rules) (length x)
+    + read_again (dictionary_for settings rules) 0
     (length (items_of (sequence_of settings.mode) (dictionary_for settings rules) x))
 
 -- what it costs, by the bytes that it read

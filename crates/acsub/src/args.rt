@@ -45,7 +45,7 @@ static ENGINES: [&str; 5] = ["auto", "noncontiguous", "contiguous", "dfa", "pack
 const MOST_DEPTH: u64 = GREATEST as u64;
 
 /// Where the rules are.
-#[derive(Clone, Copy, Debug, PartialEq, Eq)]
+#[derive(Clone, Copy)]
 pub enum Source<'a> {
     /// In the file at this path.
     File(&'a str),
@@ -102,7 +102,7 @@ impl Words<'_> {
 }
 
 /// Why a command line asks for no run.
-#[derive(Debug, Drop)]
+#[derive(Drop)]
 pub enum WordsFault {
     /// Help or the version was asked for. The error is its text: `print` shows it.
     Help(clap::Error),
@@ -659,6 +659,3 @@ fn two_by_two(alloc: Global, bytes: &[u8]) -> Result<Vec<(u8, u8)>, AllocError>
     }
     Ok(pairs)
 }
-
-#[cfg(test)]
-mod tests;

@@ -7,7 +7,7 @@ use std::error::Error;
 use std::fmt;
 
 /// Why rules don't suit such a run, which the settings fit.
-#[derive(Clone, Copy, Debug, PartialEq, Eq)]
+#[derive(Clone, Copy, Debug)]
 pub enum Refusal {
     /// A pattern is empty. It covers no byte, so nothing would come of it in a mask.
     EmptyMasked,
@@ -53,7 +53,7 @@ impl fmt::Display for Refusal {
 impl Error for Refusal {}
 
 /// Why such a run stopped.
-#[derive(Debug, Drop)]
+#[derive(Drop)]
 pub enum EarlyError {
     /// The rules don't suit it.
     Refused(Refusal),

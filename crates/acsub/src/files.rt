@@ -3,9 +3,13 @@
 //! The job is made once, and each FILE is an input of its own: it is opened, run over and closed before the next. A FILE that can't be
 //! read is named on the error stream, and the others go on. What else stops a run ends them all. The FILE `-` is standard input; a
 //! second `-` is empty, since nothing is read after its end.
-ghost use Rattle.std.specs.Prelude.{◌≡◌, ◌<◌, OnOk, false};
-ghost use Rattle.acsub.specs.Jobs.{IsJobReady, RanJob};
-ghost use Rattle.acsub.specs.Files.{RanOne, VisitsFile, file_status, stop_for};
+ghost use Rattle.std.specs.Prelude.{◌≡◌, ◌<◌, OnOk, Some, false};
+ghost use Rattle.std.specs.Io.KnownBytes.{Appends};
+ghost use Rattle.clap.specs.Walk.{texts};
+ghost use Rattle.acsub.specs.Jobs.{IsJobReady};
+ghost use Rattle.acsub.specs.Files.{file_status, stop_for};
+ghost use Rattle.acsub.specs.Folds.{IsBlank, Notes, RunsAll, RunsFiles, Visits, fault_line, labels};
+ghost use Rattle.acsub.specs.Visits.{IsFoundBy, RunsJob, RunsOne, RunsPath, VisitsFile};
 
 use crate::args::Words;
 use crate::args::settings::Mode;
@@ -14,12 +18,14 @@ use crate::in_place::rewrite;
 use crate::job::Job;
 use crate::labelled::Labelled;
 use crate::rules::Rules;
+use crate::swap::Swap;
 use crate::tally::Tally;
 use crate::task::Task;
 use crate::tool::Fault;
+use ac_automaton::output::Output;
 use ac_automaton::watched::Watched;
 use std::fmt::Display;
-use std::io::{Read, Write};
+use std::io::{self, Read, Write, empty};
 use std::rt::Files;
 use std::time::Clock;
 use std::{fmt, fs};
@@ -53,6 +59,10 @@ impl FileFault {
 }
 
 impl Display for FileFault {
+    ghost use Rattle.acsub.specs.Folds.{file_text};
+
+    ghost output = { λ fault. Some (file_text fault) };
+
     fn fmt<W: fmt::Write>(&self, f: &mut fmt::Formatter<W>) -> fmt::Result {
         match self {
             FileFault::Unreadable => write!(f, "cannot be read"),
@@ -96,16 +106,19 @@ pub struct Report {
     pub tally: Tally,
     /// The status of the first FILE that could not be read or written; 0 where there is none.
     pub status: u8,
+    /// How new files took the place of others.
+    pub swap: Swap,
 }
 
 impl Report {
     /// Nothing was run over yet.
     pub fn new() -> Report
-        ensures { result.status ≡ 0 }
+        ensures { IsBlank result }
     {
         Report {
             tally: Tally::new(),
             status: 0,
+            swap: Swap::none(),
         }
     }
 }
@@ -120,11 +133,41 @@ pub fn run_files<F: Files + Clock + Drop + Eprint, R: Read, W: Write, E: Write>(
     report: &mut Report,
 ) -> Result<(), Fault>
     requires { report.old.status ≡ 0 }
-    ensures { OnOk result (report.new.status ≡ 0 → errors.new ≡ errors.old) }
+    ensures ran { RunsFiles F F.File.remaining F.File.contents R.remaining W.contents task.now.asked.now rules.now
+        (reader.old, writer.old, errors.old, report.old) (reader.new, writer.new, errors.new, report.new) result }
+    ensures quiet { OnOk result (report.new.status ≡ 0 → errors.new ≡ errors.old) }
 {
     let job = task.job(rules)?;
-    for path in task.asked.files.as_slice() {
-        let visited = visit(task, &job, path, reader, writer, &mut report.tally);
+    visit_all(
+        task,
+        &job,
+        task.asked.files.as_slice(),
+        reader,
+        writer,
+        errors,
+        report,
+    )
+}
+
+/// Visits FILEs, one after another.
+fn visit_all<F: Files + Clock + Drop + Eprint, R: Read, W: Write, E: Write>(
+    task: &Task<'_, '_, '_, F>,
+    job: &Job<'_>,
+    paths: &[&str],
+    reader: &mut Watched<R>,
+    writer: &mut Watched<W>,
+    errors: &mut E,
+    report: &mut Report,
+) -> Result<(), Fault>
+    requires ready { IsJobReady job.now }
+    requires fine { report.old.status ≡ 0 }
+    ensures ran { RunsAll F F.File.remaining F.File.contents R.remaining W.contents task.now.asked.now job.now
+        (texts paths.now) (reader.old, writer.old, errors.old, report.old)
+        (reader.new, writer.new, errors.new, report.new) result }
+    ensures quiet { OnOk result (report.new.status ≡ 0 → errors.new ≡ errors.old) }
+{
+    for path in paths {
+        let visited = visit(task, job, path, reader, writer, report);
         task.meter.stop();
         match visited {
             Ok(()) => {}
@@ -137,12 +180,19 @@ pub fn run_files<F: Files + Clock + Drop + Eprint, R: Read, W: Write, E: Write>(
 
 /// Names a FILE on the error stream, and keeps the status of the first.
 fn note<E: Write>(path: &str, fault: FileFault, errors: &mut E, report: &mut Report)
-    ensures { 0 < report.new.status }
+    ensures { Notes fault report.old report.new }
 {
-    let _ = writeln!(errors, "acsub: {path}: {fault}");
+    let _ = write_note(path, fault, errors);
     if report.status == 0 {
         report.status = fault.status();
     }
+}
+
+/// Writes the line of a FILE's fault.
+fn write_note<E: Write>(path: &str, fault: FileFault, errors: &mut E) -> io::Result<()>
+    ensures { OnOk result (Appends (E.contents errors.old) (E.contents errors.new) (fault_line path.now fault)) }
+{
+    writeln!(errors, "acsub: {path}: {fault}")
 }
 
 /// Rewrites a FILE, or writes what the job makes of it.
@@ -152,24 +202,33 @@ fn visit<F: Files + Clock + Drop + Eprint, R: Read, W: Write>(
     path: &str,
     reader: &mut Watched<R>,
     writer: &mut Watched<W>,
-    tally: &mut Tally,
+    report: &mut Report,
 ) -> Result<(), Stop>
     requires { IsJobReady job.now }
+    ensures { Visits F F.File.remaining F.File.contents R.remaining W.contents task.now.asked.now job.now path.now
+        (reader.old, writer.old, report.old) (reader.new, writer.new, report.new) result }
 {
     if task.asked.in_place {
-        rewrite(task, job, path, tally)
+        rewrite(task, job, path, &mut report.tally, &mut report.swap)
     } else if is_labelled(task.asked) {
-        let mut lines = Watched::new(Labelled::new(task.alloc, path, writer));
-        run_input(task, job, path, reader, &mut lines, tally)
+        let Ok(output) = Output::new(task.alloc) else {
+            return Err(Stop::All(Fault::Run(RunError::Memory)));
+        };
+        let mut lines = Watched::new(Labelled::new(output, path, writer));
+        run_input(task, job, path, reader, &mut lines, &mut report.tally)
     } else {
-        run_input(task, job, path, reader, writer, tally)
+        run_input(task, job, path, reader, writer, &mut report.tally)
     }
 }
 
 /// Whether each line is to have the path of its FILE.
-fn is_labelled(asked: &Words<'_>) -> bool {
-    let lists = asked.mask.is_none() && asked.settings.mode != Mode::Replace;
-    lists && asked.files.len() > 1
+fn is_labelled(asked: &Words<'_>) -> bool
+    ensures { result ≡ labels asked.now }
+{
+    match (asked.mask, asked.settings.mode) {
+        (None, Mode::List | Mode::Overlap) => asked.files.len() > 1,
+        _ => false,
+    }
 }
 
 /// Runs over standard input or a file, as the path says.
@@ -182,12 +241,14 @@ fn run_input<F: Files + Clock + Drop + Eprint, R: Read, W: Write>(
     tally: &mut Tally,
 ) -> Result<(), Stop>
     requires { IsJobReady job.now }
+    ensures { RunsPath F F.File.remaining R.remaining W.contents job.now path.now
+        (reader.old, writer.old, tally.old) (reader.new, writer.new, tally.new) result }
 {
     if path != "-" {
         return run_file(task, job, path, writer, tally);
     }
     if reader.ended() {
-        let mut nothing: Watched<&[u8]> = Watched::new(&[]);
+        let mut nothing = Watched::new(empty());
         return run_one(task, job, &mut nothing, writer, tally);
     }
     task.start_input();
@@ -203,7 +264,7 @@ fn run_file<F: Files + Clock + Drop + Eprint, W: Write>(
     tally: &mut Tally,
 ) -> Result<(), Stop>
     requires { IsJobReady job.now }
-    ensures { VisitsFile F F.File.remaining W.contents job.now writer.old writer.new result }
+    ensures { VisitsFile F F.File.remaining W.contents job.now (writer.old, tally.old) (writer.new, tally.new) result }
 {
     let Ok(file) = fs::open(task.rt(), path) else {
         return Err(Stop::File(FileFault::Unreadable));
@@ -225,7 +286,8 @@ fn run_one<F: Files + Clock + Drop + Eprint, R: Read, W: Write>(
 ) -> Result<(), Stop>
     requires open { reader.old.ended ≡ false }
     requires ready { IsJobReady job.now }
-    ensures { RanOne R.remaining W.contents (reader.old, writer.old) (reader.new, writer.new) job.now result }
+    ensures { RunsOne R.remaining W.contents job.now (reader.old, writer.old, tally.old)
+        (reader.new, writer.new, tally.new) result }
 {
     match run_over(task, job, reader, writer, tally) {
         Ok(()) => Ok(()),
@@ -233,7 +295,7 @@ fn run_one<F: Files + Clock + Drop + Eprint, R: Read, W: Write>(
     }
 }
 
-/// Runs over an input, and counts what is found.
+/// Runs over an input, and counts what is found. Of a run that stopped, what was found before is counted.
 pub fn run_over<F: Files + Clock + Drop + Eprint, R: Read, W: Write>(
     task: &Task<'_, '_, '_, F>,
     job: &Job<'_>,
@@ -243,14 +305,28 @@ pub fn run_over<F: Files + Clock + Drop + Eprint, R: Read, W: Write>(
 ) -> Result<(), RunError>
     requires open { reader.old.ended ≡ false }
     requires ready { IsJobReady job.now }
-    ensures { RanJob R.remaining W.contents (reader.old, writer.old) (reader.new, writer.new) job.now result }
+    ensures { RunsJob R.remaining W.contents job.now (reader.old, writer.old, tally.old)
+        (reader.new, writer.new, tally.new) result }
 {
     task.meter.watch_mask(task.counted_mask());
-    match job.run(task.alloc, reader, writer, tally) {
-        Ok(()) => {
-            tally.add(task.meter.masked());
-            Ok(())
-        }
-        Err(error) => Err(error),
+    let mut found = Tally::new();
+    let ran = job.run(task.alloc, reader, writer, &mut found);
+    let more = found_by(task, job, found.found(), ran.is_ok());
+    tally.add(more);
+    ran
+}
+
+/// How much a run found: so many matches, or the bytes that it masked, if it came to its end.
+fn found_by<F: Files + Clock + Drop + Eprint>(
+    task: &Task<'_, '_, '_, F>,
+    job: &Job<'_>,
+    found: u64,
+    is_whole: bool,
+) -> u64
+    ensures { IsFoundBy job.now found result }
+{
+    match job {
+        Job::Mask(_) if is_whole => task.meter.masked(),
+        _ => found,
     }
 }

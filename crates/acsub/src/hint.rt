@@ -298,6 +298,3 @@ fn has_lone_return(line: &[u8]) -> bool {
         None => false,
     }
 }
-
-#[cfg(test)]
-mod tests;

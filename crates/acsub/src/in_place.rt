@@ -8,30 +8,28 @@
 //! A file in which no byte changes is left alone. So the job first runs with a writer that compares its text with the file, up to the
 //! first byte that differs, and only then into a new file. A file is read up to three times, then, and its text is made up to twice;
 //! but nothing is created, and no folder is written to, for a file that stays as it is.
-ghost use Rattle.std.specs.Prelude.{IfOk, Ok, OnOk};
 ghost use Rattle.acsub.specs.Jobs.{IsJobReady};
-ghost use Rattle.acsub.specs.Files.{RanOverFile, WroteWhole, behind};
+ghost use Rattle.acsub.specs.InPlace.{Compares, CreatesIn, Fills, Places, ReplacesFile, Rewrites, WritesFile};
 
+use crate::comparing::{Comparing, PIECE};
 use crate::error::RunError;
 use crate::files::{FileFault, Stop, run_over, stop_for};
 use crate::job::Job;
 use crate::progress::Metered;
+use crate::steps::{create, keep_owner, permit, rename, sync};
+use crate::swap::Swap;
 use crate::tally::Tally;
 use crate::task::Task;
 use crate::tool::Fault;
 use ac_automaton::watched::Watched;
 use std::alloc::AllocError;
-use std::fs::{self, Metadata, OpenFile, OpenOptions};
-use std::io::{self, ErrorKind, Read, Write};
-use std::os::unix::fs::{MetadataExt, OpenOptionsExt, lchown};
+use std::fs::{self, Metadata, OpenFile};
+use std::io::{self, ErrorKind};
 use std::rt::Files;
 use std::time::Clock;
 
 /// How many names are tried for a new file.
 const NAMES: usize = 1000;
-
-/// How many bytes are compared at once.
-const PIECE: usize = 1 << 16;
 
 /// Rewrites a file, unless no byte changes.
 pub fn rewrite<F: Files + Clock + Drop + Eprint>(
@@ -39,8 +37,10 @@ pub fn rewrite<F: Files + Clock + Drop + Eprint>(
     job: &Job<'_>,
     path: &str,
     tally: &mut Tally,
+    swap: &mut Swap,
 ) -> Result<(), Stop>
     requires { IsJobReady job.now }
+    ensures { Rewrites F F.File.remaining F.File.contents job.now (tally.old, swap.old) (tally.new, swap.new) result }
 {
     if path == "-" {
         return Err(Stop::File(FileFault::NotRegular));
@@ -55,11 +55,11 @@ pub fn rewrite<F: Files + Clock + Drop + Eprint>(
         Ok(_) => return Err(Stop::File(FileFault::NotRegular)),
         Err(error) => return Err(unreadable(&error)),
     }
-    if let Some(same) = found_in_unchanged(task, job, target)? {
-        tally.add(same);
-        return Ok(());
+    if compare(task, job, target, tally)? {
+        Ok(())
+    } else {
+        replace_file(task, job, target, tally, swap)
     }
-    replace_file(task, job, target, tally)
 }
 
 /// Why a file can't be read: memory ran out, or anything else.
@@ -87,61 +87,30 @@ impl From<AllocError> for Stop {
 
 // ---- whether a byte changes
 
-/// A writer that compares what it takes with a file, and refuses the first bytes that differ.
-#[derive(Drop)]
-struct Comparing<F> {
-    file: F,
-    piece: Vec<u8>,
-    /// Whether some bytes differed.
-    differs: bool,
-}
-
-impl<F: Read> Comparing<F> {
-    /// Whether all that was taken is what the file has.
-    fn is_same(&mut self) -> bool {
-        !self.differs && matches!(self.file.read(self.piece.as_mut_slice()), Ok(0))
-    }
-}
-
-impl<F: Read> Write for Comparing<F> {
-    fn write(&mut self, buf: &[u8]) -> io::Result<usize> {
-        let n = buf.len().min(self.piece.len());
-        let piece = &mut self.piece.as_mut_slice()[..n];
-        let read = self.file.read_exact(piece);
-        if read.is_err() || &*piece != &buf[..n] {
-            self.differs = true;
-            return Err(io::Error::from(ErrorKind::Other));
-        }
-        Ok(n)
-    }
-
-    fn flush(&mut self) -> io::Result<()> {
-        Ok(())
-    }
-}
-
-/// How much is found in a file of which no byte changes; none where one does.
-fn found_in_unchanged<F: Files + Clock + Drop + Eprint>(
+/// Whether the job changes no byte of a file. Then what it found is counted.
+fn compare<F: Files + Clock + Drop + Eprint>(
     task: &Task<'_, '_, '_, F>,
     job: &Job<'_>,
     target: &str,
-) -> Result<Option<u64>, Stop>
+    tally: &mut Tally,
+) -> Result<bool, Stop>
     requires { IsJobReady job.now }
+    ensures { Compares F F.File.remaining job.now tally.old tally.new result }
 {
-    let mut found = Tally::new();
+    let mut found = *tally;
     let input = open(task.rt(), target)?;
     task.start_file(&input);
     let mut input = task.watch(input)?;
-    let mut output = Watched::new(Comparing {
-        file: open(task.rt(), target)?,
-        piece: vec![in task.alloc; 0; PIECE]?,
-        differs: false,
-    });
-    let ran = job.run(task.alloc, &mut input, &mut output, &mut found);
+    let piece = vec![in task.alloc; 0; PIECE]?;
+    let mut output = Watched::new(Comparing::new(piece, open(task.rt(), target)?));
+    let ran = run_over(task, job, &mut input, &mut output, &mut found);
     let mut compared = output.into_inner();
     match ran {
-        Ok(()) if compared.is_same() => Ok(Some(found.found())),
-        Ok(()) | Err(RunError::Write(_) | RunError::WriteZero) => Ok(None),
+        Ok(()) if compared.is_same() => {
+            *tally = found;
+            Ok(true)
+        }
+        Ok(()) | Err(RunError::Write(_) | RunError::WriteZero) => Ok(false),
         Err(error) => Err(stop_for(error)),
     }
 }
@@ -154,15 +123,17 @@ fn replace_file<F: Files + Clock + Drop + Eprint>(
     job: &Job<'_>,
     target: &str,
     tally: &mut Tally,
+    swap: &mut Swap,
 ) -> Result<(), Stop>
     requires { IsJobReady job.now }
+    ensures { ReplacesFile F F.File.remaining F.File.contents job.now (tally.old, swap.old) (tally.new, swap.new) result }
 {
     let folder = match target.rsplit_once('/') {
         Some((folder, _)) => folder,
         None => ".",
     };
-    let (new, file) = create_in(task, folder)?;
-    match fill(task, job, target, new.as_str(), file, tally) {
+    let (new, file) = create_in(task, folder, swap)?;
+    match fill(task, job, target, new.as_str(), file, tally, swap) {
         Ok(_) => {
             sync_folder(task, folder);
             Ok(())
@@ -178,12 +149,13 @@ fn replace_file<F: Files + Clock + Drop + Eprint>(
 fn create_in<F: Files + Clock + Drop + Eprint>(
     task: &Task<'_, '_, '_, F>,
     folder: &str,
-) -> Result<(String, F::File), Stop> {
-    let mut how = OpenOptions::new();
-    how.write(true).create_new(true).mode(0o600);
+    swap: &mut Swap,
+) -> Result<(String, F::File), Stop>
+    ensures { CreatesIn swap.old swap.new result }
+{
     for n in 0..NAMES {
         let path = format!(in task.alloc; "{folder}/.acsub-{n}")?;
-        match how.open(task.rt(), path.as_str()) {
+        match create(task.rt(), path.as_str(), swap) {
             Ok(file) => return Ok((path, file)),
             Err(error) if error.kind() == ErrorKind::AlreadyExists => {}
             Err(_) => break,
@@ -201,9 +173,10 @@ fn fill<F: Files + Clock + Drop + Eprint>(
     new: &str,
     file: F::File,
     tally: &mut Tally,
+    swap: &mut Swap,
 ) -> Result<F::File, Stop>
     requires { IsJobReady job.now }
-    ensures { IfOk result (WroteWhole F F.File.remaining F.File.contents job.now file) }
+    ensures { Fills F F.File.remaining F.File.contents job.now file (tally.old, swap.old) (tally.new, swap.new) result }
 {
     let input = open(task.rt(), target)?;
     let Ok(about) = input.metadata() else {
@@ -214,13 +187,9 @@ fn fill<F: Files + Clock + Drop + Eprint>(
     let written = write_text(task, job, input, &mut output, tally);
     written?;
     let file = output.into_inner().into_inner();
-    give(task, &about, new, &file)?;
-    match file
-        .sync_all()
-        .and_then(|()| fs::rename(task.rt(), new, target))
-    {
+    match place(task, &about, new, &file, target, swap) {
         Ok(()) => Ok(file),
-        Err(_) => Err(Stop::File(FileFault::Unwritable)),
+        Err(fault) => Err(Stop::File(fault)),
     }
 }
 
@@ -233,7 +202,7 @@ fn write_text<F: Files + Clock + Drop + Eprint>(
     tally: &mut Tally,
 ) -> Result<(), Stop>
     requires { IsJobReady job.now }
-    ensures { OnOk result (RanOverFile F F.File.remaining (behind F.File.contents) job.now output.old output.new (Ok tt)) }
+    ensures { WritesFile F F.File.remaining F.File.contents job.now (output.old, tally.old) (output.new, tally.new) result }
 {
     let mut input = task.watch(input)?;
     match run_over(task, job, &mut input, output, tally) {
@@ -243,35 +212,33 @@ fn write_text<F: Files + Clock + Drop + Eprint>(
     }
 }
 
-/// Gives the new file the old one's owner and permissions.
-fn give<F: Files + Clock + Drop + Eprint>(
+/// Gives the new file the old one's owner and permissions, and then its name.
+fn place<F: Files + Clock + Drop + Eprint>(
     task: &Task<'_, '_, '_, F>,
     about: &Metadata,
     new: &str,
     file: &F::File,
-) -> Result<(), Stop> {
+    target: &str,
+    swap: &mut Swap,
+) -> Result<(), FileFault>
+    ensures { Places swap.old swap.new result }
+{
     let Ok(own) = file.metadata() else {
-        return Err(Stop::File(FileFault::Unwritable));
+        return Err(FileFault::Unwritable);
     };
-    let user = if own.uid() == about.uid() {
-        None
-    } else {
-        Some(about.uid())
-    };
-    let group = if own.gid() == about.gid() {
-        None
-    } else {
-        Some(about.gid())
-    };
-    if user.is_some() || group.is_some() {
-        if lchown(task.rt(), new, user, group).is_err() {
-            return Err(Stop::File(FileFault::Owner));
-        }
+    if keep_owner(task.rt(), new, &own, about, swap).is_err() {
+        return Err(FileFault::Owner);
     }
-    if fs::set_permissions(task.rt(), new, about.permissions()).is_err() {
-        return Err(Stop::File(FileFault::Unwritable));
+    if permit(task.rt(), new, about, swap).is_err() {
+        return Err(FileFault::Unwritable);
     }
-    Ok(())
+    if sync(file, swap).is_err() {
+        return Err(FileFault::Unwritable);
+    }
+    match rename(task.rt(), new, target, swap) {
+        Ok(()) => Ok(()),
+        Err(_) => Err(FileFault::Unwritable),
+    }
 }
 
 /// Makes the new name last. The file has its place already, so a failure is no fault.

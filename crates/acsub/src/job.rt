@@ -3,7 +3,7 @@
 //! The settings are checked and the automaton is built before the first input is read. A job that can't be made has touched
 //! nothing.
 ghost use Rattle.std.specs.Prelude.{◌≡◌, false, IfErr, IfNone, IfOk, IfSome, OnOk};
-ghost use Rattle.acsub.specs.Jobs.{CountsJob, IsAutomatonOf, IsJobFor, IsJobReady, IsNoJob, LendsNone, RanJob};
+ghost use Rattle.acsub.specs.Jobs.{CountsJob, IsAutomatonOf, IsJobFor, IsJobReady, IsNoJob, LendsNone, MasksCleanly, RanJob};
 
 use crate::args::settings::Settings;
 use crate::early::EarlyError;
@@ -70,6 +70,7 @@ impl<'r> Job<'r> {
     }
 
     /// Reads an input to its end, and writes what the job makes of it. Counts the matches, or the whole words; a mask counts nothing.
+    /// After a mask no pattern occurs in what was written, or no whole word, where they alone are masked and the mask is a word byte.
     pub fn run<R: Read, W: Write>(
         &self,
         alloc: Global,
@@ -80,6 +81,7 @@ impl<'r> Job<'r> {
         requires open { reader.old.ended ≡ false }
         requires ready { IsJobReady self.now }
         ensures ran { RanJob R.remaining W.contents (reader.old, writer.old) (reader.new, writer.new) self.now result }
+        ensures clean { OnOk result (MasksCleanly self.now writer.old writer.new) }
         ensures counts { OnOk result (CountsJob self.now reader.old reader.new tally.old tally.new) }
     {
         let mut steps = Steps::new();

@@ -63,6 +63,3 @@ fn put_number(bytes: &mut [u8], end: usize, number: usize, last: u8) -> usize
     bytes[end - 1] = last;
     write_digits(number as u64, bytes, end - 1)
 }
-
-#[cfg(test)]
-mod tests;

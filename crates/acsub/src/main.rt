@@ -7,6 +7,7 @@
 
 mod args;
 mod check;
+mod comparing;
 mod early;
 mod error;
 mod files;
@@ -24,9 +25,9 @@ mod progress;
 mod rewrite;
 mod rules;
 mod run;
-#[cfg(test)]
-mod scripted;
+mod steps;
 mod stream;
+mod swap;
 mod tally;
 mod task;
 mod tool;

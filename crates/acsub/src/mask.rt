@@ -9,22 +9,17 @@
 //!
 //! It always writes while it reads. Before each read it has written everything but the last bytes that may still be covered: fewer
 //! than the longest pattern has. It takes memory for what is built of the rules, and for one buffer.
-ghost use Rattle.std.specs.Prelude.{◌≡◌, ◌↔◌, ℕ, IsTrue, OnOk, IfOk, IfErr, Err, false};
+ghost use Rattle.std.specs.Prelude.{◌≡◌, ◌↔◌, IsTrue, OnOk, IfOk, IfErr, false};
 ghost use Rattle.ac_automaton.specs.Stream.Overlapping.{AcceptsListing};
 ghost use Rattle.aho_corasick.specs.AhoCorasick.{as_built, supported_by};
 ghost use Rattle.acsub.specs.Early.{IsUnready, as_early};
-ghost use Rattle.acsub.specs.Masked.{AnswersMask, AnswersMaskIn, CostsMaskRun, CostsMasking, IsInNoPattern, IsMaskOf, IsMaskReady, IsMaskable, LeavesNone, MasksBy, NotMaskable, mask_demand};
-ghost use Rattle.acsub.specs.Rules.File.{grammar_of};
-ghost use Rattle.acsub.specs.declared.error.RunError.TheVariants.{Rule};
-ghost use Rattle.acsub.specs.declared.early.EarlyError.TheVariants.{Run};
-ghost use Rattle.acsub.specs.declared.rules.RuleError.TheVariants.{Line};
+ghost use Rattle.acsub.specs.Masked.{AnswersMask, CostsMaskRun, CostsMasking, IsInNoPattern, IsMaskOf, IsMaskReady, IsMaskable, MasksBy, NotMaskable, mask_demand};
 
 use crate::args::settings::{Mode, Settings, check, has_empty_pattern};
 use crate::early::{EarlyError, Refusal};
 use crate::error::RunError;
 use crate::prepared::automaton_for;
-use crate::rules::{Rules, read_rules};
-use crate::run::{Request, unread};
+use crate::rules::Rules;
 use crate::stream::told;
 use ac_automaton::error::StreamError;
 use ac_automaton::watched::Watched;
@@ -35,7 +30,7 @@ use std::alloc::Global;
 use std::io::{Read, Write};
 
 /// What masks: a byte, and whether whole words alone are masked.
-#[derive(Clone, Copy, Debug, PartialEq, Eq)]
+#[derive(Clone, Copy)]
 pub struct Mask {
     pub byte: u8,
     pub word: bool,
@@ -48,47 +43,6 @@ pub struct PreparedMask<'r> {
     rules: &'r Rules,
     mask: Mask,
     automaton: AhoCorasick,
-}
-
-/// Reads the input to its end, and writes it masked.
-///
-/// Refusals come before anything is read, in this order: the settings, as for a list of all that overlap, with these rules; an
-/// empty pattern; a mask that is in a pattern; a limit of the build. The writer isn't flushed.
-pub fn run_mask<R: Read, W: Write>(
-    alloc: Global,
-    settings: &Settings,
-    mask: Mask,
-    rules: &Rules,
-    reader: &mut Watched<R>,
-    writer: &mut Watched<W>,
-) -> Result<(), EarlyError>
-    requires { reader.old.ended ≡ false }
-    // After Ok no pattern occurs in what was written; and where whole words alone are masked, by a word byte, no whole word does.
-    ensures clean { OnOk result (LeavesNone mask settings.now rules.now writer.old writer.new) }
-    ensures answered { AnswersMask R.remaining W.contents (reader.old, writer.old) (reader.new, writer.new)
-        settings.now rules.now mask result }
-{
-    let mut steps = Steps::new();
-    run_mask_counted(alloc, settings, mask, rules, reader, writer, &mut steps)
-}
-
-/// The same, and counts what it does.
-pub fn run_mask_counted<R: Read, W: Write>(
-    alloc: Global,
-    settings: &Settings,
-    mask: Mask,
-    rules: &Rules,
-    reader: &mut Watched<R>,
-    writer: &mut Watched<W>,
-    steps: &mut Steps,
-) -> Result<(), EarlyError>
-    requires { reader.old.ended ≡ false }
-    ensures answered { AnswersMask R.remaining W.contents (reader.old, writer.old) (reader.new, writer.new)
-        settings.now rules.now mask result }
-    ensures cost { CostsMaskRun mask.word settings.now rules.now reader.old reader.new steps.old steps.new result }
-{
-    let prepared = prepare_mask(alloc, settings, mask, rules)?;
-    Ok(run_prepared_mask(alloc, &prepared, reader, writer, steps)?)
 }
 
 /// Makes all that a mask has before it reads, if the settings, the mask and the rules go together.
@@ -149,26 +103,6 @@ fn mask_stream<R: Read, W: Write>(
         automaton.try_mask_words_stream_counted(alloc, reader, writer, mask.byte, steps)
     } else {
         automaton.try_mask_stream_counted(alloc, reader, writer, mask.byte, steps)
-    }
-}
-
-/// The same, by a rule file. Which bad line comes first is reported before all else.
-pub fn run_mask_in<R: Read, W: Write>(
-    alloc: Global,
-    asked: Request,
-    mask: Mask,
-    file: &[u8],
-    reader: &mut Watched<R>,
-    writer: &mut Watched<W>,
-) -> Result<(), EarlyError>
-    requires { reader.old.ended ≡ false }
-    ensures answered { AnswersMaskIn R.remaining W.contents (reader.old, writer.old) (reader.new, writer.new)
-        ((grammar_of asked.form).holds file.now) asked.settings mask result }
-    ensures fault { (n : ℕ) → (result ≡ Err (Run (Rule (Line n)))) ↔ (grammar_of asked.form).bad file.now n }
-{
-    match read_rules(alloc, asked.form, file) {
-        Ok(rules) => run_mask(alloc, &asked.settings, mask, &rules, reader, writer),
-        Err(error) => Err(EarlyError::Run(unread(error))),
     }
 }
 

@@ -29,7 +29,7 @@ use crate::rules::escapes::{first_escaped, unescape};
 use crate::rules::text::{first_in_text, is_foreign};
 
 /// How a rule file is written.
-#[derive(Clone, Copy, Debug, PartialEq, Eq)]
+#[derive(Clone, Copy)]
 pub enum Form {
     /// Each byte as two hex digits.
     Hex,
@@ -53,7 +53,7 @@ impl Form {
 }
 
 /// Why bytes were not read as a rule file.
-#[derive(Clone, Copy, Debug, PartialEq, Eq)]
+#[derive(Clone, Copy, Debug)]
 pub enum RuleError {
     /// The first line that is no rule, counted from 1.
     Line(usize),

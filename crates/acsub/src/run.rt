@@ -1,6 +1,6 @@
 //! A run: rules and settings in, an input read to its end, its text written.
 //!
-//! [`run`] reads the rules from a file of hex, [`run_in`] from a file of any form, and [`run_rules`] takes rules that have been read.
+//! [`run`] takes a rule file of hex. The program goes by [`run_prepared`], over each of its inputs.
 //!
 //! Under the standard kind no later byte can change a match. So a run that replaces or lists such matches, none of them empty,
 //! writes while it reads. Everything that is decided is written before each read; at most as many bytes are held back as the
@@ -20,8 +20,7 @@ ghost use Rattle.std.specs.Prelude.{◌≡◌, ◌↔◌, List, ℕ, [], false, 
 ghost use Rattle.ac_input.specs.Rules.{FirstBadLine, IsRuleFile};
 ghost use Rattle.acsub.specs.Matches.{IsHeldCost};
 ghost use Rattle.acsub.specs.Plan.{plan_of};
-ghost use Rattle.acsub.specs.Rules.File.{grammar_of};
-ghost use Rattle.acsub.specs.Run.{CostsIn, CostsRun, IsPrepared, Ran, RanIn, RanRules, WroteText, not_read};
+ghost use Rattle.acsub.specs.Run.{CostsIn, CostsRun, IsPrepared, Ran, RanRules, WroteText, not_read};
 ghost use Rattle.acsub.specs.Run.RunLaws.{RunsWriteAlike};
 ghost use Rattle.acsub.specs.Run.Sending.{SendsText};
 ghost use Rattle.acsub.specs.Tally.{Counts, grown, plan_matches};
@@ -43,16 +42,6 @@ use ac_automaton::watched::Watched;
 use ac_input::steps::Steps;
 use std::alloc::Global;
 use std::io::{Read, Write};
-
-/// What a run by a rule file is to do.
-#[derive(Clone, Copy)]
-pub struct Request {
-    pub settings: Settings,
-    /// How the rule file is written.
-    pub form: Form,
-    /// Whether the text is asked for while the input is read, under every kind.
-    pub stream: bool,
-}
 
 /// Reads the input to its end, and writes the text that settings and rules make of it.
 ///
@@ -97,70 +86,16 @@ pub fn run_counted<R: Read, W: Write>(
     ensures cost { CostsIn (IsRuleFile rules.now) (plan_of false settings.now) reader.old reader.new
         steps.old steps.new result }
 {
-    let asked = Request {
-        settings: *settings,
-        form: Form::Hex,
-        stream: false,
-    };
-    run_in(alloc, asked, rules, reader, writer, steps)
-}
-
-/// The same, by a rule file of any form, and asked to write while it reads, or not.
-pub fn run_in<R: Read, W: Write>(
-    alloc: Global,
-    asked: Request,
-    file: &[u8],
-    reader: &mut Watched<R>,
-    writer: &mut Watched<W>,
-    steps: &mut Steps,
-) -> Result<(), RunError>
-    requires { reader.old.ended ≡ false }
-    ensures answered { RanIn R.remaining W.contents (reader.old, writer.old) (reader.new, writer.new)
-        ((grammar_of asked.form).holds file.now) (plan_of asked.stream asked.settings) result }
-    ensures fault { (n : ℕ) → (result ≡ Err (Rule (Line n))) ↔ (grammar_of asked.form).bad file.now n }
-    ensures cost { CostsIn ((grammar_of asked.form).holds file.now) (plan_of asked.stream asked.settings)
-        reader.old reader.new steps.old steps.new result }
-{
-    match read_rules(alloc, asked.form, file) {
-        Ok(rules) => {
-            let settings = &asked.settings;
-            run_rules_counted(alloc, settings, asked.stream, &rules, reader, writer, steps)
-        }
+    match read_rules(alloc, Form::Hex, rules) {
+        Ok(rules) => run_rules(alloc, settings, &rules, reader, writer, steps),
         Err(error) => Err(unread(error)),
     }
 }
 
-/// Reads the input to its end, and writes the text that settings and rules make of it: [`run`], by rules that have been read.
-///
-/// With `stream` it writes while it reads under a leftmost kind too, and so does a list of all that overlap, unless packed search
-/// finds the matches or a pattern is empty. It writes the same text.
-///
-/// Before each read it has written everything that is decided, of all that overlap each line. Under a leftmost kind it holds back at
-/// most as many bytes as the longest pattern has; it may look at each byte once more, read ahead in vain, and after each match at so
-/// many bytes and one again. Under the standard kind it looks at no byte again.
-pub fn run_rules<R: Read, W: Write>(
+/// The same, by rules that have been read.
+fn run_rules<R: Read, W: Write>(
     alloc: Global,
     settings: &Settings,
-    stream: bool,
-    rules: &Rules,
-    reader: &mut Watched<R>,
-    writer: &mut Watched<W>,
-) -> Result<(), RunError>
-    requires { reader.old.ended ≡ false }
-    ensures written { OnOk result (WroteText settings.now (λ all. all ≡ rules.now)
-        (reader.old, writer.old) (reader.new, writer.new)) }
-    ensures answered { RanRules R.remaining W.contents (reader.old, writer.old) (reader.new, writer.new)
-        (plan_of stream settings.now rules.now) result }
-{
-    let mut steps = Steps::new();
-    run_rules_counted(alloc, settings, stream, rules, reader, writer, &mut steps)
-}
-
-/// The same, and counts what it does. Packed search counts nothing.
-pub fn run_rules_counted<R: Read, W: Write>(
-    alloc: Global,
-    settings: &Settings,
-    stream: bool,
     rules: &Rules,
     reader: &mut Watched<R>,
     writer: &mut Watched<W>,
@@ -168,16 +103,23 @@ pub fn run_rules_counted<R: Read, W: Write>(
 ) -> Result<(), RunError>
     requires { reader.old.ended ≡ false }
     ensures answered { RanRules R.remaining W.contents (reader.old, writer.old) (reader.new, writer.new)
-        (plan_of stream settings.now rules.now) result }
-    ensures cost { CostsRun (plan_of stream settings.now rules.now) reader.old reader.new
+        (plan_of false settings.now rules.now) result }
+    ensures cost { CostsRun (plan_of false settings.now rules.now) reader.old reader.new
         steps.old steps.new result }
 {
-    let prepared = prepare(alloc, settings, stream, rules)?;
+    let prepared = prepare(alloc, settings, false, rules)?;
     let mut tally = Tally::new();
     run_prepared(alloc, &prepared, reader, writer, steps, &mut tally)
 }
 
 /// The same, by what was prepared before: one build serves any number of inputs. Counts the matches in each, too.
+///
+/// Where a stream was asked for, it writes while it reads under a leftmost kind too, and so does a list of all that overlap, unless
+/// packed search finds the matches or a pattern is empty. It writes the same text.
+///
+/// Before each read it has written everything that is decided, of all that overlap each line. Under a leftmost kind it holds back at
+/// most as many bytes as the longest pattern has; it may look at each byte once more, read ahead in vain, and after each match at so
+/// many bytes and one again. Under the standard kind it looks at no byte again.
 pub fn run_prepared<R: Read, W: Write>(
     alloc: Global,
     prepared: &Prepared<'_>,
@@ -260,6 +202,3 @@ fn write_text<W: Write>(
         ),
     }
 }
-
-#[cfg(test)]
-mod tests;

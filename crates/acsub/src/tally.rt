@@ -3,7 +3,7 @@ ghost use Rattle.std.specs.Prelude.{◌≡◌};
 ghost use Rattle.acsub.specs.Tally.{grown};
 
 /// A number of matches, of one run or of several that are counted together. It stays at the greatest number once it is there.
-#[derive(Clone, Copy, Debug, PartialEq, Eq)]
+#[derive(Clone, Copy)]
 pub struct Tally {
     found: u64,
 }

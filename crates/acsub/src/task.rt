@@ -1,8 +1,9 @@
 //! What the program was asked for, and what serves it.
 ghost use Rattle.std.specs.Prelude.{◌↔◌, IfErr, IfOk, IsTrue};
 ghost use Rattle.acsub.specs.Outcome.{HasOneInput};
-ghost use Rattle.acsub.specs.Files.{IsJobOf, IsNoJobOf, IsWatched};
+ghost use Rattle.acsub.specs.Files.{IsJobOf, IsNoJobOf};
 ghost use Rattle.acsub.specs.Jobs.{IsJobReady};
+ghost use Rattle.acsub.specs.Visits.{IsWatched};
 
 use crate::args::Words;
 use crate::early::EarlyError;

@@ -6,10 +6,11 @@
 //! A fault is reported by one line on the error stream, and by the status. Faults are found in this order: words, rule file, run,
 //! flush. After a fault of the run the writer is still flushed, and the fault of the run is the one that is reported.
 ghost use Rattle.std.specs.Prelude.{◌≡◌, ◌↔◌, ◌⊎◌, ℕ, Err, false, map, string_bytes, IfOk, OnOk};
+ghost use Rattle.std.specs.Io.KnownBytes.{Appends};
 ghost use Rattle.std.specs.IoError.{error_kind};
 ghost use Rattle.std.specs.Process.{exit_status};
 ghost use Rattle.std.specs.Vec.Iter.{into_iter_items};
-ghost use Rattle.acsub.specs.Outcome.{AnswersFile, AnswersHelp, AnswersUnasked, Collects, EndsAsked, EndsOne, EndsProgram, EndsTool, Finishes, IsConcluded, RanByFile, RanByRules, ReadsFile, ReadsRuleText, Speaks, SpeaksOf, WritesText, told_as};
+ghost use Rattle.acsub.specs.Outcome.{AnswersFile, AnswersHelp, AnswersUnasked, Collects, EndsAsked, EndsOne, EndsProgram, EndsTool, CountsByFile, CountsByRules, Finishes, RanByFile, RanByRules, ReadsFile, ReadsRuleText, Speaks, SpeaksOf, WritesText, concluded, count_line, found_text, told_as};
 ghost use Rattle.acsub.specs.Early.{as_early};
 ghost use Rattle.acsub.specs.Given.{form_wanted};
 ghost use Rattle.acsub.specs.Rules.File.{grammar_of};
@@ -43,7 +44,7 @@ use std::time::Clock;
 use std::{fmt, fs, io};
 
 /// Why the program ends with another status than 0.
-#[derive(Debug, Drop)]
+#[derive(Drop)]
 pub enum Fault {
     /// The words are not those of a command line.
     Words,
@@ -298,9 +299,10 @@ fn run_alone<F: Files + Clock + Drop + Eprint, R: Read, W: Write>(
     writer: &mut Watched<W>,
     tally: &mut Tally,
 ) -> Result<(), Fault>
-    requires { reader.old.ended ≡ false }
+    requires open { reader.old.ended ≡ false }
+    requires fresh { tally.old.found ≡ 0 }
     ensures { AnswersFile F.File.remaining R.remaining W.contents
-        (reader.old, writer.old) (reader.new, writer.new) task.now.asked.now result }
+        (reader.old, writer.old) (reader.new, writer.new) task.now.asked.now tally.new result }
 {
     match read_rule_file(task) {
         Ok(file) => {
@@ -319,9 +321,11 @@ fn run_by_file<F: Files + Clock + Drop + Eprint, R: Read, W: Write>(
     writer: &mut Watched<W>,
     tally: &mut Tally,
 ) -> Result<(), EarlyError>
-    requires { reader.old.ended ≡ false }
+    requires open { reader.old.ended ≡ false }
+    requires fresh { tally.old.found ≡ 0 }
     ensures ran { RanByFile R.remaining W.contents task.now.asked.now (reader.old, writer.old) (reader.new, writer.new)
         file.now result }
+    ensures counts { OnOk result (CountsByFile task.now.asked.now file.now reader.old reader.new tally.new) }
     ensures fault { (n : ℕ) → (result ≡ Err (early.Run (Rule (Line n)))) ↔ (grammar_of (form_wanted task.now.asked.now)).bad file.now n }
 {
     match read_rules(task.alloc, task.asked.form(), file) {
@@ -339,8 +343,10 @@ fn run_by_rules<F: Files + Clock + Drop + Eprint, R: Read, W: Write>(
     tally: &mut Tally,
 ) -> Result<(), EarlyError>
     requires { reader.old.ended ≡ false }
-    ensures { RanByRules R.remaining W.contents task.now.asked.now (reader.old, writer.old) (reader.new, writer.new)
+    ensures ran { RanByRules R.remaining W.contents task.now.asked.now (reader.old, writer.old) (reader.new, writer.new)
         rules.now result }
+    ensures counts { OnOk result
+        (CountsByRules task.now.asked.now rules.now reader.old reader.new tally.old tally.new) }
 {
     match task.job(rules) {
         Ok(job) => {
@@ -410,25 +416,39 @@ fn report_on<F: Files + Clock + Drop + Eprint, W: Write>(
 
 /// The status where no fault ended the runs; and the line that says how much was found, if it is asked for.
 fn conclude<E: Write>(asked: &Words<'_>, found: u64, status: u8, errors: &mut E) -> u8
-    ensures status { IsConcluded asked.now status result }
+    ensures status { result ≡ concluded asked.now found status }
     ensures quiet { (errors.new ≡ errors.old) ⊎ Speaks asked.now }
 {
     if asked.check {
         return status;
     }
     if asked.count {
-        let what = match (asked.mask, found) {
-            (None, 1) => "match",
-            (None, _) => "matches",
-            (Some(_), 1) => "masked byte",
-            (Some(_), _) => "masked bytes",
-        };
-        let _ = writeln!(errors, "acsub: {found} {what}");
+        let _ = write_count(asked.mask, found, errors);
     }
     if status == 0 && asked.fail_if_none && found == 0 {
         1
     } else {
         status
+    }
+}
+
+/// Writes the line that says how much was found.
+fn write_count<E: Write>(mask: Option<u8>, found: u64, errors: &mut E) -> io::Result<()>
+    ensures { OnOk result (Appends (E.contents errors.old) (E.contents errors.new) (count_line mask found)) }
+{
+    let what = what_was_found(mask, found);
+    writeln!(errors, "acsub: {found} {what}")
+}
+
+/// What is counted: matches, or the bytes of a mask.
+fn what_was_found(mask: Option<u8>, found: u64) -> &'static str
+    ensures { result.now ≡ found_text mask found }
+{
+    match mask {
+        None if found == 1 => "match",
+        None => "matches",
+        Some(_) if found == 1 => "masked byte",
+        Some(_) => "masked bytes",
     }
 }
 
@@ -523,6 +543,3 @@ fn fault_of(error: &io::Error, other: Fault) -> Fault
         other
     }
 }
-
-#[cfg(test)]
-mod tests;

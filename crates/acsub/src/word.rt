@@ -6,21 +6,16 @@
 //! It always writes while it reads. Whether an occurrence is a whole word isn't known before the next byte is read, so before each read
 //! it has written everything but the last bytes in which a word may still begin: no more than the longest pattern has, or one. It takes
 //! memory for what is built of the rules, and for two buffers.
-ghost use Rattle.std.specs.Prelude.{◌≡◌, ◌↔◌, ℕ, IfOk, IfErr, OnOk, Err, false};
+ghost use Rattle.std.specs.Prelude.{◌≡◌, IfOk, IfErr, OnOk, false};
 ghost use Rattle.acsub.specs.Early.{IsUnready, as_early};
-ghost use Rattle.acsub.specs.Rules.File.{grammar_of};
 ghost use Rattle.acsub.specs.Tally.{Counts, plan_words};
-ghost use Rattle.acsub.specs.WordRun.{AnswersWordRun, AnswersWordRunIn, AreJobWords, AreWordsReady, CostsWordRun, IsSearchable, NotSearchable, for_words, word_demand};
-ghost use Rattle.acsub.specs.declared.early.EarlyError.TheVariants.{Run};
-ghost use Rattle.acsub.specs.declared.error.RunError.TheVariants.{Rule};
-ghost use Rattle.acsub.specs.declared.rules.RuleError.TheVariants.{Line};
+ghost use Rattle.acsub.specs.WordRun.{AnswersWordRun, AreJobWords, AreWordsReady, CostsWordRun, IsSearchable, NotSearchable, for_words, word_demand};
 
 use crate::args::settings::{Engine, Settings, check, has_empty_pattern};
 use crate::early::{EarlyError, Refusal};
 use crate::error::RunError;
 use crate::prepared::automaton_for;
-use crate::rules::{Rules, read_rules};
-use crate::run::{Request, unread};
+use crate::rules::Rules;
 use crate::stream::told;
 use crate::stream::words::stream_words;
 use crate::tally::Tally;
@@ -37,44 +32,6 @@ pub struct PreparedWords<'r> {
     pub(crate) settings: Settings,
     pub(crate) rules: &'r Rules,
     pub(crate) automaton: AhoCorasick,
-}
-
-/// Reads the input to its end, and writes the text that settings and rules make of its whole words.
-///
-/// Refusals come before anything is read, in this order: the settings with these rules; packed search; an empty pattern; a limit of
-/// the build. The writer isn't flushed.
-pub fn run_words<R: Read, W: Write>(
-    alloc: Global,
-    settings: &Settings,
-    rules: &Rules,
-    reader: &mut Watched<R>,
-    writer: &mut Watched<W>,
-) -> Result<(), EarlyError>
-    requires { reader.old.ended ≡ false }
-    ensures answered { AnswersWordRun R.remaining W.contents (reader.old, writer.old) (reader.new, writer.new)
-        settings.now rules.now result }
-{
-    let mut steps = Steps::new();
-    run_words_counted(alloc, settings, rules, reader, writer, &mut steps)
-}
-
-/// The same, and counts what it does.
-pub fn run_words_counted<R: Read, W: Write>(
-    alloc: Global,
-    settings: &Settings,
-    rules: &Rules,
-    reader: &mut Watched<R>,
-    writer: &mut Watched<W>,
-    steps: &mut Steps,
-) -> Result<(), EarlyError>
-    requires { reader.old.ended ≡ false }
-    ensures answered { AnswersWordRun R.remaining W.contents (reader.old, writer.old) (reader.new, writer.new)
-        settings.now rules.now result }
-    ensures cost { CostsWordRun settings.now rules.now reader.old reader.new steps.old steps.new result }
-{
-    let prepared = prepare_words(alloc, settings, rules)?;
-    let mut tally = Tally::new();
-    Ok(run_prepared_words(alloc, &prepared, reader, writer, steps, &mut tally)?)
 }
 
 /// Makes all that a run for words has before it reads, if the settings and the rules go together.
@@ -114,25 +71,6 @@ pub fn run_prepared_words<R: Read, W: Write>(
         reader.old reader.new tally.old tally.new) }
 {
     told(stream_words(alloc, prepared, reader, writer, steps, tally))
-}
-
-/// The same, by a rule file. Which bad line comes first is reported before all else.
-pub fn run_words_in<R: Read, W: Write>(
-    alloc: Global,
-    asked: Request,
-    file: &[u8],
-    reader: &mut Watched<R>,
-    writer: &mut Watched<W>,
-) -> Result<(), EarlyError>
-    requires { reader.old.ended ≡ false }
-    ensures answered { AnswersWordRunIn R.remaining W.contents (reader.old, writer.old) (reader.new, writer.new)
-        ((grammar_of asked.form).holds file.now) asked.settings result }
-    ensures fault { (n : ℕ) → (result ≡ Err (Run (Rule (Line n)))) ↔ (grammar_of asked.form).bad file.now n }
-{
-    match read_rules(alloc, asked.form, file) {
-        Ok(rules) => run_words(alloc, &asked.settings, &rules, reader, writer),
-        Err(error) => Err(EarlyError::Run(unread(error))),
-    }
 }
 
 /// Whether whole words can be searched for, by these settings and rules.

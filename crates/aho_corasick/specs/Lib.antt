@@ -21,7 +21,6 @@ pub use Rattle.ac_automaton.specs.InMemory.Overlapping
 pub use Rattle.ac_automaton.specs.InMemory.Overlapping.OverlappingIter
 pub use Rattle.ac_automaton.specs.InMemory.Replace
 pub use Rattle.ac_automaton.specs.InMemory.Words
-pub use Rattle.ac_automaton.specs.InMemory.Words.Overlapping as WordListing
 pub use Rattle.ac_automaton.specs.Masking
 pub use Rattle.ac_automaton.specs.Masking.Words as WordMask
 pub use Rattle.ac_automaton.specs.Masking.Words.Pushed as PushedWordMask

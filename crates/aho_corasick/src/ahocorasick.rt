@@ -93,32 +93,8 @@ pub type FindOverlappingIter<'a, 'h> = overlapping::FindOverlappingIter<'a, 'h, 
 /// The remaining whole words of a text. From [`AhoCorasick::try_find_word_iter`].
 pub type FindWordIter<'a, 'h> = in_text::FindWordIter<'a, 'h, AhoCorasick>;
 
-/// All remaining whole words of a text, overlapping ones too. From [`AhoCorasick::try_find_overlapping_word_iter`].
-pub type FindOverlappingWordIter<'a, 'h> = in_text::overlapping::FindOverlappingWordIter<
-    'a,
-    'h,
-    AhoCorasick,
->;
-
 /// The remaining matches of a stream. From [`AhoCorasick::stream_find_iter`].
 pub type StreamFindIter<'a, R> = streams::StreamFindIter<'a, AhoCorasick, R>;
-
-/// The remaining whole words of a stream. From [`AhoCorasick::try_stream_find_word_iter`].
-pub type StreamFindWordIter<'a, R> = streams::StreamFindWordIter<'a, AhoCorasick, R>;
-
-/// All remaining whole words of a stream, overlapping ones too. From [`AhoCorasick::try_stream_find_overlapping_word_iter`].
-pub type StreamFindOverlappingWordIter<'a, R> = streams::StreamFindOverlappingWordIter<
-    'a,
-    AhoCorasick,
-    R,
->;
-
-/// The remaining occurrences in a stream. From [`AhoCorasick::try_stream_find_overlapping_iter`].
-pub type StreamFindOverlappingIter<'a, R> = streams::overlapping::StreamFindOverlappingIter<
-    'a,
-    AhoCorasick,
-    R,
->;
 
 impl Debug for AhoCorasick {
     fn fmt<W: fmt::Write>(&self, f: &mut Formatter<W>) -> fmt::Result {

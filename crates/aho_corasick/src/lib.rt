@@ -26,9 +26,14 @@ pub use ac_automaton::iter::WalkPlace;
 pub use ac_automaton::output::Output;
 pub use ac_automaton::overlapping::OverlappingState;
 pub use ac_automaton::stream::mask::{StreamMask, StreamWordMask};
+pub use ac_automaton::stream::overlapping::{
+    StreamFindOverlappingIter, stream_find_overlapping_iter,
+};
 pub use ac_automaton::stream::sink::Sink;
 pub use ac_automaton::stream::{
-    OverlappingWordSearch, StreamKinds, StreamReplacer, StreamSearch, WordSearch,
+    OverlappingWordSearch, StreamFindOverlappingWordIter, StreamFindWordIter, StreamKinds,
+    StreamReplacer, StreamSearch, WordSearch, stream_find_iter, stream_find_overlapping_word_iter,
+    stream_find_word_iter,
 };
 pub use ac_automaton::watched::{Watched, write_whole};
 pub use ac_input::alphabet::{
@@ -42,6 +47,5 @@ pub use ac_input::steps::Steps;
 pub use ac_noncontiguous::error::{BuildError, BuildErrorKind};
 pub use ahocorasick::{
     AhoCorasick, AhoCorasickBuilder, AhoCorasickKind, FindIter, FindIterAhead, FindOverlappingIter,
-    FindOverlappingWordIter, FindWordIter, StreamFindIter, StreamFindOverlappingIter,
-    StreamFindOverlappingWordIter, StreamFindWordIter,
+    FindWordIter, StreamFindIter,
 };

@@ -156,7 +156,7 @@ pub fn contiguous_form(
     byte_classes: bool,
 ) -> Result<contiguous::NFA, BuildError>
     ensures { IfOk result
-        (λ made. contiguous_built_as made ≡ built_as nfa.now) }
+        (λ made. contiguous_built_as made ≡ (record (built_as nfa.now) { lanes = made.lanes })) }
 {
     let mut builder = contiguous::Builder::new();
     builder.dense_depth(dense_depth).byte_classes(byte_classes);
@@ -241,7 +241,7 @@ pub fn dfa_form(
     byte_classes: bool,
 ) -> Result<DFA, BuildError>
     ensures same { IfOk result
-        (λ dfa. dfa_built_as dfa ≡ (record (built_as nfa.now) { deterministic = true })) }
+        (λ dfa. dfa_built_as dfa ≡ (record (built_as nfa.now) { deterministic = true; lanes = dfa.lanes })) }
     ensures rows { IfOk result (λ dfa. states_in dfa ≡ dfa_states starts (state_len nfa.now)) }
 {
     let mut builder = dfa::Builder::default();

@@ -21,7 +21,7 @@ pub fn all_occurrences<A: Search>(
 {
     let mut reader = Watched::new(text);
     let mut found = Vec::new(alloc);
-    let mut occurrences = automaton.try_stream_find_overlapping_iter(alloc, &mut reader)?;
+    let mut occurrences = stream_find_overlapping_iter(&mut reader, automaton, alloc)?;
     let mut steps = Steps::new();
     while let Some(next) = occurrences.next_counted(&mut steps) {
         found.push(next?).map_err(AllocError::from)?;

@@ -9,6 +9,7 @@ ghost use Rattle.example_callers.specs.Pushed.{HasGathered, IsGathered, WentOn};
 
 use ac_automaton::search::Search;
 use ac_input::search::Match;
+use ac_input::steps::Steps;
 use aho_corasick::{AhoCorasick, StreamError, StreamSearch};
 use std::alloc::{AllocError, Global};
 
@@ -18,7 +19,8 @@ fn gather<A: Search>(search: &mut StreamSearch<A>, found: &mut Vec<Match>) -> Re
     requires so_far { found.old.items ≡ search.old.given }
     ensures { IfOk result (λ _. HasGathered search.old search.new found.new.items) }
 {
-    while let Some(next) = search.next() {
+    let mut steps = Steps::new();
+    while let Some(next) = search.next_counted(&mut steps) {
         found.push(next).map_err(AllocError::from)?;
     }
     Ok(())
@@ -37,7 +39,7 @@ fn push_whole<A: Search>(
 {
     let mut rest = piece;
     while !rest.is_empty() {
-        let n = search.push(rest)?;
+        let n = search.push_counted(rest, &mut Steps::new())?;
         rest = &rest[n..];
         gather(search, found)?;
     }
@@ -53,7 +55,7 @@ pub fn matches_of_pieces(
     ensures { IfOk result (λ v. v.items
         ≡ matches_in (as_built ac.now) (concat (bytes_of pieces.now))) }
 {
-    let mut search = ac.try_stream_search(alloc)?;
+    let mut search = StreamSearch::any_kind(ac, alloc)?;
     let mut found = Vec::new(alloc);
     for piece in pieces {
         push_whole(&mut search, piece, &mut found)?;

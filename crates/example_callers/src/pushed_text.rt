@@ -8,6 +8,7 @@ ghost use Rattle.aho_corasick.specs.AhoCorasick.{as_built, pattern_count};
 ghost use Rattle.example_callers.specs.PushedText.{AppendsDecided, AppendsNext, IsTextSoFar, TextWentOn};
 
 use ac_automaton::search::Search;
+use ac_input::steps::Steps;
 use aho_corasick::{AhoCorasick, StreamError, StreamReplacer};
 use std::alloc::{AllocError, Global};
 
@@ -22,7 +23,7 @@ pub fn append_next<A: Search>(
     ensures { IfOk result (AppendsNext replacer.old replacer.new
         (map (λ r. r.now) replacements.now) text.old.items text.new.items) }
 {
-    match replacer.next(replacements) {
+    match replacer.next_counted(replacements, &mut Steps::new()) {
         Some(slice) => {
             text.extend_from_slice(slice)?;
             Ok(true)
@@ -63,7 +64,7 @@ fn append_piece<A: Search>(
 {
     let mut rest = piece;
     while !rest.is_empty() {
-        let n = replacer.push(rest)?;
+        let n = replacer.push_counted(rest, &mut Steps::new())?;
         rest = &rest[n..];
         append_decided(replacer, replacements, text)?;
     }
@@ -81,7 +82,7 @@ pub fn replaced_pieces(
     ensures { IfOk result (λ v. v.items ≡ replaced_in (as_built ac.now)
         (map (λ r. r.now) replacements.now) (concat (map (λ p. p.now) pieces.now))) }
 {
-    let mut replacer = ac.try_stream_replacer(alloc)?;
+    let mut replacer = StreamReplacer::any_kind(ac, alloc)?;
     let mut text = Vec::new(alloc);
     for piece in pieces {
         append_piece(&mut replacer, replacements, piece, &mut text)?;

@@ -9,6 +9,7 @@ ghost use Rattle.example_callers.specs.Pushed.{HasGathered, IsGathered, WentOn};
 
 use ac_automaton::search::Search;
 use ac_input::search::{Match, MatchKind};
+use ac_input::steps::Steps;
 use aho_corasick::{AhoCorasick, StreamError, WordSearch};
 use std::alloc::{AllocError, Global};
 
@@ -21,7 +22,8 @@ fn gather_words<A: Search>(
     requires so_far { found.old.items ≡ search.old.given }
     ensures { IfOk result (λ _. HasGathered search.old search.new found.new.items) }
 {
-    while let Some(next) = search.next() {
+    let mut steps = Steps::new();
+    while let Some(next) = search.next_counted(&mut steps) {
         found.push(next).map_err(AllocError::from)?;
     }
     Ok(())
@@ -40,7 +42,7 @@ fn push_words<A: Search>(
 {
     let mut rest = piece;
     while !rest.is_empty() {
-        let n = search.push(rest)?;
+        let n = search.push_counted(rest, &mut Steps::new())?;
         rest = &rest[n..];
         gather_words(search, found)?;
     }

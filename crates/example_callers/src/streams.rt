@@ -2,7 +2,7 @@
 //! contract names the bytes, readers and writers are slices and `Vec`s.
 ghost use Rattle.std.specs.Prelude.{◌≡◌, ◌++◌, [], false, length, IfOk, OnOk};
 ghost use Rattle.ac_automaton.specs.InMemory.Replace.{matches_in};
-ghost use Rattle.ac_automaton.specs.Stream.{read_by, Occurrences, items_of};
+ghost use Rattle.ac_automaton.specs.Stream.{read_by, Picks};
 ghost use Rattle.ac_automaton.specs.Stream.Iter.{progress_of};
 ghost use Rattle.ac_automaton.specs.Stream.Replace.{IsStreamCost};
 ghost use Rattle.aho_corasick.specs.AhoCorasick.{as_built, supported_by, pattern_count};
@@ -13,25 +13,23 @@ use crate::generic_stream::all_of;
 use ac_input::search::Match;
 use ac_input::steps::Steps;
 use aho_corasick::StreamKinds::{self, AnyKind, OnlyStandard};
-use aho_corasick::{AhoCorasick, StreamError, StreamFindIter, Watched, write_whole};
+use aho_corasick::{
+    AhoCorasick, StreamError, StreamFindIter, Watched, stream_find_iter, write_whole,
+};
 use std::alloc::{AllocError, Global};
 use std::io::{Read, Write};
 
-/// A search of a stream that can fail only for memory. It has read nothing yet.
+/// The matches of a stream, by an automaton that can search one: it can fail only for memory. It has read nothing yet.
 pub fn search_of<'a, R>(
     ac: &'a AhoCorasick,
     alloc: Global,
     reader: &'a mut Watched<R>,
-    kinds: StreamKinds,
 ) -> Result<StreamFindIter<'a, R>, AllocError>
     requires open { reader.old.ended ≡ false }
-    requires can { CanStream kinds (as_built ac.now) (supported_by ac.now) }
+    requires can { CanStream StreamKinds.OnlyStandard (as_built ac.now) (supported_by ac.now) }
     ensures { IfOk result (λ matches. read_by (progress_of matches) ≡ []) }
 {
-    match kinds {
-        OnlyStandard => ac.stream_find_iter(alloc, reader),
-        AnyKind => ac.stream_find_iter_any_kind(alloc, reader),
-    }
+    ac.stream_find_iter(alloc, reader)
 }
 
 /// All matches of what a reader gives, one after another: those of the whole text, under whichever kind.
@@ -44,14 +42,8 @@ pub fn all_matches(
     ensures { IfOk result (λ v. v.items ≡ matches_in (as_built ac.now) text.now) }
 {
     let mut reader = Watched::new(text);
-    match kinds {
-        OnlyStandard => all_of(ac.try_stream_find_iter(alloc, &mut reader)?, alloc, text),
-        AnyKind => all_of(
-            ac.try_stream_find_iter_any_kind(alloc, &mut reader)?,
-            alloc,
-            text,
-        ),
-    }
+    let matches = stream_find_iter(&mut reader, ac, kinds, alloc)?;
+    all_of(matches, alloc, text)
 }
 
 /// Reads the text and writes it with each match replaced.
@@ -70,7 +62,13 @@ pub fn replaced(
     let mut reader = Watched::new(text);
     match kinds {
         OnlyStandard => ac.try_stream_replace_all(alloc, &mut reader, writer, replacements),
-        AnyKind => ac.try_stream_replace_all_any_kind(alloc, &mut reader, writer, replacements),
+        AnyKind => ac.try_stream_replace_all_any_kind_counted(
+            alloc,
+            &mut reader,
+            writer,
+            replacements,
+            &mut Steps::new(),
+        ),
     }
 }
 
@@ -101,7 +99,7 @@ pub fn any_kind_replaced_counted(
     steps: &mut Steps,
 ) -> Result<(), StreamError>
     requires { length replacements.now ≡ pattern_count ac.now }
-    ensures { OnOk result (IsStreamCost (as_built ac.now) (length text.now)
+    ensures { OnOk result (IsStreamCost Picks (as_built ac.now) (length text.now)
         (length (matches_in (as_built ac.now) text.now)) steps.old steps.new) }
 {
     let mut reader = Watched::new(text);
@@ -114,56 +112,13 @@ pub fn copied(
     alloc: Global,
     text: &[u8],
     writer: &mut Watched<Vec<u8>>,
-    kinds: StreamKinds,
 ) -> Result<(), StreamError>
     ensures { OnOk result (writer.new.inner.items ≡ writer.old.inner.items ++ text.now) }
 {
     let mut reader = Watched::new(text);
-    match kinds {
-        OnlyStandard => {
-            ac.try_stream_replace_all_with(alloc, &mut reader, writer, |_, matched, writer| {
-                write_whole(writer, matched)
-            })
-        }
-        AnyKind => {
-            ac.try_stream_replace_all_any_kind_with(
-                alloc,
-                &mut reader,
-                writer,
-                |_, matched, writer| { write_whole(writer, matched) },
-            )
-        }
-    }
-}
-
-/// The same by the front, whichever automaton serves.
-pub fn all_occurrences(
-    ac: &AhoCorasick,
-    alloc: Global,
-    text: &[u8],
-) -> Result<Vec<Match>, StreamError>
-    ensures { IfOk result (λ v. v.items ≡ items_of Occurrences (as_built ac.now).dictionary text.now) }
-{
-    let mut reader = Watched::new(text);
-    let mut found = Vec::new(alloc);
-    let mut occurrences = ac.try_stream_find_overlapping_iter(alloc, &mut reader)?;
-    let mut steps = Steps::new();
-    while let Some(next) = occurrences.next_counted(&mut steps) {
-        found.push(next?).map_err(AllocError::from)?;
-    }
-    Ok(found)
-}
-
-/// The matches of a stream, by an automaton that can search one.
-pub fn matches_of<'a, R>(
-    ac: &'a AhoCorasick,
-    alloc: Global,
-    reader: &'a mut Watched<R>,
-) -> Result<StreamFindIter<'a, R>, AllocError>
-    requires open { reader.old.ended ≡ false }
-    requires can { CanStream StreamKinds.OnlyStandard (as_built ac.now) (supported_by ac.now) }
-{
-    ac.stream_find_iter(alloc, reader)
+    ac.try_stream_replace_all_with(alloc, &mut reader, writer, |_, matched, writer| {
+        write_whole(writer, matched)
+    })
 }
 
 /// Where the matches of a stream begin. It is an error where the automaton can't search a stream, and where a read fails.
@@ -205,7 +160,14 @@ pub fn longest_masked<W: Write>(
 ) -> Result<(), StreamError> {
     let mask: &[u8] = b"***";
     let masks = vec![in alloc; mask; ac.patterns_len()]?;
-    ac.try_stream_replace_all_any_kind(alloc, &mut Watched::new(text), writer, &masks)
+    let mut steps = Steps::new();
+    ac.try_stream_replace_all_any_kind_counted(
+        alloc,
+        &mut Watched::new(text),
+        writer,
+        &masks,
+        &mut steps,
+    )
 }
 
 /// As `masked`, each match in brackets. A write that fails ends it.

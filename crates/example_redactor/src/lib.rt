@@ -10,7 +10,7 @@ ghost use Rattle.aho_corasick.specs.AhoCorasick.{kind_of, start_kind_of};
 ghost use Rattle.aho_corasick.specs.declared.MatchKind.TheVariants.{Standard};
 ghost use Rattle.aho_corasick.specs.declared.StartKind.TheVariants.{Unanchored};
 
-use aho_corasick::{AhoCorasick, BuildError, Input, StreamError, Watched};
+use aho_corasick::{AhoCorasick, BuildError, Input, Steps, StreamError, Watched};
 use std::alloc::{AllocError, Global};
 use std::io::{Read, Write};
 
@@ -96,7 +96,7 @@ impl Redactor {
         let mut reader = Watched::new(reader);
         let mut writer = Watched::new(writer);
         self.ac
-            .try_mask_stream(alloc, &mut reader, &mut writer, MASK)
+            .try_mask_stream_counted(alloc, &mut reader, &mut writer, MASK, &mut Steps::new())
     }
 
     /// Where words start in what the reader gives, counted in bytes.

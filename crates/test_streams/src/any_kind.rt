@@ -2,26 +2,21 @@
 //!
 //! Under a leftmost kind a match is given after the first byte with which nothing is live any more that began no later, or at the end
 //! of the input. All these texts are cut at many places, and end in a failed read at each of them.
-ghost use Rattle.std.specs.Prelude.{◌≡◌, false};
-
 use crate::asserts::{equal, same};
 use crate::devices::{AMPLE, Given, Outcome, Room, Sink, Source, Tally};
-use crate::listed::Listed;
 use crate::streams::{Sought, is_over, next_pick, search_outcome};
-use ac_automaton::error::{MatchErrorKind, StreamError};
-use ac_automaton::stream::{StreamReplacer, StreamSearch};
-use ac_automaton::watched::{Watched, write_whole};
+use ac_automaton::error::MatchErrorKind;
+use ac_automaton::stream::StreamKinds::AnyKind;
+use ac_automaton::stream::{StreamReplacer, StreamSearch, stream_find_iter};
+use ac_automaton::watched::Watched;
+use ac_input::search::MatchKind;
 use ac_input::search::MatchKind::{LeftmostFirst, LeftmostLongest, Standard};
-use ac_input::search::{Match, MatchKind};
 use ac_input::steps::Steps;
 use ac_noncontiguous::Search;
 use std::alloc::Global;
-use std::io::{ErrorKind, Read, Write};
+use std::io::{ErrorKind, Write};
 use std::process::Abort;
 use std::test::Fail;
-use test_rows::answers::Asks::{self, List};
-use test_rows::answers::Text::Whole;
-use test_rows::answers::{by_plain, input};
 use test_rows::engines::Letters::{Cased, Folded};
 use test_rows::engines::{Asked, Case, FEW, FIRST, Letters, Pick, Trial, all, each, pick};
 use test_rows::words::{APPEND, SENTENCE};
@@ -54,9 +49,7 @@ impl Row<'_> {
         let fails = matches!(given, Given::Fails(..));
         let tally = Tally::new();
         let mut reader = Watched::new(Source::new(given, most, &[], &tally));
-        let mut matches = on
-            .automaton
-            .try_stream_find_iter_any_kind(on.alloc, &mut reader)?;
+        let mut matches = stream_find_iter(&mut reader, on.automaton, AnyKind, on.alloc)?;
         let all = text.len().div_ceil(most.max(1)).saturating_add(1);
         for (want, decided) in self.finds {
             if *decided > text.len() && fails {
@@ -91,6 +84,7 @@ impl Row<'_> {
     fn pushes<T: Abort, A: Search>(&self, on: &Trial<'_, T, A>, most: usize) -> Result<(), Fail> {
         let (rt, shows) = (on.rt, self.shows);
         let mut search = StreamSearch::any_kind(on.automaton, on.alloc)?;
+        let mut steps = Steps::new();
         let mut pushed = 0;
         for piece in self.text.chunks(most.max(1)) {
             let taken = push(&mut search, piece)?;
@@ -98,19 +92,29 @@ impl Row<'_> {
             let all = taken.saturating_add(pushed);
             for (want, decided) in self.finds {
                 if pushed < *decided && *decided <= all {
-                    equal(rt, &pick(search.next()), &Some(*want), shows);
+                    equal(
+                        rt,
+                        &pick(search.next_counted(&mut steps)),
+                        &Some(*want),
+                        shows,
+                    );
                 }
             }
-            equal(rt, &search.next(), &None, shows);
+            equal(rt, &search.next_counted(&mut steps), &None, shows);
             pushed = all;
         }
         search.finish();
         for (want, decided) in self.finds {
             if *decided == END {
-                equal(rt, &pick(search.next()), &Some(*want), shows);
+                equal(
+                    rt,
+                    &pick(search.next_counted(&mut steps)),
+                    &Some(*want),
+                    shows,
+                );
             }
         }
-        equal(rt, &search.next(), &None, shows);
+        equal(rt, &search.next_counted(&mut steps), &None, shows);
         Ok(())
     }
 }
@@ -120,7 +124,7 @@ pub fn push<A: Search>(search: &mut StreamSearch<A>, piece: &[u8]) -> Result<usi
     if search.is_closed() {
         return Err(Fail::from("the search is finished"));
     }
-    Ok(search.push(piece)?)
+    Ok(search.push_counted(piece, &mut Steps::new())?)
 }
 
 impl<T: Abort> Case<T> for Row<'_> {
@@ -304,9 +308,7 @@ pub fn are_found<T: Abort, A: Search>(
     let rt = on.rt;
     let tally = Tally::new();
     let mut reader = Watched::new(Source::new(Given::Whole(text), most, &[], &tally));
-    let mut matches = on
-        .automaton
-        .try_stream_find_iter_any_kind(on.alloc, &mut reader)?;
+    let mut matches = stream_find_iter(&mut reader, on.automaton, AnyKind, on.alloc)?;
     for want in finds {
         assert_eq!(rt; next_pick(&mut matches, false), Ok(Some(*want)));
     }
@@ -351,58 +353,12 @@ struct Written {
     written: &'static [u8],
 }
 
-/// Writes the replacement of each match's pattern by a closure.
-fn write_by_closure<A: Search, R: Read, W: Write>(
-    automaton: &A,
-    alloc: Global,
-    reader: &mut Watched<R>,
-    writer: &mut Watched<W>,
-    replacements: &[&[u8]],
-) -> Result<(), StreamError>
-    requires { reader.old.ended ≡ false }
-{
-    automaton.try_stream_replace_all_any_kind_with(
-        alloc,
-        reader,
-        writer,
-        |found: &Match, _matched: &[u8], writer: &mut Watched<W>| -> Result<(), StreamError> {
-            let number = found.pattern().as_usize();
-            write_whole(
-                writer,
-                replacements.get(number).ok_or(StreamError::Position)?,
-            )
-        },
-    )
-}
-
-/// Which call replaces.
-#[derive(Clone, Copy)]
-enum Way {
-    List,
-    Counted,
-    Closure,
-}
-
-impl Way {
-    fn name(self) -> &'static str {
-        match self {
-            Way::List => "by a list",
-            Way::Counted => "by a list, counted",
-            Way::Closure => "by a closure",
-        }
-    }
-}
-
-/// All of them.
-const WAYS: [Way; 3] = [Way::List, Way::Counted, Way::Closure];
-
-/// Replaces what a reader gives by this call, for a writer that has this room: the result, and what was written.
+/// Replaces what a reader gives, for a writer that has this room: the result, and what was written.
 fn replaces<T, A: Search>(
     on: &Trial<'_, T, A>,
     list: &[&[u8]],
     reader: Source<'_>,
     writer: Sink<'_>,
-    way: Way,
 ) -> Result<(Outcome, Vec<u8>), Fail> {
     let (alloc, automaton) = (on.alloc, on.automaton);
     if automaton.patterns_len() != list.len() {
@@ -411,34 +367,28 @@ fn replaces<T, A: Search>(
     let mut reader = Watched::new(reader);
     let mut writer = Watched::new(writer);
     let mut steps = Steps::new();
-    let answer = match way {
-        Way::List => {
-            automaton.try_stream_replace_all_any_kind(alloc, &mut reader, &mut writer, list)
-        }
-        Way::Counted => automaton.try_stream_replace_all_any_kind_counted(
-            alloc,
-            &mut reader,
-            &mut writer,
-            list,
-            &mut steps,
-        ),
-        Way::Closure => write_by_closure(automaton, alloc, &mut reader, &mut writer, list),
-    };
+    let answer = automaton.try_stream_replace_all_any_kind_counted(
+        alloc,
+        &mut reader,
+        &mut writer,
+        list,
+        &mut steps,
+    );
     Ok((Outcome::of(&answer), writer.into_inner().taken))
 }
 
 impl Written {
     /// Asserts what is written, so much of it before each read as is due, by one byte a read; and by more bytes a read.
-    fn is_written<T: Abort, A: Search>(&self, on: &Trial<'_, T, A>, way: Way) -> Result<(), Fail> {
+    fn is_written<T: Abort, A: Search>(&self, on: &Trial<'_, T, A>) -> Result<(), Fail> {
         let (rt, list) = (on.rt, self.replacements);
         for most in [1, 2, 3, 7, 100] {
             let due = if most == 1 { self.due } else { &[] };
             let tally = Tally::new();
             let reader = Source::new(Given::Whole(self.text), most, due, &tally);
             let writer = Sink::new(on.alloc, AMPLE, &tally)?;
-            let (outcome, taken) = replaces(on, list, reader, writer, way)?;
-            equal(rt, &outcome, &Outcome::Done, way.name());
-            same(rt, taken.as_slice(), self.written, way.name());
+            let (outcome, taken) = replaces(on, list, reader, writer)?;
+            equal(rt, &outcome, &Outcome::Done, "replaced");
+            same(rt, taken.as_slice(), self.written, "replaced");
         }
         Ok(())
     }
@@ -458,7 +408,7 @@ impl Written {
             if replacer.is_finished() {
                 return Err(Fail::from("the replacement is finished"));
             }
-            let taken = replacer.push(piece)?;
+            let taken = replacer.push_counted(piece, &mut Steps::new())?;
             assert_eq!(rt; taken, piece.len());
             take_out(&mut replacer, self.replacements, &mut made)?;
             pushed = taken.saturating_add(pushed);
@@ -486,7 +436,7 @@ impl Written {
             if replacer.is_finished() {
                 return Err(Fail::from("the replacement is finished"));
             }
-            replacer.push(piece)?;
+            replacer.push_counted(piece, &mut Steps::new())?;
             write_out(&mut replacer, self.replacements, &mut writer)?;
         }
         replacer.finish();
@@ -502,32 +452,32 @@ impl Written {
     }
 
     /// Asserts that a read which fails after a front of the text leaves written what was due by then.
-    fn stops<T: Abort, A: Search>(&self, on: &Trial<'_, T, A>, way: Way) -> Result<(), Fail> {
+    fn stops<T: Abort, A: Search>(&self, on: &Trial<'_, T, A>) -> Result<(), Fail> {
         let (rt, list) = (on.rt, self.replacements);
         for (len, due) in self.due.iter().enumerate() {
             let front = self.text.get(..len).ok_or("a front of the text")?;
             let tally = Tally::new();
             let reader = Source::new(Given::Fails(front, b"x"), 1, &[], &tally);
             let writer = Sink::new(on.alloc, AMPLE, &tally)?;
-            let (outcome, taken) = replaces(on, list, reader, writer, way)?;
+            let (outcome, taken) = replaces(on, list, reader, writer)?;
             equal(
                 rt,
                 &outcome,
                 &Outcome::Read(ErrorKind::Interrupted),
-                way.name(),
+                "a read failed",
             );
             equal(
                 rt,
                 &Some(taken.as_slice()),
                 &self.written.get(..*due),
-                way.name(),
+                "a read failed",
             );
         }
         Ok(())
     }
 
     /// Asserts that a writer without room for all takes a front of the text.
-    fn is_cut<T: Abort, A: Search>(&self, on: &Trial<'_, T, A>, way: Way) -> Result<(), Fail> {
+    fn is_cut<T: Abort, A: Search>(&self, on: &Trial<'_, T, A>) -> Result<(), Fail> {
         let (rt, list) = (on.rt, self.replacements);
         for bytes in 0..self.written.len() {
             let tally = Tally::new();
@@ -538,18 +488,18 @@ impl Written {
                 ..AMPLE
             };
             let writer = Sink::new(on.alloc, room, &tally)?;
-            let (outcome, taken) = replaces(on, list, reader, writer, way)?;
+            let (outcome, taken) = replaces(on, list, reader, writer)?;
             equal(
                 rt,
                 &outcome,
                 &Outcome::Write(ErrorKind::Interrupted),
-                way.name(),
+                "a write failed",
             );
             equal(
                 rt,
                 &Some(taken.as_slice()),
                 &self.written.get(..bytes),
-                way.name(),
+                "a write failed",
             );
         }
         Ok(())
@@ -565,7 +515,7 @@ fn take_one<A: Search>(
     if replacer.patterns_len() != replacements.len() {
         return Err(Fail::from("a replacement for each pattern"));
     }
-    match replacer.next(replacements) {
+    match replacer.next_counted(replacements, &mut Steps::new()) {
         Some(bytes) => {
             made.extend_from_slice(bytes)?;
             Ok(true)
@@ -583,7 +533,7 @@ fn write_out<A: Search, W: Write>(
     if replacer.patterns_len() != replacements.len() {
         return Err(Fail::from("a replacement for each pattern"));
     }
-    replacer.write_to(replacements, writer)?;
+    replacer.write_to_counted(replacements, writer, &mut Steps::new())?;
     Ok(())
 }
 
@@ -610,11 +560,9 @@ impl<T: Abort> Case<T> for Written {
         if !on.searches() {
             return Ok(());
         }
-        for way in WAYS {
-            self.is_written(on, way)?;
-            self.stops(on, way)?;
-            self.is_cut(on, way)?;
-        }
+        self.is_written(on)?;
+        self.stops(on)?;
+        self.is_cut(on)?;
         for most in [1, 2, 3, 7, 100] {
             self.hands_out(on, most)?;
             self.writes_out(on, most)?;
@@ -668,12 +616,10 @@ impl<T: Abort> Case<T> for Refused {
         let tally = Tally::new();
         let searched = search_outcome(on.alloc, on.automaton, &tally, Sought::MatchesOfAnyKind);
         assert_eq!(rt; searched, want);
-        for way in WAYS {
-            let reader = Source::new(Given::Whole(b"ab"), 1, &[], &tally);
-            let writer = Sink::new(on.alloc, AMPLE, &tally)?;
-            let (outcome, _) = replaces(on, &[b"-", b"+"], reader, writer, way)?;
-            equal(rt, &outcome, &want, way.name());
-        }
+        let reader = Source::new(Given::Whole(b"ab"), 1, &[], &tally);
+        let writer = Sink::new(on.alloc, AMPLE, &tally)?;
+        let (outcome, _) = replaces(on, &[b"-", b"+"], reader, writer)?;
+        assert_eq!(rt; outcome, want);
         assert_eq!(rt; (tally.reads.get(), tally.writes.get()), (0, 0));
         Ok(())
     }

@@ -1,7 +1,7 @@
 //! Streams by the front's own calls: what is found, what is written, and what is an error before the first read.
 ghost use Rattle.std.specs.Prelude.{◌≡◌, false};
 ghost use Rattle.ac_automaton.specs.Stream.{CanStream};
-ghost use Rattle.ac_automaton.specs.declared.stream.StreamKinds.TheVariants.{AnyKind, OnlyStandard};
+ghost use Rattle.ac_automaton.specs.declared.stream.StreamKinds.TheVariants.{OnlyStandard};
 ghost use Rattle.aho_corasick.specs.AhoCorasick.{as_built, supported_by};
 
 mod memory;
@@ -12,7 +12,8 @@ use crate::streams::next_pick;
 use ac_input::search::{Anchored, Match, MatchKind, StartKind};
 use ac_input::steps::Steps;
 use aho_corasick::{
-    AhoCorasick, MatchErrorKind, StreamError, StreamFindIter, Watched, write_whole,
+    AhoCorasick, MatchErrorKind, StreamError, StreamFindIter, StreamKinds, Watched,
+    stream_find_iter, write_whole,
 };
 use std::alloc::Global;
 use std::io::{Read, Write};
@@ -48,17 +49,15 @@ enum Way {
     List,
     Counted,
     Closure,
-    ListOfAnyKind,
     CountedOfAnyKind,
-    ClosureOfAnyKind,
 }
 
 impl Way {
     fn name(self) -> &'static str {
         match self {
-            Way::List | Way::ListOfAnyKind => "by a list",
+            Way::List => "by a list",
             Way::Counted | Way::CountedOfAnyKind => "by a list, counted",
-            Way::Closure | Way::ClosureOfAnyKind => "by a closure",
+            Way::Closure => "by a closure",
         }
     }
 }
@@ -67,11 +66,7 @@ impl Way {
 const OF_STANDARD: [Way; 3] = [Way::List, Way::Counted, Way::Closure];
 
 /// The calls that serve every kind.
-const OF_ANY_KIND: [Way; 3] = [
-    Way::ListOfAnyKind,
-    Way::CountedOfAnyKind,
-    Way::ClosureOfAnyKind,
-];
+const OF_ANY_KIND: [Way; 1] = [Way::CountedOfAnyKind];
 
 /// The numbers of patterns.
 const NUMBERS: &[&[u8]] = &[b"0", b"1", b"2"];
@@ -86,26 +81,6 @@ fn write_numbers<R: Read, W: Write>(
     requires { reader.old.ended ≡ false }
 {
     ac.try_stream_replace_all_with(
-        alloc,
-        reader,
-        writer,
-        |found: &Match, _matched: &[u8], writer: &mut Watched<W>| -> Result<(), StreamError> {
-            let number = found.pattern().as_usize();
-            write_whole(writer, NUMBERS.get(number).ok_or(StreamError::Position)?)
-        },
-    )
-}
-
-/// The same under any kind.
-fn write_numbers_of_any_kind<R: Read, W: Write>(
-    ac: &AhoCorasick,
-    alloc: Global,
-    reader: &mut Watched<R>,
-    writer: &mut Watched<W>,
-) -> Result<(), StreamError>
-    requires { reader.old.ended ≡ false }
-{
-    ac.try_stream_replace_all_any_kind_with(
         alloc,
         reader,
         writer,
@@ -138,9 +113,6 @@ fn replaces(
             ac.try_stream_replace_all_counted(alloc, &mut reader, &mut writer, list, &mut steps)
         }
         Way::Closure => write_numbers(ac, alloc, &mut reader, &mut writer),
-        Way::ListOfAnyKind => {
-            ac.try_stream_replace_all_any_kind(alloc, &mut reader, &mut writer, list)
-        }
         Way::CountedOfAnyKind => ac.try_stream_replace_all_any_kind_counted(
             alloc,
             &mut reader,
@@ -148,7 +120,6 @@ fn replaces(
             list,
             &mut Steps::new(),
         ),
-        Way::ClosureOfAnyKind => { write_numbers_of_any_kind(ac, alloc, &mut reader, &mut writer) }
     };
     Ok((Outcome::of(&answer), writer.into_inner().taken))
 }
@@ -176,28 +147,20 @@ fn is_found<T: Abort>(
     Ok(())
 }
 
-/// Asserts the same by the calls for any kind.
+/// Asserts the same by the call for any kind.
 fn is_found_of_any_kind<T: Abort>(
     rt: &T,
     alloc: Global,
     ac: &AhoCorasick,
     row: &Row,
     most: usize,
-) -> Result<(), Fail>
-    requires { CanStream AnyKind (as_built ac.now) (supported_by ac.now) }
-{
+) -> Result<(), Fail> {
     let tally = Tally::new();
     let given = Given::Whole(row.text);
     let mut reader = Watched::new(Source::new(given, most, &[], &tally));
     are_left(
         rt,
-        &mut ac.stream_find_iter_any_kind(alloc, &mut reader)?,
-        row.finds,
-    );
-    let mut reader = Watched::new(Source::new(given, most, &[], &tally));
-    are_left(
-        rt,
-        &mut ac.try_stream_find_iter_any_kind(alloc, &mut reader)?,
+        &mut stream_find_iter(&mut reader, ac, StreamKinds::AnyKind, alloc)?,
         row.finds,
     );
     Ok(())
@@ -214,7 +177,7 @@ fn is_written<T: Abort>(
 ) -> Result<(), Fail> {
     for way in ways {
         let (outcome, taken) = replaces(alloc, ac, row, *way, most, &Tally::new())?;
-        let want = if matches!(way, Way::Closure | Way::ClosureOfAnyKind) {
+        let want = if matches!(way, Way::Closure) {
             row.numbered
         } else {
             row.writes

@@ -3,7 +3,7 @@ use crate::asserts::equal;
 use crate::devices::{Given, Outcome, Source, Tally};
 use crate::streams::{Sought, picked, search_outcome};
 use ac_automaton::error::MatchErrorKind;
-use ac_automaton::stream::overlapping::StreamFindOverlappingIter;
+use ac_automaton::stream::overlapping::{StreamFindOverlappingIter, stream_find_overlapping_iter};
 use ac_automaton::watched::Watched;
 use ac_input::search::MatchKind;
 use ac_input::search::MatchKind::{LeftmostFirst, LeftmostLongest, Standard};
@@ -51,9 +51,7 @@ impl Listed<'_> {
         let rt = on.rt;
         let tally = Tally::new();
         let mut reader = Watched::new(Source::new(given, most, &[], &tally));
-        let mut listed = on
-            .automaton
-            .try_stream_find_overlapping_iter(on.alloc, &mut reader)?;
+        let mut listed = stream_find_overlapping_iter(&mut reader, on.automaton, on.alloc)?;
         for want in self.gives {
             if want.2 > len {
                 break;

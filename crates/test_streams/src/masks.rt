@@ -2,9 +2,11 @@
 use crate::asserts::{equal, same};
 use crate::devices::{AMPLE, Given, Outcome, Sink, Source, Tally};
 use ac_automaton::error::MatchErrorKind;
+use ac_automaton::stream::mask::StreamMask;
 use ac_automaton::watched::Watched;
 use ac_input::search::MatchKind;
 use ac_input::search::MatchKind::{LeftmostFirst, Standard};
+use ac_input::steps::Steps;
 use ac_noncontiguous::Search;
 use std::alloc::Global;
 use std::io::ErrorKind;
@@ -29,7 +31,8 @@ struct Masked<'a> {
 impl Masked<'_> {
     fn in_memory<T: Abort, A: Search>(&self, on: &Trial<'_, T, A>) -> Result<(), Fail> {
         let mut text = self.text.to_vec(on.alloc)?;
-        on.automaton.try_mask(text.as_mut_slice(), MASK)?;
+        on.automaton
+            .try_mask_counted(text.as_mut_slice(), MASK, &mut Steps::new())?;
         same(on.rt, &text, self.gives, self.shows);
         Ok(())
     }
@@ -39,19 +42,25 @@ impl Masked<'_> {
         let tally = Tally::new();
         let mut reader = Watched::new(Source::new(Given::Whole(self.text), most, &[], &tally));
         let mut writer = Watched::new(Sink::new(on.alloc, AMPLE, &tally)?);
-        on.automaton
-            .try_mask_stream(on.alloc, &mut reader, &mut writer, MASK)?;
+        on.automaton.try_mask_stream_counted(
+            on.alloc,
+            &mut reader,
+            &mut writer,
+            MASK,
+            &mut Steps::new(),
+        )?;
         same(on.rt, &writer.into_inner().taken, self.gives, self.shows);
         Ok(())
     }
 
     /// Pushed in two pieces, which fit the buffer.
     fn pushed<T: Abort, A: Search>(&self, on: &Trial<'_, T, A>, cut: usize) -> Result<(), Fail> {
-        let mut stream = on.automaton.try_stream_mask(on.alloc, MASK)?;
+        let mut stream = StreamMask::new(on.automaton, MASK, on.alloc)?;
         let mut text = Vec::new(on.alloc);
-        let n = stream.push(from_there(self.text, 0, cut))?;
+        let mut steps = Steps::new();
+        let n = stream.push_counted(from_there(self.text, 0, cut), &mut steps)?;
         text.extend_from_slice(stream.ready())?;
-        let more = stream.push(from_there(self.text, cut, self.text.len()))?;
+        let more = stream.push_counted(from_there(self.text, cut, self.text.len()), &mut steps)?;
         text.extend_from_slice(stream.ready())?;
         stream.finish();
         text.extend_from_slice(stream.ready())?;
@@ -271,9 +280,13 @@ impl<T: Abort> Case<T> for Stopped {
         let given = Given::Fails(self.text, b"");
         let mut reader = Watched::new(Source::new(given, 1, &[], &tally));
         let mut writer = Watched::new(Sink::new(on.alloc, AMPLE, &tally)?);
-        let masked = on
-            .automaton
-            .try_mask_stream(on.alloc, &mut reader, &mut writer, MASK);
+        let masked = on.automaton.try_mask_stream_counted(
+            on.alloc,
+            &mut reader,
+            &mut writer,
+            MASK,
+            &mut Steps::new(),
+        );
         equal(on.rt, &Outcome::of(&masked), &self.outcome, self.shows);
         same(on.rt, &writer.into_inner().taken, self.writes, self.shows);
         Ok(())

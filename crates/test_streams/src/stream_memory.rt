@@ -50,7 +50,13 @@ fn replacement_outcome<A: Search>(
     let mut steps = Steps::new();
     let sloth: &[&[u8]] = &[b"sloth"];
     let answer = if of_any_kind {
-        automaton.try_stream_replace_all_any_kind(alloc, &mut reader, &mut writer, sloth)
+        automaton.try_stream_replace_all_any_kind_counted(
+            alloc,
+            &mut reader,
+            &mut writer,
+            sloth,
+            &mut steps,
+        )
     } else {
         automaton.try_stream_replace_all_counted(alloc, &mut reader, &mut writer, sloth, &mut steps)
     };

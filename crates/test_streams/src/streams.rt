@@ -7,7 +7,8 @@ ghost use Rattle.std.specs.Prelude.{◌≡◌, false};
 use crate::asserts::equal;
 use crate::devices::{AMPLE, Given, Outcome, Sink, Source, Tally};
 use ac_automaton::error::{MatchErrorKind, StreamError};
-use ac_automaton::stream::{ItemSearch, StreamFindIter, StreamIter};
+use ac_automaton::stream::overlapping::stream_find_overlapping_iter;
+use ac_automaton::stream::{ItemSearch, StreamFindIter, StreamIter, StreamKinds, stream_find_iter};
 use ac_automaton::watched::Watched;
 use ac_input::search::{Match, MatchKind};
 use ac_input::steps::Steps;
@@ -508,10 +509,10 @@ fn try_stream<'a, A: Search, R: Read>(
             automaton.try_stream_find_iter(alloc, reader)?;
         }
         Sought::MatchesOfAnyKind => {
-            automaton.try_stream_find_iter_any_kind(alloc, reader)?;
+            stream_find_iter(reader, automaton, StreamKinds::AnyKind, alloc)?;
         }
         Sought::Occurrences => {
-            automaton.try_stream_find_overlapping_iter(alloc, reader)?;
+            stream_find_overlapping_iter(reader, automaton, alloc)?;
         }
     }
     Ok(())

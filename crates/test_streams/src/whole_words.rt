@@ -4,7 +4,11 @@ use crate::asserts::{equal, same};
 use crate::devices::{AMPLE, Given, Outcome, Sink, Source, Tally};
 use crate::streams::next_pick;
 use ac_automaton::error::MatchErrorKind;
-use ac_automaton::stream::{ItemSearch, OverlappingWordSearch, StreamIter, WordSearch};
+use ac_automaton::stream::mask::StreamWordMask;
+use ac_automaton::stream::{
+    ItemSearch, OverlappingWordSearch, StreamIter, WordSearch, stream_find_overlapping_word_iter,
+    stream_find_word_iter,
+};
 use ac_automaton::watched::Watched;
 use ac_input::search::MatchKind;
 use ac_input::search::MatchKind::{LeftmostFirst, LeftmostLongest, Standard};
@@ -65,9 +69,7 @@ impl Words<'_> {
         let tally = Tally::new();
         let given = Given::Whole(self.text);
         let mut reader = Watched::new(Source::new(given, most, &[], &tally));
-        let mut words = on
-            .automaton
-            .try_stream_find_word_iter(self.kind, on.alloc, &mut reader)?;
+        let mut words = stream_find_word_iter(&mut reader, on.automaton, self.kind, on.alloc)?;
         are_given(on.rt, &mut words, self.gives, self.shows);
         Ok(())
     }
@@ -76,9 +78,7 @@ impl Words<'_> {
         let tally = Tally::new();
         let given = Given::Whole(self.text);
         let mut reader = Watched::new(Source::new(given, most, &[], &tally));
-        let mut words = on
-            .automaton
-            .try_stream_find_overlapping_word_iter(on.alloc, &mut reader)?;
+        let mut words = stream_find_overlapping_word_iter(&mut reader, on.automaton, on.alloc)?;
         are_given(on.rt, &mut words, self.lists, self.shows);
         Ok(())
     }
@@ -93,7 +93,7 @@ impl Words<'_> {
                 if search.is_closed() {
                     return Err(Fail::from("the search is finished"));
                 }
-                let n = search.push(rest)?;
+                let n = search.push_counted(rest, &mut Steps::new())?;
                 rest = rest.get(n..).ok_or("the rest of a piece")?;
                 take_decided(&mut search, &mut found)?;
             }
@@ -118,7 +118,7 @@ impl Words<'_> {
                 if search.is_closed() {
                     return Err(Fail::from("the search is finished"));
                 }
-                let n = search.push(rest)?;
+                let n = search.push_counted(rest, &mut Steps::new())?;
                 rest = rest.get(n..).ok_or("the rest of a piece")?;
                 take_decided(&mut search, &mut found)?;
             }
@@ -135,8 +135,13 @@ impl Words<'_> {
         let given = Given::Whole(self.text);
         let mut reader = Watched::new(Source::new(given, most, &[], &tally));
         let mut writer = Watched::new(Sink::new(on.alloc, AMPLE, &tally)?);
-        on.automaton
-            .try_mask_words_stream(on.alloc, &mut reader, &mut writer, MASK)?;
+        on.automaton.try_mask_words_stream_counted(
+            on.alloc,
+            &mut reader,
+            &mut writer,
+            MASK,
+            &mut Steps::new(),
+        )?;
         same(on.rt, &writer.into_inner().taken, self.masks, self.shows);
         Ok(())
     }
@@ -147,7 +152,7 @@ impl Words<'_> {
         on: &Trial<'_, T, A>,
         most: usize,
     ) -> Result<(), Fail> {
-        let mut stream = on.automaton.try_stream_word_mask(on.alloc, MASK)?;
+        let mut stream = StreamWordMask::new(on.automaton, MASK, on.alloc)?;
         let mut text = Vec::new(on.alloc);
         for piece in self.text.chunks(most.max(1)) {
             let mut rest = piece;
@@ -155,7 +160,7 @@ impl Words<'_> {
                 if stream.is_finished() {
                     return Err(Fail::from("the masking is finished"));
                 }
-                let n = stream.push(rest)?;
+                let n = stream.push_counted(rest, &mut Steps::new())?;
                 rest = rest.get(n..).ok_or("the rest of a piece")?;
                 text.extend_from_slice(stream.ready())?;
             }
@@ -170,7 +175,7 @@ impl Words<'_> {
     fn masked_in_memory<T: Abort, A: Search>(&self, on: &Trial<'_, T, A>) -> Result<(), Fail> {
         let mut text = self.text.to_vec(on.alloc)?;
         on.automaton
-            .try_mask_words(on.alloc, text.as_mut_slice(), MASK)?;
+            .try_mask_words_counted(on.alloc, text.as_mut_slice(), MASK, &mut Steps::new())?;
         same(on.rt, &text, self.masks, self.shows);
         Ok(())
     }
@@ -397,9 +402,14 @@ impl<T: Abort> Case<T> for Stopped {
         let mut reader = Watched::new(Source::new(given, 1, &[], &tally));
         let mut writer = Watched::new(Sink::new(on.alloc, AMPLE, &tally)?);
         let dog: &[&[u8]] = &[b"dog"];
-        let replaced = on
-            .automaton
-            .try_stream_replace_words(LeftmostLongest, on.alloc, &mut reader, &mut writer, dog);
+        let replaced = on.automaton.try_stream_replace_words_counted(
+            LeftmostLongest,
+            on.alloc,
+            &mut reader,
+            &mut writer,
+            dog,
+            &mut Steps::new(),
+        );
         equal(on.rt, &Outcome::of(&replaced), &self.outcome, self.shows);
         same(on.rt, &writer.into_inner().taken, self.writes, self.shows);
         Ok(())

@@ -1,5 +1,5 @@
 -- What a search takes from what was read ahead of it, and what its looks pay for.
-use Rattle.std.proofs.Common.{◌≡◌, ◌≢◌, ◌↔◌, ℕ, suc, ◌+◌, ◌<◌, ◌≤◌, min, Bool, true, false, IsTrue, List, [], ◌∷◌, length, take, drop, Option, sym, ap, subst, refl, ◌∙◌, arith, get_or, drop-cons}
+use Rattle.std.proofs.Common.{◌≡◌, ◌≢◌, ◌↔◌, ℕ, suc, ◌+◌, ◌<◌, ◌≤◌, Bool, true, false, IsTrue, List, [], ◌∷◌, length, take, drop, Option, sym, ap, subst, refl, ◌∙◌, arith, get_or, drop-cons}
 use Rattle.std.specs.Prelude.{IfSome, is_some, if◌then◌else◌, nat_le, slice_get}
 use Rattle.std.specs.List.{All}
 use Rattle.std.proofs.lemmas.Bool.{false≢true, leb-true, le-leb}
@@ -73,11 +73,12 @@ ahead-over {ahead} standard over is =
 pub ahead-none : {b : Built} {Reaches : List ℕ → StateID → Type 0} {matches : StateID → List ℕ} {anew : Option StateID}
     {bytes : List ℕ} {at : ℕ} {sid : StateID} {ahead : Ahead}
     → ahead.end ≤ length ahead.notes → left_notes ahead ≡ [] → (b.dictionary.kind ≡ Standard → ahead.lost.value ≡ 0)
-    → IsAhead b Reaches matches anew bytes at sid ahead
-ahead-none {Reaches} {matches} {anew} {bytes} {at} {sid} room none lost = record {
+    → (¬ IsTrue b.lanes → bytes_ahead ahead ≡ 0) → IsAhead b Reaches matches anew bytes at sid ahead
+ahead-none {Reaches} {matches} {anew} {bytes} {at} {sid} room none lost nothing = record {
   room = room;
   are = subst (All (IsNote Reaches matches bytes)) (sym none) (λ k d lt. absurd (omega (arith, lt)));
   most = let e = ap noted_len none in omega (arith, e);
+  none = nothing;
   taken = λ standard. (
     lost standard,
     (at, sid, subst (λ notes. TakesTo Reaches matches anew bytes at sid notes at sid) (sym none) (refl, refl)),
@@ -89,7 +90,7 @@ pub ahead-fresh : {b : Built} {Reaches : List ℕ → StateID → Type 0} {match
     {bytes : List ℕ} {at : ℕ} {sid : StateID} {ahead : Ahead}
     → ahead.end ≤ length ahead.notes → left_notes ahead ≡ [] → bytes_ahead ahead ≡ 0
     → IsAhead b Reaches matches anew bytes at sid ahead
-ahead-fresh room none nothing = ahead-none room none (λ standard. omega (arith, nothing))
+ahead-fresh room none nothing = ahead-none room none (λ standard. omega (arith, nothing)) (λ _. nothing)
 
 -- what was read ahead stays so for a search that stands elsewhere, if no note is left
 pub ahead-elsewhere : {b : Built} {Reaches : List ℕ → StateID → Type 0} {matches : StateID → List ℕ}
@@ -97,7 +98,7 @@ pub ahead-elsewhere : {b : Built} {Reaches : List ℕ → StateID → Type 0} {m
     (state : StateID) {ahead : Ahead}
     → left_notes ahead ≡ [] → IsAhead b Reaches matches anew bytes at sid ahead
     → IsAhead b Reaches matches other more place state ahead
-ahead-elsewhere other place state none is = ahead-none is.room none (λ standard. (is.taken standard).0)
+ahead-elsewhere other place state none is = ahead-none is.room none (λ standard. (is.taken standard).0) is.none
 
 -- what was read ahead of a search at the end of the bytes stays so in any state
 pub ahead-end : {b : Built} {Reaches : List ℕ → StateID → Type 0} {matches : StateID → List ℕ} {anew : Option StateID}
@@ -108,6 +109,7 @@ ahead-end {anew} {at} {state} over is = record {
   room = is.room;
   are = is.are;
   most = is.most;
+  none = is.none;
   taken = λ standard. (ahead-elsewhere anew at state (ahead-over standard over is).0 is).taken standard;
 }
 
@@ -116,7 +118,7 @@ pub ahead-noticed : {b : Built} {Reaches : List ℕ → StateID → Type 0} {mat
     {bytes : List ℕ} {at : ℕ} {sid : StateID} {ahead : Ahead} (close : Bool)
     → IsAhead b Reaches matches anew bytes at sid ahead
     → IsAhead b Reaches matches anew bytes at sid (record ahead { close = close })
-ahead-noticed close is = record { room = is.room; are = is.are; most = is.most; taken = is.taken }
+ahead-noticed close is = record { room = is.room; are = is.are; most = is.most; none = is.none; taken = is.taken }
 
 -- nor of what it costs
 pub paid-noticed : {before after : Ahead} {steps paid : Steps} (close : Bool) → Settles before after steps paid
@@ -137,6 +139,7 @@ ahead-forgotten over is forgotten =
     let same = forgotten.ahead in
     let e = ap noted_len forgotten.left in
     omega (arith, none, same, e))
+    (λ lanes. forgotten.ahead ∙ is.none lanes)
 
 -- ---- what looks pay for
 
@@ -253,6 +256,7 @@ skipped-ahead {Reaches} {matches} {anew} {bytes} {at} {sid} {before} skipped is 
           (kept-each (IsNote Reaches matches bytes) at (left_notes before) is.are);
       most = let few = kept-few at (left_notes before) in let same = ap noted_len left in
           omega (arith, is.most, few, same);
+      none = λ lanes. skipped.ahead ∙ is.none lanes;
       taken = λ standard.
           let taken = is.taken standard in
           let all = kept-all Reaches matches anew bytes at sid (left_notes before) taken.1.0 taken.1.1 taken.1.2 in
@@ -283,6 +287,4 @@ first-none (note ∷ notes) none is = absurd (false≢true (none ∙ ap is_some 
 -- passing over notes reads no byte ahead
 pub skipped-once : (bytes : List ℕ) {at : ℕ} {before after : Ahead} → HasSkipped at before after
     → StaysReadOnce bytes before after
-skipped-once bytes {before} {after} skipped = λ base once. let same = skipped.ahead in let until = skipped.same.until in
-    subst (λ n. n ≤ base + min after.until (length bytes)) (sym same)
-    (subst (λ n. bytes_ahead before ≤ base + min n (length bytes)) (sym until) once)
+skipped-once bytes skipped = let same = skipped.ahead in let until = skipped.same.until in omega (arith, same, until)

@@ -184,7 +184,7 @@ module _ (b : Built) (Reaches : Anchored → List ℕ → StateID → Type 0) (m
   taken-settles s = record { looked = let e = taken-len in omega (arith, e); scanned = refl; moved = refl }
 
   pub taken-once : StaysReadOnce bytes ahead after
-  taken-once = λ base once. let e = taken-len in omega (arith, once, e)
+  taken-once = let e = taken-len in omega (arith, e)
 
   -- what is left of it was read ahead of the search that has passed it
   pub taken-ahead : note.from ≡ at
@@ -193,6 +193,7 @@ module _ (b : Built) (Reaches : Anchored → List ℕ → StateID → Type 0) (m
     room = is.room;
     are = All-tail (IsNote (Reaches No) matches bytes) note (left_notes after) each;
     most = let e = ap noted_len left in let most = is.most in omega (arith, e, most);
+    none = λ lanes. let none = is.none lanes in let e = taken-len in omega (arith, none, e);
     taken = λ standard.
         let taken = is.taken standard in
         let takes : TakesTo (Reaches No) matches anew bytes at sid (note ∷ left_notes after) taken.1.0 taken.1.1 =
@@ -296,6 +297,7 @@ alone-ahead {Reaches} {matches} {anew} {bytes} {at} {taken} {sid} to {ahead} rea
       room = is.room;
       are = is.are;
       most = is.most;
+      none = is.none;
       taken = λ standard.
           let taken_ = is.taken standard in (
             taken_.0,

@@ -25,6 +25,7 @@ reads-none Free b Reaches matches anew sid bytes at len s = record {
   within = λ k d less. absurd (omega (arith, less));
   covered = refl;
   most = omega arith;
+  lanes = λ _. refl;
   counted = done-none s;
   taken = λ kind. (at, sid, (refl, refl));
 }
@@ -47,7 +48,7 @@ in-wider less more from to low high note within = let x = within.0 in let y = wi
 
 module _ (Free : ℕ → StateID → Type 0) (b : Built) (Reaches : List ℕ → StateID → Type 0) (matches : StateID → List ℕ)
     (anew : Option StateID) (sid start : StateID) (bytes : List ℕ) (at len slots : ℕ) (after : List Bool)
-    (begun lanes : Lanes) (notes : List Note) (s t : Steps)
+    (begun lanes : Lanes) (notes : List Note) (s t : Steps) (lanes_on : IsTrue b.lanes)
     (frees : b.dictionary.kind ≡ Standard → (byte : ℕ) → byte < 256 → IsTrue (has after byte)
     → Frees Reaches matches byte start)
     (free : (byte : ℕ) → byte < 256 → IsTrue (has after byte) → Free byte start)
@@ -147,6 +148,7 @@ module _ (Free : ℕ → StateID → Type 0) (b : Built) (Reaches : List ℕ →
             (All-append Within bs (cs ++ ds) within_b (All-append Within cs ds within_c within_d));
         covered = omega (arith, la, lb, lc, na, nb, nc, nd, read);
         most = omega (arith, into_a, into_b, into_c, into_d, read);
+        lanes = λ none. absurd (none lanes_on);
         counted = subst (λ k. Done (4 * k) 0 0 s t) (sym read) reads.counted;
         taken = all-taken;
       }

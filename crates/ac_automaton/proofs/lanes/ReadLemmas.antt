@@ -21,6 +21,7 @@ reads-weaker {Free} {matches} {anew} {sid} {bytes} {at} {notes} more h = record 
   within = h.within;
   covered = h.covered;
   most = h.most;
+  lanes = h.lanes;
   counted = h.counted;
   taken = λ kind. let all : TakesEachBy Free matches anew bytes at sid notes = h.taken kind in
       (all.0, all.1, takes-weaker matches anew bytes (more kind) at sid notes all.0 all.1 all.2);

@@ -95,6 +95,7 @@ ahead-stays {Reaches} {matches} {anew} bytes other {at} {sid} {ahead} standard s
       room = is.room;
       are = stay.0;
       most = is.most;
+      none = is.none;
       taken = λ s. (taken.0, (taken.1.0, taken.1.1, stay.1));
     }
 

@@ -11,7 +11,7 @@ use Rattle.ac_input.specs.declared.steps.Steps.{Steps}
 use Rattle.ac_input.specs.Occurrence.{Occurrence}
 use Rattle.ac_input.specs.Work.{longest, lookups_per_byte}
 use Rattle.ac_automaton.specs.Automaton.{Built}
-use Rattle.ac_automaton.specs.Stream.{AllWords, CanStream, IsOnCourse, IsSearched, Occurrences, Picks, Sequence, StreamProgress, Words, again_for, fresh_progress, items_of, read_again, read_by, read_in_all}
+use Rattle.ac_automaton.specs.Stream.{AllWords, CanStream, IsOnCourse, IsSearched, Occurrences, Picks, Sequence, StreamProgress, Words, again_for, fresh_progress, items_of, in_vain, looked_in_all, read_by, read_in_all}
 use Rattle.ac_automaton.specs.Stream.Pump.{Handling, PumpsAt, PumpsMatches, PumpsOccurrences}
 use Rattle.ac_automaton.specs.Stream.Replace.{CostsItems, CostsSearch, HasSearched}
 use Rattle.ac_automaton.specs.Stream.WholeWords.{PumpsAllWords, PumpsWords, asked_for}
@@ -35,13 +35,12 @@ again-within LeftmostLongest long n few more le = let again = mul-le-mul_left (l
 
 -- what may be read again for the items returned is within what may be for all items
 again-all : (q : Sequence) {t : StreamProgress q} → IsOnCourse t
-    → read_in_all t ≤ length (read_by t)
-    + read_again t.built.dictionary (length (read_by t)) (length (items_of q t.built.dictionary (read_by t)))
+    → read_in_all t ≤ looked_in_all q t.built (length (read_by t)) (length (items_of q t.built.dictionary (read_by t)))
 again-all q {t} course =
     let begun = course.begun in
     let long = ap length begun.1 in
     let both = length-append t.given begun.0 in
-    let again = again-within t.built.dictionary.kind (longest t.built.dictionary.patterns) (length (read_by t))
+    let again = again-within t.built.dictionary.kind (longest t.built.dictionary.patterns) (in_vain q t.built (length (read_by t)))
     (length t.given) (length (items_of q t.built.dictionary (read_by t))) (omega arith) in
     omega arith
 
@@ -60,7 +59,7 @@ cost-searched {R} {q} b s t r0 r1 before after result fresh h =
     let n = length (read_by t) in
     let looks =
     subst (λ c. t.looked ≤ lookups_per_byte c.deterministic
-    * (n + read_again c.dictionary n (length (items_of q c.dictionary (read_by t))))) built
+    * looked_in_all q c n (length (items_of q c.dictionary (read_by t)))) built
     (looks-fit t.built.deterministic t.looked (read_in_all t) _ paid.looked (again-all q h.course)) in (
       t.pieces,
       h.read,
@@ -80,14 +79,15 @@ pub costs-standard : {R : Type 0} (q : Sequence) (b : Built) (r0 r1 : Watched R)
     → CostsSearch b r0 r1 before after result
 costs-standard q b r0 r1 before after result standard (pieces, read, cost, whole) =
     let x = concat pieces in
-    let none = λ (items : List Occurrence).
-    ap (λ kind. again_for kind (longest b.dictionary.patterns) (length x) (length items)) standard in (
+    let none = λ (r : Sequence).
+    ap (λ kind. again_for kind (longest b.dictionary.patterns) (in_vain r b (length x))
+    (length (items_of r b.dictionary x))) standard in (
       pieces,
       read,
       record {
         looked = subst
             (λ k. after.looked.value ≤ before.looked.value + lookups_per_byte b.deterministic * (length x + k))
-            (none (items_of q b.dictionary x) ∙ sym (none (items_of Picks b.dictionary x))) cost.looked;
+            (none q ∙ sym (none Picks)) cost.looked;
         scanned = cost.scanned;
         moved = cost.moved;
       },

@@ -78,6 +78,7 @@ module _ {S : Type 0} (A : Ghosts S) (a : S) (anew : Option StateID) (held : Lis
         room = is.room;
         are = is.are;
         most = is.most;
+        none = is.none;
         taken = λ standard.
             let none = (ahead-over standard (over standard) is).0 in
             (ahead-elsewhere anew place state none is).taken standard;

@@ -54,6 +54,7 @@ module _ {S : Type 0} (A : Ghosts S) (i : Inside S) (is : IsSettled A i) where
       let live : Option ℕ = Some stands.live in
       let ahead : IsAheadOfStream s (bytes_ahead i.ahead) = record {
         once = omega (arith, once, long);
+        lanes = notes.none;
         standard = λ standard.
             let w = ahead-within standard (omega (arith, long, behind, inside)) notes in
             (omega (arith, w.0, long, behind, inside), w.1);
@@ -100,7 +101,7 @@ fresh-kept A a {start} n {buffer} ahead count pieces {sums} right empty zero_giv
     fresh-view b pieces.items count.value start n buffer empty zero_given held settled in
     kept-from A (fresh_inside a start buffer ahead count pieces sums)
     (subst (λ t. IsStreamSearch (A.Reaches a No) t start start None count.value buffer false) (sym view) right)
-    (ahead-none room left (λ standard. omega (arith, nothing)))
+    (ahead-none room left (λ standard. omega (arith, nothing)) (λ _. nothing))
     (omega (arith, nothing)) (omega (arith, nothing))
 
 -- ---- the end of the input
@@ -273,7 +274,7 @@ module _ {S : Type 0} (A : Ghosts S) (i : Inside S) (r : Searched) (number : Cou
       let from = on.from in
       let long = ap length bytes in
       let was : IsReadOnce i.progress.from held i.ahead = omega (arith, kept.3, long) in
-      let is : IsReadOnce i.progress.from held ahead = notes.1 i.progress.from was in
+      let is : IsReadOnce i.progress.from held ahead = omega (arith, notes.1, was) in
       kept-from A then
       (subst (λ t. IsStreamSearch (A.Reaches i.automaton No) t i.start r.progress.sid r.progress.best number.value
       i.buffer i.over) (sym view)

@@ -270,8 +270,7 @@ all-paid s standard few = subst (λ n. s.looked ≤ lookups_per_byte s.built.det
   where
     none : read_in_all s ≡ length (read_by s)
     none = ap
-        (λ k. length (read_by s) + again_for k (longest s.built.dictionary.patterns) (length (read_by s))
-        (length s.given)) standard ∙ add-zero _
+        (λ k. length (read_by s) + again_for k (longest s.built.dictionary.patterns) 0 (length s.given)) standard ∙ add-zero _
 
 -- Where a search stands: what it has returned, with the rest of the state's list, is all that it has searched.
 module _ (s : StreamProgress Occurrences) (is : IsListingCourse s) (rest : List Occurrence)

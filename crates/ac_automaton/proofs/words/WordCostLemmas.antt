@@ -1,5 +1,5 @@
 -- What a search for whole words pays as it reads on.
-use Rattle.std.proofs.Common.{◌≡◌, ⊎_elim, ℕ, ◌+◌, ◌-◌, ◌<◌, ◌≤◌, false, List, ◌++◌, length, take, Option, Some, None, slice_range, sym, subst, refl, ◌∙◌, arith}
+use Rattle.std.proofs.Common.{◌≡◌, ⊎_elim, ℕ, ◌+◌, ◌-◌, ◌<◌, ◌≤◌, false, List, ◌++◌, length, take, Option, Some, None, slice_range, sym, ap, subst, refl, ◌∙◌, arith}
 use Rattle.std.proofs.lemmas.Bool.{cases_lt}
 use Rattle.std.proofs.lemmas.List.{length-take-le}
 use Rattle.ac_input.specs.Number.{StateID}
@@ -57,6 +57,14 @@ bytes-pay b Reaches x last at end taken {sid} {before} {after} order le inside f
           order (omega arith) looks e paid;
       only = record { rose = omega arith; scanned = done.scanned; moved = done.moved };
       some = omega arith;
+      rests = λ stays.
+          let same : slice_range x last (at + taken) ≡ text = ap (slice_range x last)
+          (let e : at + taken ≡ at = omega (arith, stays) in e) in
+          let still = looks alive.0 alive.0 alive.1 (subst (λ l. IsLive m false l alive.0) (sym same) alive.1) in
+          let long = ap (λ l. live_len l alive.0) same in
+          let rose = still.some in
+          let most = still.bound in
+          omega (arith, stays, long, rose, most);
     }
 
 -- so are those that a search for whole words makes
@@ -84,6 +92,7 @@ pays-then {b} {x} {last} {p} {q} {r} {s} {t} {u} le further one two =
           two.paid mid more (one.paid looks mid paid (omega arith)) (omega arith);
       only = record { rose = omega arith; scanned = c.scanned ∙ a.scanned; moved = c.moved ∙ a.moved };
       some = omega arith;
+      rests = λ stays. two.rests (omega (arith, le, stays)) ∙ one.rests (omega (arith, further, stays));
     }
 
 -- nothing is paid where nothing is read
@@ -95,6 +104,7 @@ pays-none b x last at s =
           subst (λ k. IsPaidAt b.dictionary b.deterministic (text_from b.dictionary x last) last at k) e paid;
       only = record { rose = omega arith; scanned = refl; moved = refl };
       some = omega arith;
+      rests = λ _. refl;
     }
 
 -- ---- how far it reads

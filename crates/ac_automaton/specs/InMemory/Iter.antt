@@ -16,13 +16,14 @@ use Rattle.ac_automaton.specs.Automaton.{Built, kind_asked, prefilter_for, searc
 use Rattle.ac_automaton.specs.declared.error.MatchErrorKind.{MatchErrorKind}
 use Rattle.ac_automaton.specs.declared.in_memory.iter.WalkPlace.{WalkPlace}
 
--- A walk: the automaton and the input; the place where it stands, and where its last pick ended; and how many states it
--- looked at, how many places it scanned and how many bytes it moved so far.
+-- A walk: the automaton and the input; the place where it stands, and where its last pick ended; how many picks it gave
+-- so far; and how many states it looked at, how many places it scanned and how many bytes it moved for them.
 pub record Walk : Type 0 where
   pub built : Built
   pub asked : Asked
   pub at : ℕ
   pub last : Option ℕ
+  pub given : ℕ
   pub looked : ℕ
   pub scanned : ℕ
   pub moved : ℕ
@@ -30,16 +31,27 @@ pub record Walk : Type 0 where
 -- a walk that has not begun
 abbrev pub fresh_walk : Built → Asked → Walk
 fresh_walk b asked =
-    record { built = b; asked = asked; at = asked.span.start; last = None; looked = 0; scanned = 0; moved = 0 }
+    record {
+      built = b;
+      asked = asked;
+      at = asked.span.start;
+      last = None;
+      given = 0;
+      looked = 0;
+      scanned = 0;
+      moved = 0;
+    }
 
--- a walk that began at a place, with the input that is left, the end of its last pick and the steps that it took
-abbrev pub walk_at : Built → ℕ → Asked → Option ℕ → Steps → Walk
-walk_at b first left last sums =
+-- a walk that began at a place, with the input that is left, the end of its last pick, how many it gave, and the steps
+-- that it took
+abbrev pub walk_at : Built → ℕ → Asked → Option ℕ → ℕ → Steps → Walk
+walk_at b first left last given sums =
     record {
       built = b;
       asked = record left { span = record left.span { start = first } };
       at = left.span.start;
       last = last;
+      given = given;
       looked = sums.looked.value;
       scanned = sums.scanned.value;
       moved = sums.moved.value;
@@ -77,7 +89,7 @@ AnswersFindIterFrom b supports asked place (Err error) =
 -- a walk after its next pick: it stands at the pick's end, or past the span where there was none
 abbrev pub walk_after_pick : Walk → Option Occurrence → Walk
 walk_after_pick w None = record w { at = w.asked.span.end + 1 }
-walk_after_pick w (Some o) = record w { at = o.end; last = Some o.end }
+walk_after_pick w (Some o) = record w { at = o.end; last = Some o.end; given = w.given + 1 }
 
 -- the result is the first walk's next pick, and the second walk is the first one after that pick
 abbrev pub GivesPick : Walk → Option Occurrence → Walk → Type 0
@@ -91,14 +103,16 @@ WalkCounts w v before after =
     (states places bytes : ℕ) × Done states places bytes before after × (v.looked ≡ w.looked + states)
     × (v.scanned ≡ w.scanned + places) × (v.moved ≡ w.moved + bytes)
 
--- What the next pick of a walk that stands at a place may cost. The looks are linear in the rest of the span. Under
--- standard they end with the pick. Under a leftmost kind without an empty pattern they end at most the longest pattern
--- and one byte after its start. Scans for bytes never pass the pick.
+-- What the next pick of a walk that stands at a place may cost. The looks are linear in the rest of the span; without an
+-- empty pattern it is searched once. Under standard they end with the pick. Under a leftmost kind without an empty
+-- pattern they end at most the longest pattern and one byte after its start. Scans for bytes never pass the pick.
 pub record IsPickWork (kind : MatchKind) (deterministic : Bool) (s : Search) (at : ℕ) (r : Option Occurrence)
     (before after : Steps) : Type 0 where
   pub looked : after.looked.value ≤ before.looked.value + 2 * (lookups_per_byte deterministic * (s.end - at))
   pub standard : kind ≡ Standard
       → after.looked.value ≤ before.looked.value + lookups_per_byte deterministic * (over_at s r - at)
+  pub once : 1 ≤ shortest s.patterns
+      → after.looked.value ≤ before.looked.value + lookups_per_byte deterministic * (s.end - at)
   pub leftmost : 1 ≤ shortest s.patterns → (o : Occurrence) → r ≡ Some o
       → after.looked.value ≤ before.looked.value + lookups_per_byte deterministic
       * (o.start + longest s.patterns + 1 - at)
@@ -114,11 +128,18 @@ pub record IsNextWork (w : Walk) (r : Option Occurrence) (before after : Steps) 
 abbrev pub passed : Walk → ℕ
 passed w = min w.at w.asked.span.end - w.asked.span.start
 
+-- how many bytes a walk may have looked at again: after each pick as many as the longest pattern has, and one
+abbrev pub passed_again : Walk → ℕ
+passed_again w = (longest w.built.dictionary.patterns + 1) * w.given
+
 -- What a walk has cost so far. Under standard it made at most one look for each byte of the span that it has passed, or
--- two if the automaton isn't deterministic. Under any kind it scanned at most 256 places for each of these, and moved
--- no byte.
+-- two if the automaton isn't deterministic. Under a leftmost kind without an empty pattern it made as many for each byte
+-- that it may have looked at again. Under any kind it scanned at most 256 places for each byte that it has passed, and
+-- moved no byte.
 pub record IsWithinBudget (w : Walk) : Type 0 where
   pub looked : walk_kind w ≡ Standard → w.looked ≤ lookups_per_byte w.built.deterministic * passed w
+  pub leftmost : 1 ≤ shortest w.built.dictionary.patterns
+      → w.looked ≤ lookups_per_byte w.built.deterministic * (passed w + passed_again w)
   pub scanned : w.scanned ≤ 256 * passed w
   pub moved : w.moved ≡ 0
 
@@ -147,11 +168,16 @@ CostsPick w v before after r =
 
 -- What a walk that reads ahead has cost so far. Under standard it made at most one look for each byte of the span, or
 -- two if the automaton isn't deterministic; and no more than those for the bytes that it has passed, and for
--- `most_ahead` more. Under any kind it scanned at most 256 places for each byte that it has passed, and moved no byte.
+-- `most_ahead` more. Under a leftmost kind without an empty pattern it made no more than those for the bytes that it has
+-- passed and may have looked at again, and one for each byte of the span, read ahead in vain. Under any kind it scanned
+-- at most 256 places for each byte that it has passed, and moved no byte.
 pub record IsWithinBudgetAhead (w : Walk) : Type 0 where
   pub looked : walk_kind w ≡ Standard
       → w.looked ≤ lookups_per_byte w.built.deterministic * (w.asked.span.end - w.asked.span.start)
   pub near : walk_kind w ≡ Standard → w.looked ≤ lookups_per_byte w.built.deterministic * passed w + most_ahead
+  pub leftmost : 1 ≤ shortest w.built.dictionary.patterns
+      → w.looked ≤ lookups_per_byte w.built.deterministic * (passed w + passed_again w)
+      + (w.asked.span.end - w.asked.span.start)
   pub scanned : w.scanned ≤ 256 * passed w
   pub moved : w.moved ≡ 0
 

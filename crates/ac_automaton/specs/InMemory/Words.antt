@@ -1,5 +1,4 @@
 -- A walk over the whole words of a text: where it stands, what is left of it, and what it costs.
-pub mod Overlapping
 pub mod Replace
 use Rattle.std.specs.Prelude.{◌≡◌, ◌⊎◌, ℕ, ◌+◌, ◌-◌, ◌*◌, ◌≤◌, List, [], length, Option, None, Some, Result, Ok, Err, false}
 use Rattle.ac_input.specs.Number.{StateID}
@@ -23,13 +22,14 @@ use Rattle.ac_automaton.specs.declared.error.MatchErrorKind.{MatchErrorKind}
 use Rattle.ac_automaton.specs.declared.error.MatchErrorKind.TheVariants.{UnsupportedEmpty}
 use Rattle.ac_automaton.specs.declared.words.WordPlace.{WordPlace}
 
--- A walk: the automaton, the kind and the text; the place from which the words that are left begin; and how many states it looked
--- at, places it scanned and bytes it moved so far.
+-- A walk: the automaton, the kind and the text; the place from which the words that are left begin; up to which place it has read;
+-- and how many states it looked at, places it scanned and bytes it moved so far.
 pub record WordWalk : Type 0 where
   pub built : Built
   pub kind : MatchKind
   pub haystack : List ℕ
   pub at : ℕ
+  pub read : ℕ
   pub looked : ℕ
   pub scanned : ℕ
   pub moved : ℕ
@@ -42,6 +42,7 @@ word_walk_at b haystack p sums =
       kind = p.kind;
       haystack = haystack;
       at = p.last;
+      read = p.at;
       looked = sums.looked.value;
       scanned = sums.scanned.value;
       moved = sums.moved.value;
@@ -50,7 +51,7 @@ word_walk_at b haystack p sums =
 -- a walk that has not begun
 abbrev pub fresh_words : Built → MatchKind → List ℕ → WordWalk
 fresh_words b kind haystack =
-    record { built = b; kind = kind; haystack = haystack; at = 0; looked = 0; scanned = 0; moved = 0 }
+    record { built = b; kind = kind; haystack = haystack; at = 0; read = 0; looked = 0; scanned = 0; moved = 0 }
 
 -- the search of its text
 abbrev pub word_search : WordWalk → Search
@@ -81,7 +82,7 @@ IsWordsRefusal b supports error =
 abbrev pub AnswersWordsFrom : Built → (Anchored → Type 0) → MatchKind → List ℕ → ℕ → Result WordWalk MatchErrorKind → Type 0
 AnswersWordsFrom b supports kind haystack at (Ok w) =
     supports No × (b.dictionary.kind ≡ Standard) × (1 ≤ shortest b.dictionary.patterns)
-    × (w ≡ record (fresh_words b kind haystack) { at = at })
+    × (w ≡ record (fresh_words b kind haystack) { at = at; read = at })
 AnswersWordsFrom b supports kind haystack at (Err error) = IsWordsRefusal b supports error
 
 -- a walk over the words that has not begun was made; or the error says why not
@@ -97,7 +98,7 @@ word_walk_after w (Some o) = record w { at = o.end }
 abbrev pub GivesWord : WordWalk → Option Occurrence → WordWalk → Type 0
 GivesWord w r v =
     IsPickAmong OccursWhole w.kind (word_search w) w.at None r
-    × (v ≡ record (word_walk_after w r) { looked = v.looked; scanned = v.scanned; moved = v.moved })
+    × (v ≡ record (word_walk_after w r) { read = v.read; looked = v.looked; scanned = v.scanned; moved = v.moved })
 
 -- how far a walk may read for its next word
 abbrev pub words_reach : WordWalk → Option Occurrence → ℕ
@@ -105,10 +106,12 @@ words_reach w None = length w.haystack
 words_reach w (Some o) = word_reach w.kind w.built.dictionary.patterns o
 
 -- The walk counts exactly what was done in between: at most one look for each byte from where it stood to where it may read for the
--- word, or two if the automaton isn't deterministic.
+-- word, or two if the automaton isn't deterministic. Where there is no word it has read all, and once it has it counts nothing.
 pub record CostsNextWord (w v : WordWalk) (before after : Steps) (r : Option Occurrence) : Type 0 where
   pub counts : (states places bytes : ℕ) × Done states places bytes before after × (v.looked ≡ w.looked + states)
       × (v.scanned ≡ w.scanned + places) × (v.moved ≡ w.moved + bytes)
   pub looked : after.looked.value ≤ before.looked.value + lookups_per_byte w.built.deterministic * (words_reach w r - w.at)
   pub scanned : after.scanned.value ≡ before.scanned.value
   pub moved : after.moved.value ≡ before.moved.value
+  pub ends : r ≡ None → v.read ≡ length w.haystack
+  pub over : w.read ≡ length w.haystack → after.looked.value ≡ before.looked.value

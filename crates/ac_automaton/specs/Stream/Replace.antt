@@ -10,7 +10,7 @@ use Rattle.ac_automaton.specs.Automaton.{Built}
 use Rattle.ac_automaton.specs.Stream.Devices.Buffer.{room_for}
 use Rattle.ac_automaton.specs.Stream.Devices.Moved.{NoneTouched}
 use Rattle.ac_automaton.specs.InMemory.Replace.{LieInOrder, matches_in}
-use Rattle.ac_automaton.specs.Stream.{AreAllGiven, CanBeCounted, CanStream, IsConfigRefusal, IsFront, IsOnCourse, IsSearched, LieApart, StreamCounts, StreamProgress, cut_of, items_of, read_again, read_by, Sequence}
+use Rattle.ac_automaton.specs.Stream.{AreAllGiven, CanBeCounted, CanStream, IsConfigRefusal, IsFront, IsOnCourse, IsSearched, LieApart, StreamCounts, StreamProgress, cut_of, items_of, looked_in_all, read_by, Sequence, Picks}
 use Rattle.ac_automaton.specs.Stream.Answer.{WritesStream}
 use Rattle.ac_automaton.specs.declared.error.StreamError.{StreamError}
 use Rattle.ac_automaton.specs.declared.error.StreamError.TheVariants.{Config, Memory}
@@ -47,31 +47,25 @@ AcceptsStream kinds b supports result = CanStream kinds b supports
 
 -- What a search of this many bytes of a stream, with so many items, may cost. Under standard no byte is looked at
 -- again.
-pub record IsStreamCost (b : Built) (n matches : ℕ) (before after : Steps) : Type 0 where
+pub record IsStreamCost (q : Sequence) (b : Built) (n matches : ℕ) (before after : Steps) : Type 0 where
   pub looked : after.looked.value
-      ≤ before.looked.value + lookups_per_byte b.deterministic * (n + read_again b.dictionary n matches)
+      ≤ before.looked.value + lookups_per_byte b.deterministic * looked_in_all q b n matches
   pub scanned : after.scanned.value ≡ before.scanned.value
   pub moved : 7 * after.moved.value ≤ 7 * before.moved.value + n
 
--- What the search of a stream costs, by the bytes that were read and by what it lists of them. If it reached the end, it
--- looked at each byte.
-abbrev pub CostsListed : {R E : Type 0} → (List ℕ → List Occurrence) → Built → Watched R → Watched R → Steps → Steps
-    → Result (Unit {0}) E → Type 0
-CostsListed items b reader_before reader_after before after result =
-    (pieces : List (List ℕ)) × (reader_after.pieces.items ≡ reader_before.pieces.items ++ pieces)
-    × IsStreamCost b (length (concat pieces)) (length (items (concat pieces))) before after
-    × OnOk result (before.looked.value + length (concat pieces) ≤ after.looked.value)
-
--- what the search for the items of a sequence costs
+-- What the search for the items of a sequence costs, by the bytes that were read and by the items in them. If it reached
+-- the end, it looked at each byte.
 abbrev pub CostsItems : {R E : Type 0} → Sequence → Built → Watched R → Watched R → Steps → Steps → Result (Unit {0}) E
     → Type 0
 CostsItems q b reader_before reader_after before after result =
-    CostsListed (λ x. items_of q b.dictionary x) b reader_before reader_after before after result
+    (pieces : List (List ℕ)) × (reader_after.pieces.items ≡ reader_before.pieces.items ++ pieces)
+    × IsStreamCost q b (length (concat pieces)) (length (items_of q b.dictionary (concat pieces))) before after
+    × OnOk result (before.looked.value + length (concat pieces) ≤ after.looked.value)
 
 -- what the search for matches costs
 abbrev pub CostsSearch : {R E : Type 0} → Built → Watched R → Watched R → Steps → Steps → Result (Unit {0}) E → Type 0
 CostsSearch b reader_before reader_after before after result =
-    CostsListed (λ x. matches_in b x) b reader_before reader_after before after result
+    CostsItems Picks b reader_before reader_after before after result
 
 -- the cost of a replacement: an error before the first read cost nothing
 abbrev pub CostsStream : {R : Type 0} → Built → Watched R → Watched R → Steps → Steps → Result (Unit {0}) StreamError

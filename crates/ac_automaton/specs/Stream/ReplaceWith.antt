@@ -9,7 +9,7 @@ use Rattle.ac_automaton.specs.Stream.Devices.Watched.{NoneRead, WritesWhole}
 use Rattle.ac_automaton.specs.InMemory.Replace.{IsForMatches, Replacer, RepliesAt}
 use Rattle.ac_automaton.specs.Stream.Pump.{Handling, PumpsMatches}
 use Rattle.ac_automaton.specs.declared.error.StreamError.{StreamError}
-use Rattle.ac_automaton.specs.declared.stream.StreamKinds.{StreamKinds}
+use Rattle.ac_automaton.specs.declared.stream.StreamKinds.TheVariants.{OnlyStandard}
 use Rattle.ac_automaton.specs.declared.stream.replace_with.Calling.{Calling}
 use Rattle.ac_automaton.specs.declared.stream.devices.watched.Watched.{Watched}
 
@@ -42,9 +42,9 @@ module _ {F W : Type 0} (contents : W → Option (List ℕ))
 
   -- The result of a replacement: the stream can't be searched, and nothing happened; or the chain came as far as the
   -- result says.
-  abbrev pub ReplacesStreamWith : {R : Type 0} → (R → Option (List ℕ)) → StreamKinds → Built → (Anchored → Type 0) → F
+  abbrev pub ReplacesStreamWith : {R : Type 0} → (R → Option (List ℕ)) → Built → (Anchored → Type 0) → F
       → Watched R → Watched R → Watched W → Watched W → Result (Unit {0}) StreamError → Type 0
-  ReplacesStreamWith remaining kinds b supports f reader_before reader_after writer_before writer_after result =
+  ReplacesStreamWith remaining b supports f reader_before reader_after writer_before writer_after result =
       (last : F) × (before after : Steps)
-      × PumpsMatches calling remaining kinds b supports reader_before reader_after (record { f = f }, writer_before)
+      × PumpsMatches calling remaining OnlyStandard b supports reader_before reader_after (record { f = f }, writer_before)
       (record { f = last }, writer_after) before after result

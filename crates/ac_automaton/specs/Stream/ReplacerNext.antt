@@ -8,12 +8,6 @@ use Rattle.ac_automaton.specs.Stream.Replacer.{GivesText, ReplacerProgress}
 use Rattle.ac_automaton.specs.declared.automaton.Automaton.{Ghosts}
 use Rattle.ac_automaton.specs.contracts.stream.replacer.StreamReplacer.{the_row}
 
--- when the loan of the slice ends, the replacement has handed the slice out
-abbrev pub EndsGiving : (A : RattleType) → Ghosts A.Denot → MutBor ReplacerProgress → List (List ℕ)
-    → Option (Bor (List ℕ)) → Fml
-EndsGiving A g replacer replacements result =
-    Rests (the_row A g) replacer (λ after. GivesText replacer.now after replacements (option_copied result))
-
 -- when the loan of the slice ends, the replacement has handed the slice out and counted what that cost
 abbrev pub EndsCounted : (A : RattleType) → Ghosts A.Denot → MutBor ReplacerProgress → List (List ℕ)
     → Option (Bor (List ℕ)) → Steps → Steps → Fml

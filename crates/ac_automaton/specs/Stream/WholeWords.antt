@@ -12,7 +12,7 @@ use Rattle.ac_input.specs.Dictionary.{Dictionary}
 use Rattle.ac_input.specs.Occurrence.{Occurrence}
 use Rattle.ac_input.specs.Text.{replaced_from}
 use Rattle.ac_automaton.specs.Automaton.{Built}
-use Rattle.ac_automaton.specs.Stream.{AllWords, CanStream, Decides, IsNear, IsOnCourse, StreamProgress, Words, fresh_progress, items_of, room_of}
+use Rattle.ac_automaton.specs.Stream.{AllWords, CanStream, Decides, IsNear, IsOnCourse, IsSearched, Sequence, StreamProgress, Words, fresh_progress, items_of, room_of}
 use Rattle.ac_automaton.specs.Stream.Answer.{WritesStream}
 use Rattle.ac_automaton.specs.Stream.Devices.Moved.{NoneTouched}
 use Rattle.ac_automaton.specs.Stream.Iter.{IsStreamOver}
@@ -101,3 +101,7 @@ abbrev pub CostsWordStream : {R : Type 0} → Built → Watched R → Watched R 
 CostsWordStream b reader_before reader_after before after result =
     CostsItems Words b reader_before reader_after before after result
     × IfErr result (λ error. IsBegun error ⊎ (after ≡ before))
+
+-- a search that has searched all that was read looks at nothing more
+abbrev pub LooksNoMore : {q : Sequence} → StreamProgress q → Steps → Steps → Type 0
+LooksNoMore s before after = IsSearched s → after.looked.value ≡ before.looked.value

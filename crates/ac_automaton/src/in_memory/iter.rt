@@ -34,6 +34,7 @@ pub struct FindIter<'a, 'h, A: Search> {
     input: Input<'h>,
     last: Option<usize>,
     first: Count,
+    given: Count,
     sums: Steps,
 }
 
@@ -42,13 +43,13 @@ impl<'a, 'h, A: Search> Model for FindIter<'a, 'h, A> {
 
     ghost Value = { Walk };
 
-    ghost view = { λ i. walk_at (A.built i.automaton.now) i.first.value i.input i.last i.sums };
+    ghost view = { λ i. walk_at (A.built i.automaton.now) i.first.value i.input i.last i.given.value i.sums };
 
     ghost invariant = { λ i.
         A.supports i.automaton.now i.input.anchored
-        × IsOnItsWay (walk_at (A.built i.automaton.now) i.first.value i.input i.last i.sums)
-        × IsWithinBudget (walk_at (A.built i.automaton.now) i.first.value i.input i.last i.sums)
-        × CountsWalk (walk_at (A.built i.automaton.now) i.first.value i.input i.last i.sums) };
+        × IsOnItsWay (walk_at (A.built i.automaton.now) i.first.value i.input i.last i.given.value i.sums)
+        × IsWithinBudget (walk_at (A.built i.automaton.now) i.first.value i.input i.last i.given.value i.sums)
+        × CountsWalk (walk_at (A.built i.automaton.now) i.first.value i.input i.last i.given.value i.sums) };
 }
 
 /// Where a walk stands between two matches: the place from which it searches on, and where its last match ended, if it had one. It
@@ -126,6 +127,7 @@ impl<'a, 'h, A: Search> FindIter<'a, 'h, A> {
             input,
             last: place.last,
             first,
+            given: Count::zero(),
             sums: Steps::new(),
         }
     }
@@ -158,6 +160,7 @@ impl<'a, 'h, A: Search> FindIter<'a, 'h, A> {
             Some(found) => {
                 self.input.set_start(found.end());
                 self.last = Some(found.end());
+                self.given = self.given.next();
             }
             None => self.input.set_start(self.input.end() + 1),
         }

@@ -2,15 +2,13 @@
 //!
 //! An occurrence counts only where no word byte stands beside it: see [`words`](crate::words). Of those that count a walk takes the match
 //! under a kind, goes on where it ends, and so on to the end of the text. The automaton is of the standard kind, whatever kind is
-//! asked for, since it meets every occurrence. An empty pattern is an error. All words, overlapping ones too, are in [`overlapping`].
+//! asked for, since it meets every occurrence. An empty pattern is an error.
 ghost use Rattle.std.specs.Prelude.{◌≡◌, ◌≤◌, [], length, IfErr, IfOk, OnOk};
 ghost use Rattle.std.specs.Iterator.{YieldsFirst, item_count};
 ghost use Rattle.ac_input.specs.declared.search.Anchored.TheVariants.{No};
 ghost use Rattle.ac_input.specs.Word.{is_whole_word};
 ghost use Rattle.ac_input.specs.Work.{shortest};
 ghost use Rattle.ac_automaton.specs.InMemory.Words.{AnswersWords, AnswersWordsFrom, CanFindWords, CostsNextWord, GivesWord, IsWordsRefusal, words_left};
-
-pub mod overlapping;
 
 use crate::automaton::Automaton;
 use crate::error::MatchError;
@@ -24,7 +22,7 @@ use std::marker::Model;
 
 /// The remaining whole words of a text. From [`Search::try_find_word_iter`](crate::search::Search::try_find_word_iter).
 ///
-/// After its first `None` it always returns `None`, and does nothing.
+/// After its first `None` it always returns `None`, and looks at nothing more.
 #[derive(Drop)]
 pub struct FindWordIter<'a, 'h, A: Search> {
     automaton: &'a A,

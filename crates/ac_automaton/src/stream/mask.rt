@@ -35,11 +35,11 @@ use words::pushed::WordMasking;
 /// A masking of a stream whose pieces are pushed when they come. It owns its automaton, or borrows it as a reference.
 ///
 /// ```text
-/// let mut stream = ac.try_stream_mask(alloc, b'*')?;
+/// let mut stream = StreamMask::new(&ac, b'*', alloc)?;
 /// while let Some(piece) = receive() {
 ///     let mut rest = piece;
 ///     while !rest.is_empty() {
-///         let n = stream.push(rest)?;
+///         let n = stream.push_counted(rest, steps)?;
 ///         rest = &rest[n..];
 ///         send(stream.ready());
 ///     }
@@ -110,16 +110,8 @@ impl<A: Search> StreamMask<A> {
     /// byte once, allocates nothing, and moves a seventh of the bytes at most within its buffer.
     ///
     /// It requires that it wasn't finished. Returns the error `Position` if there are more bytes than places, and each time after that.
-    pub fn push(&mut self, piece: &[u8]) -> Result<usize, StreamError>
-        requires unclosed { self.old.closed ≡ false }
-        ensures pushed { MasksPushed self.old self.new piece.now result }
-        ensures kept { IsOnMask self.new }
-    {
-        let mut steps = Steps::new();
-        self.push_counted(piece, &mut steps)
-    }
-
-    /// The same; counts what it does.
+    ///
+    /// It counts what it does.
     pub fn push_counted(&mut self, piece: &[u8], steps: &mut Steps) -> Result<usize, StreamError>
         requires unclosed { self.old.closed ≡ false }
         ensures pushed { MasksPushed self.old self.new piece.now result }
@@ -133,11 +125,11 @@ impl<A: Search> StreamMask<A> {
 /// A masking of the whole words of a stream whose pieces are pushed when they come. It owns its automaton, or borrows it as a reference.
 ///
 /// ```text
-/// let mut stream = ac.try_stream_word_mask(alloc, b'*')?;
+/// let mut stream = StreamWordMask::new(&ac, b'*', alloc)?;
 /// while let Some(piece) = receive() {
 ///     let mut rest = piece;
 ///     while !rest.is_empty() {
-///         let n = stream.push(rest)?;
+///         let n = stream.push_counted(rest, steps)?;
 ///         rest = &rest[n..];
 ///         send(stream.ready());
 ///     }
@@ -146,10 +138,10 @@ impl<A: Search> StreamMask<A> {
 /// send(stream.ready());
 /// ```
 ///
-/// What it hands out, one slice after another, is the text that [`try_mask_words`](Search::try_mask_words) makes of what was pushed, up
-/// to the bytes that wait, however it is cut into pieces: see
-/// [`pieces_change_no_masked_words`](crate::stream::laws::pieces_change_no_masked_words). At most as many bytes wait as the longest
-/// pattern has, and none where nothing of what was read may still grow into an occurrence.
+/// What it hands out, one slice after another, is the text that [`try_mask_words_counted`](Search::try_mask_words_counted) makes of what
+/// was pushed, up to the bytes that wait, however it is cut into pieces: see
+/// [`pieces_change_no_masked_words`](crate::stream::laws::pieces_change_no_masked_words). At most as many bytes wait as the longest pattern
+/// has, and none where nothing of what was read may still grow into an occurrence.
 #[derive(Drop)]
 pub struct StreamWordMask<A: Search> {
     masking: WordMasking<A>,
@@ -212,16 +204,8 @@ impl<A: Search> StreamWordMask<A> {
     /// within each buffer.
     ///
     /// It requires that it wasn't finished. Returns the error `Position` if there are more bytes than places, and each time after that.
-    pub fn push(&mut self, piece: &[u8]) -> Result<usize, StreamError>
-        requires unclosed { self.old.closed ≡ false }
-        ensures pushed { MasksWordsPushed self.old self.new piece.now result }
-        ensures kept { IsOnWordMask self.new }
-    {
-        let mut steps = Steps::new();
-        self.push_counted(piece, &mut steps)
-    }
-
-    /// The same; counts what it does.
+    ///
+    /// It counts what it does.
     pub fn push_counted(&mut self, piece: &[u8], steps: &mut Steps) -> Result<usize, StreamError>
         requires unclosed { self.old.closed ≡ false }
         ensures pushed { MasksWordsPushed self.old self.new piece.now result }

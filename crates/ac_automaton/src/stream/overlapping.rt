@@ -9,9 +9,8 @@
 //! Only an automaton of the standard kind stores every occurrence. An empty pattern is an error, as for every search of a stream. No
 //! prefilter is used.
 //!
-//! [`StreamFindOverlappingIter`] is the search as an iterator, a [`StreamIter`], from
-//! [`try_stream_find_overlapping_iter`](crate::automaton::Automaton::try_stream_find_overlapping_iter). The first empty read ends it,
-//! and so does the first error.
+//! [`StreamFindOverlappingIter`] is the search as an iterator, a [`StreamIter`], from [`stream_find_overlapping_iter`]. The first empty
+//! read ends it, and so does the first error.
 ghost use Rattle.std.specs.Prelude.{◌≡◌, false};
 ghost use Rattle.std.specs.Borrow.{sem};
 ghost use Rattle.ac_automaton.specs.Stream.Iter.{AnswersStreamListing, RestsIfRefused};
@@ -26,14 +25,15 @@ pub(crate) use search::{configured, next_listed};
 pub use search::{ListPlace, Listed, ListingSearch};
 use std::alloc::Global;
 
-/// The remaining occurrences in a stream. From
-/// [`try_stream_find_overlapping_iter`](crate::automaton::Automaton::try_stream_find_overlapping_iter).
+/// The remaining occurrences in a stream. From [`stream_find_overlapping_iter`].
 pub type StreamFindOverlappingIter<'a, A, R> = StreamIter<'a, ListingSearch<'a, A>, R>;
 
-/// Every occurrence in a stream, one after another: as
-/// [`try_stream_find_overlapping_iter`](crate::automaton::Automaton::try_stream_find_overlapping_iter), but the reader is the first
-/// parameter. Call this one where your own contract speaks of the reader: it says that the reader is unchanged if the search returns
-/// an error. A contract can say what becomes of a borrowed value only for the first parameter.
+/// Every occurrence in a stream, one after another. Each is returned after the read that returned its last byte, and before the next one,
+/// by end, start and number. It allocates one buffer of 64 KiB, and nothing after that.
+///
+/// Returns an error if the automaton has no start for a search that isn't anchored, isn't of the standard kind, or has an empty pattern,
+/// checked in that order, and then if there is no memory for the buffer. The reader is unchanged then. A contract can say what becomes
+/// of a borrowed value only for the first parameter, so that is the reader.
 pub fn stream_find_overlapping_iter<'a, A: Search, R>(
     reader: &'a mut Watched<R>,
     automaton: &'a A,

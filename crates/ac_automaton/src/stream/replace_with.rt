@@ -58,10 +58,9 @@ where
     ghost precedes = { calling-precedes };
 }
 
-/// Writes the input, and in place of each match what the closure writes. It accepts these kinds.
+/// Writes the input, and in place of each match what the closure writes. It accepts the standard kind alone.
 pub fn replace_all_with<A: Search, R: Read, W: Write, F>(
     automaton: &A,
-    kinds: StreamKinds,
     alloc: Global,
     reader: &mut Watched<R>,
     writer: &mut Watched<W>,
@@ -72,12 +71,13 @@ where
     requires open { reader.old.ended ≡ false }
     requires ready { IsForMatches F.FnMut (length (A.built automaton.now).dictionary.patterns)
         replace_with }
-    ensures { ReplacesStreamWith W.contents F.FnMut R.remaining kinds (A.built automaton.now)
+    ensures { ReplacesStreamWith W.contents F.FnMut R.remaining (A.built automaton.now)
         (A.supports automaton.now) replace_with reader.old reader.new writer.old writer.new
         result }
 {
     let mut steps = Steps::new();
     let mut sink = Calling { f: replace_with };
+    let kinds = StreamKinds::OnlyStandard;
     pump_matches(
         automaton, kinds, alloc, reader, writer, &mut sink, &mut steps,
     )

@@ -35,13 +35,13 @@ enum Part {
 /// A replacement over a stream whose pieces are pushed when they come. It owns its automaton, or borrows it as a reference.
 ///
 /// ```text
-/// let mut replacer = ac.try_stream_replacer(alloc)?;
-/// let taken = replacer.push(piece)?;
+/// let mut replacer = StreamReplacer::any_kind(&ac, alloc)?;
+/// let taken = replacer.push_counted(piece, steps)?;
 /// while send_next(&mut replacer, replacements) {}
 /// ```
 ///
-/// A slice borrows the replacer, so a loop takes one in a function of its own: `send_next` calls [`StreamReplacer::next`], sends what
-/// it returns, and says whether that was a slice. [`StreamReplacer::write_to`] writes them all.
+/// A slice borrows the replacer, so a loop takes one in a function of its own: `send_next` calls [`StreamReplacer::next_counted`], sends what
+/// it returns, and says whether that was a slice. [`StreamReplacer::write_to_counted`] writes them all.
 #[derive(Drop)]
 pub struct StreamReplacer<A: Search> {
     search: StreamSearch<A>,
@@ -93,20 +93,13 @@ impl<A: Search + Drop> StreamReplacer<A> {
 }
 
 impl<A: Search> StreamReplacer<A> {
-    /// Takes the first bytes of a piece, as many as there is room for, as [`StreamSearch::push`] does. Returns how many. None are taken
-    /// while [`StreamReplacer::next`] has text to hand out; else at least one is, if there is one.
+    /// Takes the first bytes of a piece, as many as there is room for, as [`StreamSearch::push_counted`] does. Returns how many. None are
+    /// taken while [`StreamReplacer::next_counted`] has text to hand out; else at least one is, if there is one.
     ///
     /// It requires that the replacement wasn't finished. Returns the error `Position` if there are more bytes than places, and each time
     /// after that.
-    pub fn push(&mut self, piece: &[u8]) -> Result<usize, StreamError>
-        requires unfinished { self.old.finished ≡ false }
-        ensures { PushesText self.old self.new piece.now result }
-    {
-        let mut steps = Steps::new();
-        self.push_counted(piece, &mut steps)
-    }
-
-    /// The same; counts the bytes that it moves.
+    ///
+    /// It counts the bytes that it moves.
     pub fn push_counted(&mut self, piece: &[u8], steps: &mut Steps) -> Result<usize, StreamError>
         requires unfinished { self.old.finished ≡ false }
         ensures pushes { PushesText self.old self.new piece.now result }
@@ -134,7 +127,7 @@ impl<A: Search> StreamReplacer<A> {
         }
     }
 
-    /// Tells the replacement that nothing more comes: [`StreamReplacer::next`] hands out the text to its end.
+    /// Tells the replacement that nothing more comes: [`StreamReplacer::next_counted`] hands out the text to its end.
     pub fn finish(&mut self)
         ensures { self.new ≡ (record self.old { search = closed_by self.old.search; finished = true }) }
     {
@@ -142,7 +135,7 @@ impl<A: Search> StreamReplacer<A> {
         self.finished = true;
     }
 
-    /// How many replacements [`StreamReplacer::next`] takes: one for each pattern.
+    /// How many replacements [`StreamReplacer::next_counted`] takes: one for each pattern.
     pub fn patterns_len(&self) -> usize
         ensures { result ≡ length self.now.search.built.dictionary.patterns }
     {
@@ -247,24 +240,15 @@ impl<A: Search> StreamReplacer<A> {
 }
 
 impl<A: Search> StreamReplacer<A> {
-    ghost use Rattle.ac_automaton.specs.Stream.ReplacerNext.{EndsCounted, EndsGiving};
+    ghost use Rattle.ac_automaton.specs.Stream.ReplacerNext.{EndsCounted};
 
     /// The next slice of the replaced text, as far as it is decided: bytes that are held, or the replacement of a match, which may be
     /// empty; what was read between two matches is handed out only if there is some. None means that all that is decided was handed
     /// out: push more, or finish.
     ///
     /// It requires one replacement for each pattern. It takes them at each call and keeps none.
-    pub fn next<'b, 'r>(&'b mut self, replacements: &'b [&'r [u8]]) -> Option<&'b [u8]>
-        requires one_each { length replacements.now
-            ≡ length self.old.search.built.dictionary.patterns }
-        ensures* { sem 𝓛 (EndsGiving A.row A.Automaton self.entry (bytes_of replacements.now)
-            result) }
-    {
-        let mut steps = Steps::new();
-        self.next_counted(replacements, &mut steps)
-    }
-
-    /// The same; counts what it does.
+    ///
+    /// It counts what it does.
     pub fn next_counted<'b, 'r>(
         &'b mut self,
         replacements: &'b [&'r [u8]],
@@ -301,26 +285,13 @@ impl<A: Search> StreamReplacer<A> {
         Ok(true)
     }
 
-    /// Writes the replaced text, as far as it is decided and wasn't handed out before: each slice that [`StreamReplacer::next`] would
+    /// Writes the replaced text, as far as it is decided and wasn't handed out before: each slice that [`StreamReplacer::next_counted`] would
     /// return, by as many writes as that takes. The writer isn't flushed.
     ///
     /// It requires one replacement for each pattern. It stops at the first write that fails or takes no byte, and returns the error
     /// `Write` or `WriteZero`. What is left of the slice is lost then; a second call goes on with the next slice.
-    pub fn write_to<W: Write>(
-        &mut self,
-        replacements: &[&[u8]],
-        writer: &mut Watched<W>,
-    ) -> Result<(), StreamError>
-        requires one_each { length replacements.now
-            ≡ length self.old.search.built.dictionary.patterns }
-        ensures { WritesText W.contents (bytes_of replacements.now) self.old self.new
-            writer.old writer.new result }
-    {
-        let mut steps = Steps::new();
-        self.write_to_counted(replacements, writer, &mut steps)
-    }
-
-    /// The same; counts what it does.
+    ///
+    /// It counts what it does.
     pub fn write_to_counted<W: Write>(
         &mut self,
         replacements: &[&[u8]],

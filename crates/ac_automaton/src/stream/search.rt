@@ -5,8 +5,8 @@
 //! need of what was read. Under the standard kind a match that was found is never taken back, whatever is read after it; so it is
 //! returned at once.
 //!
-//! A [`StreamSearch`] returns the next match of what was read, without a read ([`StreamSearch::next`]), takes a piece that is pushed
-//! ([`StreamSearch::push`]) or makes one read (`read_more`), and lends the held bytes ([`StreamSearch::held`]). Up to its
+//! A [`StreamSearch`] returns the next match of what was read, without a read ([`StreamSearch::next_counted`]), takes a piece that is pushed
+//! ([`StreamSearch::push_counted`]) or makes one read (`read_more`), and lends the held bytes ([`StreamSearch::held`]). Up to its
 //! [`StreamSearch::cut`] everything is decided: a match still to be found begins there or later. So a caller may write only the bytes
 //! before the cut, and only the bytes after it have to be held: at most as many as the longest pattern has. If all the bytes read leave
 //! the automaton in its start, nothing is live: the search begins anew there, and nothing has to be held.
@@ -59,19 +59,19 @@ pub struct Progress {
 /// A search of a stream whose pieces are pushed when they come. It owns its automaton, or borrows it as a reference.
 ///
 /// ```text
-/// let mut search = ac.try_stream_search(alloc)?;
+/// let mut search = StreamSearch::any_kind(&ac, alloc)?;
 /// while let Some(piece) = receive() {
 ///     let mut rest = piece;
 ///     while !rest.is_empty() {
-///         let n = search.push(rest)?;
+///         let n = search.push_counted(rest, steps)?;
 ///         rest = &rest[n..];
-///         while let Some(found) = search.next() {
+///         while let Some(found) = search.next_counted(steps) {
 ///             // places are counted from the first byte of the stream
 ///         }
 ///     }
 /// }
 /// search.finish();
-/// while let Some(found) = search.next() {
+/// while let Some(found) = search.next_counted(steps) {
 ///     // those that waited for what might follow
 /// }
 /// ```
@@ -336,15 +336,8 @@ impl<A: Search> StreamSearch<A> {
     /// bytes as the longest pattern has, and one, are read again after a match.
     ///
     /// After more bytes were pushed than there are places it is always none.
-    pub fn next(&mut self) -> Option<Match>
-        ensures finds { FindsHeld self.old result self.new }
-        ensures kept { IsOnCourse self.new }
-    {
-        let mut steps = Steps::new();
-        self.next_counted(&mut steps)
-    }
-
-    /// The same; counts what it does.
+    ///
+    /// It counts what it does.
     pub fn next_counted(&mut self, steps: &mut Steps) -> Option<Match>
         ensures finds { FindsHeld self.old result self.new }
         ensures counts { StreamCounts self.old self.new steps.old steps.new }
@@ -389,7 +382,7 @@ impl<A: Search> StreamSearch<A> {
         self.progress.closed
     }
 
-    /// Tells the search that nothing more comes, so that the match that it has met is decided: [`StreamSearch::next`] returns all
+    /// Tells the search that nothing more comes, so that the match that it has met is decided: [`StreamSearch::next_counted`] returns all
     /// that are left. Under the standard kind each match is decided at once, so this changes nothing.
     pub fn finish(&mut self)
         ensures closed { self.new ≡ closed_by self.old }
@@ -415,7 +408,7 @@ impl<A: Search> StreamSearch<A> {
     }
 
     /// Takes the first bytes of a piece, as many as there is room for, after all that was pushed before. Returns how many: the piece
-    /// isn't needed any more. None are taken while [`StreamSearch::next`] may find a match in what was pushed before; else at least
+    /// isn't needed any more. None are taken while [`StreamSearch::next_counted`] may find a match in what was pushed before; else at least
     /// one is, if there is one.
     ///
     /// There is room for `max(65536, 8 * max(1, longest))` bytes, so a piece of up to seven eighths of that is mostly taken whole. It
@@ -424,16 +417,8 @@ impl<A: Search> StreamSearch<A> {
     ///
     /// It requires that the search wasn't finished, which only counts under a leftmost kind: see [`StreamSearch::is_closed`]. Returns
     /// the error `Position` if there are more bytes than places, and each time after that.
-    pub fn push(&mut self, piece: &[u8]) -> Result<usize, StreamError>
-        requires unclosed { self.old.closed ≡ false }
-        ensures pushes { Pushes (IsSearched self.old) self.old self.new piece.now result }
-        ensures kept { IsOnCourse self.new }
-    {
-        let mut steps = Steps::new();
-        self.push_counted(piece, &mut steps)
-    }
-
-    /// The same; counts the bytes that it moves.
+    ///
+    /// It counts the bytes that it moves.
     pub fn push_counted(&mut self, piece: &[u8], steps: &mut Steps) -> Result<usize, StreamError>
         requires unclosed { self.old.closed ≡ false }
         ensures pushes { Pushes (IsSearched self.old) self.old self.new piece.now result }

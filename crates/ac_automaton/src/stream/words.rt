@@ -5,8 +5,8 @@
 //! one byte more than the longest pattern has was read from its start on, or nothing of what was read is live. After the word the
 //! automaton reads again what it has read past it.
 //!
-//! A [`WordSearch`] returns the next word of what was read, without a read ([`WordSearch::next`]), takes a piece that is pushed
-//! ([`WordSearch::push`]), and makes one read, as an [`ItemSearch`]. Up to its [`cut`](WordSearch::cut) everything is decided: a word
+//! A [`WordSearch`] returns the next word of what was read, without a read ([`WordSearch::next_counted`]), takes a piece that is pushed
+//! ([`WordSearch::push_counted`]), and makes one read, as an [`ItemSearch`]. Up to its [`cut`](WordSearch::cut) everything is decided: a word
 //! still to be found begins there or later. The byte before a word counts, too, so one byte more is held than in a search for matches.
 ghost use Rattle.std.specs.Prelude.{◌≡◌, ◌↔◌, ◌-◌, [], false, true, length, IfErr, IfOk, IsTrue, drop};
 ghost use Rattle.std.specs.Borrow.{sem};
@@ -14,7 +14,7 @@ ghost use Rattle.ac_input.specs.declared.search.Anchored.TheVariants.{No};
 ghost use Rattle.ac_automaton.specs.Stream.{CanBeCounted, CanStream, FindsHeld, GoesOn, IsOnCourse, IsOutOfMemory, IsSearched, ReadsMore, StreamCounts, closed_by, cut_of, fresh_progress, read_by};
 ghost use Rattle.ac_automaton.specs.Stream.Iter.{RestsIfRefused};
 ghost use Rattle.ac_automaton.specs.Stream.Push.{Pushes};
-ghost use Rattle.ac_automaton.specs.Stream.WholeWords.{AnswersNewWords, FindsStreamWords, asked_for};
+ghost use Rattle.ac_automaton.specs.Stream.WholeWords.{AnswersNewWords, FindsStreamWords, LooksNoMore, asked_for};
 ghost use Rattle.ac_automaton.specs.declared.stream.StreamKinds.TheVariants.{OnlyStandard};
 
 mod held;
@@ -42,15 +42,15 @@ use std::marker::Model;
 /// while let Some(piece) = receive() {
 ///     let mut rest = piece;
 ///     while !rest.is_empty() {
-///         let n = search.push(rest)?;
+///         let n = search.push_counted(rest, steps)?;
 ///         rest = &rest[n..];
-///         while let Some(word) = search.next() {
+///         while let Some(word) = search.next_counted(steps) {
 ///             // places are counted from the first byte of the stream
 ///         }
 ///     }
 /// }
 /// search.finish();
-/// while let Some(word) = search.next() {
+/// while let Some(word) = search.next_counted(steps) {
 ///     // those that waited for what might follow
 /// }
 /// ```
@@ -150,18 +150,12 @@ impl<A: Search> WordSearch<A> {
     /// two looks at states. Under a leftmost kind at most as many bytes as the longest pattern has, and one, are read again after a word.
     ///
     /// After more bytes than there are places it is always none.
-    pub fn next(&mut self) -> Option<Match>
-        ensures finds { FindsHeld self.old result self.new }
-        ensures kept { IsOnCourse self.new }
-    {
-        let mut steps = Steps::new();
-        self.next_counted(&mut steps)
-    }
-
-    /// The same; counts what it does.
+    ///
+    /// It counts what it does.
     pub fn next_counted(&mut self, steps: &mut Steps) -> Option<Match>
         ensures finds { FindsHeld self.old result self.new }
         ensures counts { StreamCounts self.old self.new steps.old steps.new }
+        ensures over { LooksNoMore self.old steps.old steps.new }
         ensures kept { IsOnCourse self.new }
     {
         if self.text.is_over() {
@@ -202,7 +196,8 @@ impl<A: Search> WordSearch<A> {
         self.text.is_closed()
     }
 
-    /// Tells the search that nothing more comes, so that the words that wait are decided: [`WordSearch::next`] returns all that are left.
+    /// Tells the search that nothing more comes, so that the words that wait are decided: [`WordSearch::next_counted`] returns all that are
+    /// left.
     pub fn finish(&mut self)
         ensures closed { self.new ≡ closed_by self.old }
         ensures kept { IsOnCourse self.new }
@@ -218,7 +213,7 @@ impl<A: Search> WordSearch<A> {
     }
 
     /// Takes the first bytes of a piece, as many as there is room for, after all that was pushed before. Returns how many: the piece
-    /// isn't needed any more. None are taken while [`WordSearch::next`] may find a word in what was pushed before; else at least one
+    /// isn't needed any more. None are taken while [`WordSearch::next_counted`] may find a word in what was pushed before; else at least one
     /// is, if there is one.
     ///
     /// There is room for `max(65536, 8 * (max(1, longest) + 1))` bytes, so a piece of up to seven eighths of that is mostly taken whole.
@@ -227,16 +222,8 @@ impl<A: Search> WordSearch<A> {
     ///
     /// It requires that the search wasn't finished: see [`WordSearch::is_closed`]. Returns the error `Position` if there are more bytes
     /// than places, and each time after that.
-    pub fn push(&mut self, piece: &[u8]) -> Result<usize, StreamError>
-        requires unclosed { self.old.closed ≡ false }
-        ensures pushes { Pushes (IsSearched self.old) self.old self.new piece.now result }
-        ensures kept { IsOnCourse self.new }
-    {
-        let mut steps = Steps::new();
-        self.push_counted(piece, &mut steps)
-    }
-
-    /// The same; counts the bytes that it moves.
+    ///
+    /// It counts the bytes that it moves.
     pub fn push_counted(&mut self, piece: &[u8], steps: &mut Steps) -> Result<usize, StreamError>
         requires unclosed { self.old.closed ≡ false }
         ensures pushes { Pushes (IsSearched self.old) self.old self.new piece.now result }
@@ -319,12 +306,17 @@ impl<A: Search> ItemSearch for WordSearch<A> {
     }
 }
 
-/// The remaining whole words of a stream. From [`Search::try_stream_find_word_iter`].
+/// The remaining whole words of a stream. From [`stream_find_word_iter`].
 pub type StreamFindWordIter<'a, A, R> = StreamIter<'a, WordSearch<&'a A>, R>;
 
-/// The whole words of a stream under a kind, one after another: as [`Search::try_stream_find_word_iter`], but the reader is the first
-/// parameter. Call this one where your own contract speaks of the reader: it says that the reader is unchanged if the search returns
-/// an error. A contract can say what becomes of a borrowed value only for the first parameter.
+/// The whole words of a stream under a kind, one after another, as [`Search::try_find_word_iter`] gives those of a text in memory. A word
+/// waits for the byte after it, and under a leftmost kind for what may still be preferred to it: for one byte more than the longest
+/// pattern has, from its start on, or for a place where nothing is live. Each is returned before the next read once it is decided. It
+/// allocates one buffer of `max(65536, 8 * (longest + 1))` bytes, and nothing after that.
+///
+/// Returns an error if the automaton has no start for a search that isn't anchored, isn't of the standard kind, or has an empty pattern,
+/// checked in that order, and then if there is no memory for the buffer. The reader is unchanged then. A contract can say what becomes
+/// of a borrowed value only for the first parameter, so that is the reader.
 pub fn stream_find_word_iter<'a, A: Search, R>(
     reader: &'a mut Watched<R>,
     automaton: &'a A,

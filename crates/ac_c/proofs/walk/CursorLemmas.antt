@@ -112,7 +112,7 @@ pub cursor-some : (ahead : Bool) (ac : AhoCorasick) (haystack : List ℕ) (c : C
 cursor-some ahead ac haystack c w old new before after taken fits valid e h =
     let all : left_of w ≡ left_of_walk ac haystack c = ap left_of e in (
       subst (λ os. AreGiven os old new taken.0) all h.given,
-      subst (IsCursorAfter ac haystack c taken.1) (h.rest ∙ ap (drop taken.0) all)
+      subst (IsCursorAfter ac haystack c taken.1) (h.past.0 ∙ ap (drop taken.0) all)
           (cursor-after ac haystack c taken.1 h.moved fits valid.0.1 (h.cost.built ∙ ap (λ z. z.built) e)
           (h.cost.asked ∙ ap (λ z. z.asked) e) h.within h.goes),
     )
@@ -126,4 +126,5 @@ some-cost ahead ac haystack c w old new before after taken e h many = (
   h.moved,
   rw many (subst (λ z. WalksTo ahead z h.moved before after) e h.cost),
   sym (ap (λ z. z.start) h.goes.0),
+  let given = h.past.1 in let none : w.given ≡ 0 = ap (λ z. z.given) e in omega (arith, given, none),
 )

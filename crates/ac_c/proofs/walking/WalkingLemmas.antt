@@ -85,9 +85,16 @@ nothing-passed at end = omega arith
 
 -- a walk that has not begun is within its budget
 begun-paid : (ahead : Bool) (b : Built) (asked : Asked) → IsPaidWalk ahead (fresh_walk b asked)
-begun-paid false b asked = record { looked = λ kind. omega arith; scanned = omega arith; moved = refl }
+begun-paid false b asked =
+    record { looked = λ kind. omega arith; leftmost = λ some. omega arith; scanned = omega arith; moved = refl }
 begun-paid true b asked =
-    record { looked = λ kind. omega arith; near = λ kind. omega arith; scanned = omega arith; moved = refl }
+    record {
+      looked = λ kind. omega arith;
+      near = λ kind. omega arith;
+      leftmost = λ some. omega arith;
+      scanned = omega arith;
+      moved = refl;
+    }
 
 -- a walk that has not begun is on its way, and has counted nothing
 pub begun-accounted : (ahead : Bool) (b : Built) (asked : Asked) → asked.span.start ≤ asked.span.end + 1

@@ -32,17 +32,23 @@ from-written from out at o room =
 
 -- the walk after a call is the one before, but for its place and what it did
 abbrev IsMoved : WordWalk → WordWalk → ℕ → Type 0
-IsMoved w v at = v ≡ record w { at = at; looked = v.looked; scanned = v.scanned; moved = v.moved }
+IsMoved w v at = v ≡ record w { at = at; read = v.read; looked = v.looked; scanned = v.scanned; moved = v.moved }
 
 -- it is that of the first call, too, at another place
 pub words-same : (w v u : WordWalk) (at : ℕ) (o : Occurrence) → IsMoved w v at → GivesWord v (Some o) u → IsMoved w u o.end
 words-same w v u at o same gives =
-    gives.1 ∙ ap (λ (x : WordWalk). record x { at = o.end; looked = u.looked; scanned = u.scanned; moved = u.moved }) same
+    gives.1 ∙ ap (λ (x : WordWalk). record x {
+      at = o.end;
+      read = u.read;
+      looked = u.looked;
+      scanned = u.scanned;
+      moved = u.moved;
+    }) same
 
 -- where none is left it stays where it is
 pub words-stay : (w v u : WordWalk) (at : ℕ) → IsMoved w v at → GivesWord v None u → IsMoved w u at
 words-stay w v u at same gives =
-    gives.1 ∙ ap (λ (x : WordWalk). record x { looked = u.looked; scanned = u.scanned; moved = u.moved }) same
+    gives.1 ∙ ap (λ (x : WordWalk). record x { read = u.read; looked = u.looked; scanned = u.scanned; moved = u.moved }) same
 
 -- a walk's next word begins where the walk stands or later, and ends within the text
 lies-after : (kind : MatchKind) (w : WordWalk) (o : Occurrence)
@@ -128,6 +134,7 @@ words-by ac kind haystack from w v old new n place inside answers gives there =
     let same : IsMoved (words_from ac kind haystack from) v to =
     gives.same ∙ ap (λ (x : WordWalk). record x {
       at = from_after x.at new n;
+      read = v.read;
       looked = v.looked;
       scanned = v.scanned;
       moved = v.moved;

@@ -12,9 +12,10 @@ use Rattle.ac_noncontiguous.specs.Nfa.Lookups.{IsNamingOf}
 abbrev pub dictionary : NFA → Dictionary
 dictionary nfa = dictionary_of nfa.lens nfa.pairing nfa.kind
 
--- what the automaton is built as: more than one state may be looked at for a byte
+-- what the automaton is built as: more than one state may be looked at for a byte, and it has no lanes
 abbrev pub built_as : NFA → Built
-built_as nfa = record { dictionary = dictionary nfa; deterministic = false; prefilter = nfa.prefilter }
+built_as nfa =
+    record { dictionary = dictionary nfa; deterministic = false; prefilter = nfa.prefilter; lanes = false }
 
 -- the patterns that match at a state
 abbrev pub matches_at : NFA → ℕ → List ℕ

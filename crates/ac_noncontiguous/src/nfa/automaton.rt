@@ -103,6 +103,10 @@ impl Automaton for NFA {
         self.read_until(anchored, sid, bytes, matching, steps)
     }
 
+    fn has_lanes(&self) -> bool {
+        false
+    }
+
     #[inline]
     fn reads_quickly(&self) -> bool {
         false

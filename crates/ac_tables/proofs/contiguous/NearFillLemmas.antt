@@ -1,13 +1,10 @@
 -- How the rows of the states near the start are filled.
-use Rattle.std.proofs.Common.{◌≡◌, ◌≢◌, ⊎_elim, ℕ, zero, suc, ◌+◌, ◌-◌, ◌*◌, ◌^◌, ◌<◌, ◌≤◌, ◌/◌, false, IsTrue, List, [], ◌∷◌, ◌++◌, length, None, Some, refl, sym, ap, subst, ◌∙◌, arith, length-append, length-set}
-use Rattle.std.specs.Prelude.{slice_index, slice_set, IsPermutation}
-use Rattle.std.proofs.lemmas.List.Elements.{All-nil, All-cons, All-push}
-use Rattle.std.proofs.lemmas.List.Sorted.{All-permutation, length_permutation}
+use Rattle.std.proofs.Common.{◌≡◌, ◌≢◌, ⊎_elim, ℕ, zero, suc, ◌+◌, ◌*◌, ◌^◌, ◌<◌, ◌≤◌, ◌/◌, false, IsTrue, List, [], ◌∷◌, ◌++◌, length, None, Some, refl, sym, ap, subst, ◌∙◌, arith, length-set}
+use Rattle.std.specs.Prelude.{slice_index, slice_set}
 use Rattle.std.proofs.Math.Logic.{∥∥₁_map}
 use Rattle.std.proofs.Math.Nat.{mul-le-mul_right}
 use Rattle.std.proofs.lemmas.Bool.{cases_lt, cases_eq}
-use Rattle.std.proofs.lemmas.List.{get_or-set_same, get_or-set_other, get_or_append_left}
-use Rattle.std.proofs.Math.Seq.{get_or-append_seam}
+use Rattle.std.proofs.lemmas.List.{get_or-set_same, get_or-set_other}
 use Rattle.ac_input.specs.Number.{greatest_number}
 use Rattle.ac_input.specs.Alphabet.{alphabet_len, class, IsClasses}
 use Rattle.ac_input.specs.Alphabet.Classes.{ClassesLeadAlike}
@@ -18,7 +15,7 @@ use Rattle.ac_automaton.specs.Named.{Naming, IsStep, IsEdgeBy, IsFailureBy, AreN
 use Rattle.ac_automaton.proofs.automaton.LinkedLemmas.{straight, stuck, following-none, following-more}
 use Rattle.ac_automaton.proofs.automaton.NamedLemmas.{stands-for}
 use Rattle.ac_tables.specs.Contiguous.Near.{AreNearRows, LeadsToNumber, IsNumberOf, place_by}
-use Rattle.ac_tables.specs.Contiguous.NearReads.{AreBytesOf, AreFound, ArePlacesNear, FailsToNumber, HasCopiedRow, IsFailureRow, HasFilledAll, HasFilledPart, HasFilledTo, HasPut, HasPutEdges, LeadsByEntry, IsByteOfClass}
+use Rattle.ac_tables.specs.Contiguous.NearReads.{AreBytesOf, FailsToNumber, HasCopiedRow, IsFailureRow, HasFilledAll, HasFilledPart, HasFilledTo, HasPut, HasPutEdges, LeadsByEntry, IsByteOfClass}
 use Rattle.ac_tables.specs.Contiguous.Reads.{contiguous_dictionary, IsLaidOut, IsMet, LooksUp}
 use Rattle.ac_tables.specs.Contiguous.Rows.{AreRowsIfAny, row_len}
 use Rattle.ac_tables.specs.Contiguous.WordReads.{ByteLeadsTo, FailsAt, ListsEdges, edge_class}
@@ -45,75 +42,6 @@ met-step nfa sid byte next small h leads some = ∥∥₁_map h (λ w.
       (straight (contiguous_dictionary nfa) w.0 nfa.table.start false sid byte next (laid-numbers nfa w.0 w.1) edge w.2
           some).step.met,
     ))
-
--- the start alone is found
-pub found-start : (nfa : NFA) (most start : ℕ) → 0 < most → IsMet nfa false start → AreFound nfa most (start ∷ [])
-found-start nfa most start some met = record {
-  few = omega (arith, some);
-  met = All-cons (IsMet nfa false) start [] met (All-nil (IsMet nfa false));
-}
-
--- one place more is found
-pub found-more : (nfa : NFA) (most next : ℕ) (found : List ℕ) → AreFound nfa most found → length found < most
-    → IsMet nfa false next → AreFound nfa most (found ++ next ∷ [])
-found-more nfa most next found h room met = record {
-  few = let long = length-append found (next ∷ []) in omega (arith, long, room);
-  met = All-push (IsMet nfa false) found next h.met met;
-}
-
--- in any order they are those that were found
-pub found-sorted : (nfa : NFA) (most : ℕ) (found sorted : List ℕ) → IsPermutation found sorted → AreFound nfa most found
-    → AreFound nfa most sorted
-found-sorted nfa most found sorted same h = record {
-  few = let few = h.few in let len = length_permutation found sorted same in omega (arith, len, few);
-  met = All-permutation (IsMet nfa false) found sorted same h.met;
-}
-
--- the start alone
-pub near-start : (nfa : NFA) (most start : ℕ) → 0 < most → IsMet nfa false start → ArePlacesNear nfa most (start ∷ [])
-near-start nfa most start some met = record {
-  some = omega arith;
-  few = omega (arith, some);
-  rise = λ i j less within. absurd (omega (arith, less, within));
-  met = λ i within. let e : i ≡ 0 = omega (arith, within) in subst (λ k. IsMet nfa false (slice_index (start ∷ []) k)) (sym e) met;
-}
-
--- one place more, past the last one
-pub near-more : (nfa : NFA) (most next last : ℕ) (places : List ℕ) → ArePlacesNear nfa most places
-    → slice_index places (length places - 1) ≡ last → last < next → length places < most → IsMet nfa false next
-    → ArePlacesNear nfa most (places ++ next ∷ [])
-near-more nfa most next last places h at past room met =
-    let long : length (places ++ next ∷ []) ≡ length places + 1 = length-append places (next ∷ []) in
-    let some = h.some in
-    let old : (i : ℕ) → i < length places → slice_index (places ++ next ∷ []) i ≡ slice_index places i =
-    λ i less. get_or_append_left places (next ∷ []) 0 i less in
-    let new : slice_index (places ++ next ∷ []) (length places) ≡ next = get_or-append_seam places next [] 0 in
-    record {
-      some = omega (arith, long);
-      few = omega (arith, long, room);
-      rise = λ i j less within. ⊎_elim
-          (λ (low : j < length places). let up = h.rise i j less low in
-          omega (arith, up, old i (let k : i < length places = omega (arith, less, low) in k), old j low))
-          (λ (high : length places ≤ j).
-          let here : j ≡ length places = omega (arith, high, within, long) in
-          let there : slice_index (places ++ next ∷ []) j ≡ next = ap (slice_index (places ++ next ∷ [])) here ∙ new in
-          let low : i < length places = omega (arith, less, here) in
-          ⊎_elim
-          (λ (end : i ≡ length places - 1).
-          let same = ap (slice_index places) end in
-          omega (arith, old i low, same, at, past, there))
-          (λ (other : i ≢ length places - 1).
-          let up = h.rise i (length places - 1) (omega (arith, low, other)) (omega (arith, some)) in
-          omega (arith, old i low, up, at, past, there))
-          (cases_eq i (length places - 1)))
-          (cases_lt j (length places));
-      met = λ i within. ⊎_elim
-          (λ (low : i < length places). subst (IsMet nfa false) (sym (old i low)) (h.met i low))
-          (λ (high : length places ≤ i).
-          let here : i ≡ length places = omega (arith, high, within, long) in
-          subst (IsMet nfa false) (sym (ap (slice_index (places ++ next ∷ [])) here ∙ new)) met)
-          (cases_lt i (length places));
-    }
 
 -- ---- entries
 
@@ -192,6 +120,7 @@ entry-same nfa old new row byte number places stride h =
 pub part-none : (nfa : NFA) (bytes : List ℕ) (row : ℕ) (old : Rows) → HasFilledPart nfa bytes row 0 old old
 part-none nfa bytes row old = record {
   places = refl;
+  index = refl;
   stride = refl;
   len = refl;
   before = λ at less. refl;
@@ -205,6 +134,7 @@ pub part-more : (nfa : NFA) (bytes : List ℕ) (row count at number : ℕ) (old 
     → HasFilledPart nfa bytes row (count + 1) old new
 part-more nfa bytes row count at number old now new h is within put entry = record {
   places = put.places ∙ h.places;
+  index = put.index ∙ h.index;
   stride = put.stride ∙ h.stride;
   len = ap length put.trans ∙ (length-set now.trans.items at number ∙ h.len);
   before = λ i less. ap (λ l. slice_index l i) put.trans
@@ -233,6 +163,7 @@ rows-kept nfa bytes row old now h =
     let len : row_len now ≡ row_len old = ap (λ s. 2 ^ s) h.stride in
     record {
       places = refl;
+      index = refl;
       stride = refl;
       len = refl;
       filled = λ r k less within.
@@ -262,6 +193,7 @@ pub part-copied : (nfa : NFA) (bytes : List ℕ) (from row : ℕ) (old now : Row
     → HasFilledPart nfa bytes row 0 old now
 part-copied nfa bytes from row old now h = record {
   places = h.places;
+  index = h.index;
   stride = h.stride;
   len = h.len;
   before = h.before;
@@ -284,6 +216,7 @@ part-put : (nfa : NFA) (bytes : List ℕ) (row at number : ℕ) (old now new : R
     → row * row_len old ≤ at → HasPut at number now new → HasFilledPart nfa bytes row 0 old new
 part-put nfa bytes row at number old now new h past put = record {
   places = put.places ∙ h.places;
+  index = put.index ∙ h.index;
   stride = put.stride ∙ h.stride;
   len = ap length put.trans ∙ (length-set now.trans.items at number ∙ h.len);
   before = λ i low. ap (λ l. slice_index l i) put.trans
@@ -344,6 +277,7 @@ pub edges-all : (nfa : NFA) (bytes : List ℕ) (row len count : ℕ) (old new : 
     → len ≤ count → HasFilledPart nfa bytes row (length bytes) old new
 edges-all nfa bytes row len count old new h done = record {
   places = h.kept.places;
+  index = h.kept.index;
   stride = h.kept.stride;
   len = h.kept.len;
   before = h.kept.before;
@@ -354,6 +288,7 @@ edges-all nfa bytes row len count old new h done = record {
 pub rows-none : (nfa : NFA) (bytes : List ℕ) (old : Rows) → HasFilledTo nfa bytes 0 old old
 rows-none nfa bytes old = record {
   places = refl;
+  index = refl;
   stride = refl;
   len = refl;
   filled = λ row k less within. absurd (omega (arith, less));
@@ -367,6 +302,7 @@ rows-more nfa bytes row old now new letters h more =
     let len : row_len now ≡ row_len old = ap (λ s. 2 ^ s) h.stride in
     record {
       places = more.places ∙ h.places;
+      index = more.index ∙ h.index;
       stride = more.stride ∙ h.stride;
       len = more.len ∙ h.len;
       filled = λ r k less within. ⊎_elim

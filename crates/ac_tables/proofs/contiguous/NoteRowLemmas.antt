@@ -87,11 +87,12 @@ place-some nfa sid standard reached le =
     matching-some (contiguous_matches_at nfa sid) (state-many nfa sid state (omega (arith, apart, some)) le)
 
 -- several walks may go side by side over rows
-pub may-note-rows : (by : ByRows) (start last : ℕ)
+pub may-note-rows : (by : ByRows) (start last : ℕ) → IsTrue by.nfa.now.lanes
     → (IsRowIn by.rows.now start × (place_in_row by.rows.now start ≡ by.nfa.now.table.start))
     → IsLastUpTo by.rows.now by.nfa.now.table.max_match last → MayNote row_look_ups by start last by.nfa.now.unused
-may-note-rows by start last first upto = record {
+may-note-rows by start last lanes first upto = record {
   one = refl;
+  lanes = lanes;
   starts = row-read by No [] start first.0 refl (start-read by.nfa.now No (place_in_row by.rows.now start) first.1);
   quiet = λ row more. quiet-past by last row upto more;
   some = λ standard row reached le.
@@ -245,6 +246,7 @@ rows-ahead by anew from start sid row bytes at len read notes placed s t first a
       within = placed-within rows at (at + len) notes h.within;
       covered = placed-len rows notes ∙ h.covered;
       most = h.most;
+      lanes = h.lanes;
       counted = h.counted;
       taken = λ standard.
           let takes : TakesEachBy (IsLaneCut nfa.unused start (row_matches_at by)) (row_matches_at by) from bytes at row

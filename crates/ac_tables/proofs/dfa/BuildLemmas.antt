@@ -259,11 +259,11 @@ number-kept {p} anchored {sid} fit is within =
 
 -- a DFA with a table for the settings is made by the settings
 pub dfa-of : (s : Settings) (nfa : NFA) (table : Table) (dfa : DFA) → IsTableFor nfa s.start_kind s.byte_classes table
-    → IsDfaMadeOf (dictionary nfa) table (built_as nfa).prefilter dfa → IsDfaOf s nfa dfa
+    → IsDfaMadeOf (dictionary nfa) table (built_as nfa).prefilter dfa.lanes dfa → IsDfaOf s nfa dfa
 dfa-of s nfa table dfa h made =
     let back = sym made.table in
     record {
-      built = ap₂ (λ m f. record { dictionary = m; deterministic = true; prefilter = f }) made.dictionary
+      built = ap₂ (λ m f. record { dictionary = m; deterministic = true; prefilter = f; lanes = dfa.lanes }) made.dictionary
           made.prefilter;
       starts = ap (λ t. t.kind) made.table ∙ h.kind;
       classes = subst (λ t. AreClassesFor nfa s.byte_classes t.classes) back h.classes;

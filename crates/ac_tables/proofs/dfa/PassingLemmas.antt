@@ -111,10 +111,11 @@ dfa-some dfa sid standard reached le =
     matching-some (dfa_matches_at dfa sid) (state-matches dfa sid (∥∥₁_map reached (λ w. (No, w.0, w.1))) some le)
 
 -- several walks may go side by side
-pub may-note : (dfa : DFA) (sid : ℕ) → IsReached (IsDfaRead dfa No) sid
+pub may-note : (dfa : DFA) (sid : ℕ) → IsTrue dfa.lanes → IsReached (IsDfaRead dfa No) sid
     → MayNote look_ups dfa dfa.table.start dfa.table.max_match dfa.unused
-may-note dfa sid h = record {
+may-note dfa sid lanes h = record {
   one = refl;
+  lanes = lanes;
   starts = start-read dfa No dfa.table.start (reached-serves dfa sid h) refl;
   quiet = past-none dfa.table;
   some = λ standard other reached le. dfa-some dfa other standard reached le;

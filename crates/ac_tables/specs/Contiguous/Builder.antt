@@ -1,5 +1,5 @@
 -- What is built by the settings of a builder of contiguous automata.
-use Rattle.std.specs.Prelude.{◌≡◌, ◌⊎◌, ℕ, ◌<◌, List}
+use Rattle.std.specs.Prelude.{◌≡◌, ◌⊎◌, ℕ, ◌/◌, ◌<◌, List, IfSome, IsTrue, is_some}
 use Rattle.std.specs.Option.{unwrap_or}
 use Rattle.std.specs.Borrow.{Bor}
 use Rattle.ac_input.specs.Number.{greatest_number}
@@ -16,6 +16,7 @@ use Rattle.ac_tables.specs.Source.{AreClassesFor}
 use Rattle.ac_tables.specs.Contiguous.Build.{AreRowsWithin}
 use Rattle.ac_tables.specs.Contiguous.Rows.{AreSameIfAny}
 use Rattle.ac_tables.specs.Contiguous.Table.{AreWordsOf, ArePlacesTooGreat, AreSomeStates, IsContiguousTooLarge}
+use Rattle.ac_tables.specs.Contiguous.NearReads.{near_part, AreNearWithin}
 use Rattle.ac_tables.specs.Contiguous.Reads.{contiguous_built_as}
 use Rattle.ac_input.specs.Limits.{IsWithinLimits}
 
@@ -27,14 +28,16 @@ contiguous_dense_depth s = unwrap_or s.dense_depth 2
 
 -- An automaton was made from a noncontiguous one. Its dictionary and its prefilter are those of that one, its words are
 -- those of that one's states, and no state's place is past the greatest number. There are rows if they take no more
--- memory than is set.
+-- memory than is set, and without rows it has no lanes. Else states near the start may have rows, in a part of that memory.
 pub record IsMadeFrom (s : Settings) (from : Noncontiguous) (made : NFA) : Type 0 where
-  pub built : contiguous_built_as made ≡ built_as from
+  pub built : contiguous_built_as made ≡ (record (built_as from) { lanes = made.lanes })
+  pub lanes : IsTrue made.lanes → IsTrue (is_some made.rows)
   pub classes : List ℕ
   pub serve : AreClassesFor from s.byte_classes classes
   pub words : AreWordsOf from (contiguous_dense_depth s) classes made.table.words.items
   pub within : ¬ ArePlacesTooGreat from (contiguous_dense_depth s) classes
   pub rows : AreRowsWithin from (contiguous_dense_depth s) classes s.row_memory made.rows
+  pub near : IfSome made.near (AreNearWithin made (s.row_memory / near_part))
 
 -- Why no automaton was made: the first word of a state would be past the greatest number, or out of memory.
 abbrev pub IsRefusedFrom : Settings → Noncontiguous → BuildErrorKind → Type 0
@@ -74,3 +77,4 @@ pub record IsContiguousCopy (old new : NFA) : Type 0 where
   pub start : new.table.start ≡ old.table.start
   pub start_anchored : new.table.start_anchored ≡ old.table.start_anchored
   pub rows : AreSameIfAny old.rows new.rows
+  pub near : AreSameIfAny old.near new.near

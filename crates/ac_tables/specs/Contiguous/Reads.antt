@@ -21,7 +21,12 @@ contiguous_dictionary nfa = dictionary_of nfa.lens nfa.pairing nfa.kind
 -- what the automaton is built as: more than one state may be looked at for a byte
 abbrev pub contiguous_built_as : NFA → Built
 contiguous_built_as nfa =
-    record { dictionary = contiguous_dictionary nfa; deterministic = false; prefilter = nfa.prefilter }
+    record {
+      dictionary = contiguous_dictionary nfa;
+      deterministic = false;
+      prefilter = nfa.prefilter;
+      lanes = nfa.lanes;
+    }
 
 -- the patterns that match at a state
 abbrev pub contiguous_matches_at : NFA → ℕ → List ℕ

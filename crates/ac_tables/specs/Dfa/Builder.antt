@@ -26,9 +26,9 @@ states_in dfa = length dfa.table.trans.items / stride_of dfa.table
 -- ---- made from an automaton
 
 -- A DFA is made from an automaton by the settings, which give its starts and its classes. It is built as the automaton
--- is, its table has the automaton's states, and it isn't too large.
+-- is, but may have lanes; its table has the automaton's states, and it isn't too large.
 pub record IsDfaOf (s : Settings) (nfa : NFA) (dfa : DFA) : Type 0 where
-  pub built : dfa_built_as dfa ≡ (record (built_as nfa) { deterministic = true })
+  pub built : dfa_built_as dfa ≡ (record (built_as nfa) { deterministic = true; lanes = dfa.lanes })
   pub starts : dfa.table.kind ≡ s.start_kind
   pub classes : AreClassesFor nfa s.byte_classes dfa.table.classes
   pub states : states_in dfa ≡ dfa_states s.start_kind (state_len nfa)

@@ -16,7 +16,8 @@ dfa_dictionary dfa = dictionary_of dfa.lens dfa.pairing dfa.kind
 
 -- what the automaton is built as: exactly one state is looked at for a byte
 abbrev pub dfa_built_as : DFA → Built
-dfa_built_as dfa = record { dictionary = dfa_dictionary dfa; deterministic = true; prefilter = dfa.prefilter }
+dfa_built_as dfa =
+    record { dictionary = dfa_dictionary dfa; deterministic = true; prefilter = dfa.prefilter; lanes = dfa.lanes }
 
 -- the automaton has a start for searches of this anchoring
 abbrev pub dfa_supported_by : DFA → Anchored → Type 0
@@ -52,8 +53,9 @@ dfa_named_states dfa anchored = record {
 abbrev pub IsDfaRead : DFA → Anchored → List ℕ → ℕ → Type 0
 IsDfaRead dfa anchored text sid = IsReadBy (dfa_named_states dfa anchored) anchored text sid
 
--- the automaton is made for this dictionary, from this table, and has this prefilter
-pub record IsDfaMadeOf (m : Dictionary) (from : Table) (held : Option Filter) (dfa : DFA) : Type 0 where
+-- the automaton is made for this dictionary, from this table, and has this prefilter, and lanes or none
+pub record IsDfaMadeOf (m : Dictionary) (from : Table) (held : Option Filter) (chosen : Bool) (dfa : DFA) : Type 0 where
   pub dictionary : dfa_dictionary dfa ≡ m
   pub table : dfa.table ≡ from
   pub prefilter : dfa.prefilter ≡ held
+  pub lanes : dfa.lanes ≡ chosen

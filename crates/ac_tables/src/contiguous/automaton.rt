@@ -264,7 +264,7 @@ impl Automaton for NFA {
         notes: &mut [Note],
         steps: &mut Steps,
     ) -> Noted {
-        if self.skips.pass_many(self.lens.len()) {
+        if !self.lanes {
             return Noted::none();
         }
         match &self.rows {
@@ -274,7 +274,7 @@ impl Automaton for NFA {
     }
 
     fn has_lanes(&self) -> bool {
-        self.rows.is_some() && !self.skips.pass_many(self.lens.len())
+        self.lanes
     }
 
     #[inline]

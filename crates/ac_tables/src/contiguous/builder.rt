@@ -199,7 +199,8 @@ impl Builder {
     /// It changes no result. With rows an unanchored search looks at one state for a byte, as a DFA does, and is about as fast. There
     /// are rows for all states exactly if they take no more than this, and have at most 2147483646 entries. They take four bytes for
     /// each state, for each state and each class of bytes, rounded up to a power of two of classes, and for every four words. Else
-    /// states near the start may have rows, in half of this memory at most: a search looks at one state for a byte there.
+    /// states near the start may have rows, to a depth of 16 and in half of this memory at most: a search looks at one state for a
+    /// byte there.
     pub fn row_memory(&mut self, bytes: usize) -> &mut Builder
         ensures same { result.ghost_name ≡ self.entry.ghost_name }
         ensures value { result.now ≡ record self.old { row_memory = bytes } }
@@ -239,6 +240,8 @@ impl Builder {
             laid.table, laid.rows, lens, prefilter, openings, pairing, kind,
         );
         made.add_near(alloc, settings.row_memory / NEAR_PART)?;
+        let lanes = made.pays_for_lanes();
+        made.set_lanes(lanes);
         Ok(made)
     }
 

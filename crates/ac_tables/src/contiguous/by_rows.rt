@@ -165,6 +165,7 @@ impl NFA {
         steps: &mut Steps,
     ) -> Noted
         requires held { self.now.rows ≡ Some rows.now }
+        requires lanes { IsTrue self.now.lanes }
         requires reached { IsReached (IsContiguousRead self.now No) sid }
         requires begins { IfSome anew (IsContiguousRead self.now No []) }
         requires within { at + len ≤ length bytes.now }

@@ -56,6 +56,7 @@ impl NFA {
             self.kind,
         );
         copy.set_near(near);
+        copy.set_lanes(self.lanes);
         Ok(copy)
     }
 }

@@ -12,7 +12,7 @@ ghost use Rattle.ac_input.specs.Number.{greatest_number};
 ghost use Rattle.ac_automaton.specs.Named.{nowhere};
 ghost use Rattle.ac_tables.specs.Contiguous.Cut.{Rise};
 ghost use Rattle.ac_tables.specs.Contiguous.Near.{AreNearRows, LeadsToNumber};
-ghost use Rattle.ac_tables.specs.Contiguous.NearReads.{AreFound, ArePlacesNear, AreBytesOf, FailsToNumber, HasCopiedRow, HasFilled, HasFilledAll, HasFilledTo, HasPut, HasRoomNear, AreBlank, IsFailureRow};
+ghost use Rattle.ac_tables.specs.Contiguous.NearReads.{near_depth, AreFound, AreNextsFound, AreNearWithin, ArePlacesNear, AreBytesOf, FailsToNumber, HasCopiedRow, HasFilled, HasFilledAll, HasFilledTo, HasPut, HasRoomNear, AreBlank, IsFailureRow, IsMetWithin, IsNextFound};
 ghost use Rattle.ac_tables.specs.Contiguous.Reads.{contiguous_dictionary, IsContiguousMadeOf, IsMet};
 ghost use Rattle.ac_tables.specs.Contiguous.Rows.{row_len};
 ghost use Rattle.ac_tables.specs.Contiguous.WordReads.{ByteLeadsTo, ListsEdges};
@@ -128,9 +128,7 @@ impl NFA {
         most: usize,
         found: &mut Vec<StateID>,
     ) -> Result<(), AllocError>
-        requires found { AreFound self.now most found.old.items }
-        requires met { next ≢ nowhere → IsMet self.now false next }
-        ensures { IfOk result (λ _. AreFound self.now most found.new.items) }
+        ensures { IfOk result (λ _. IsNextFound most next found.old.items found.new.items) }
     {
         let len = found.len();
         if is_passed(next, self.table.start, len, most) {
@@ -147,9 +145,8 @@ impl NFA {
         most: usize,
         found: &mut Vec<StateID>,
     ) -> Result<(), AllocError>
-        requires met { IsMet self.now false sid }
-        requires found { AreFound self.now most found.old.items }
-        ensures { IfOk result (λ _. AreFound self.now most found.new.items) }
+        requires { IsMet self.now false sid }
+        ensures { IfOk result (λ _. AreNextsFound self.now most sid found.old.items found.new.items) }
     {
         let next = self.child(sid, byte);
         self.push_found(next, most, found)
@@ -167,8 +164,7 @@ impl NFA {
         requires met { IsMet self.now false sid }
         requires listed { ListsEdges self.now.table sid len }
         requires bytes { AreBytesOf self.now.table.classes bytes.now }
-        requires found { AreFound self.now most found.old.items }
-        ensures { IfOk result (λ _. AreFound self.now most found.new.items) }
+        ensures { IfOk result (λ _. AreNextsFound self.now most sid found.old.items found.new.items) }
     {
         for at in 0..len {
             let class = self.table.edge_class(sid, at);
@@ -185,9 +181,8 @@ impl NFA {
         most: usize,
         found: &mut Vec<StateID>,
     ) -> Result<(), AllocError>
-        requires met { IsMet self.now false sid }
-        requires found { AreFound self.now most found.old.items }
-        ensures { IfOk result (λ _. AreFound self.now most found.new.items) }
+        requires { IsMet self.now false sid }
+        ensures { IfOk result (λ _. AreNextsFound self.now most sid found.old.items found.new.items) }
     {
         for byte in bytes {
             self.push_child(sid, *byte, most, found)?;
@@ -205,8 +200,7 @@ impl NFA {
     ) -> Result<(), AllocError>
         requires met { IsMet self.now false sid }
         requires bytes { AreBytesOf self.now.table.classes bytes.now }
-        requires found { AreFound self.now most found.old.items }
-        ensures { IfOk result (λ _. AreFound self.now most found.new.items) }
+        ensures { IfOk result (λ _. AreNextsFound self.now most sid found.old.items found.new.items) }
     {
         if found.len() >= most {
             return Ok(());
@@ -226,9 +220,10 @@ impl NFA {
         found: &mut Vec<StateID>,
     ) -> Result<(), AllocError>
         requires within { at < length found.old.items }
+        requires met { IsMet self.now false (slice_index found.old.items at) }
         requires bytes { AreBytesOf self.now.table.classes bytes.now }
-        requires found { AreFound self.now most found.old.items }
-        ensures { IfOk result (λ _. AreFound self.now most found.new.items) }
+        ensures { IfOk result
+            (λ _. AreNextsFound self.now most (slice_index found.old.items at) found.old.items found.new.items) }
     {
         let sid = found[at];
         self.push_nexts(sid, bytes, most, found)
@@ -269,7 +264,7 @@ impl NFA {
         places: &mut Vec<StateID>,
     ) -> Result<(), AllocError>
         requires near { ArePlacesNear self.now most places.old.items }
-        requires met { next ≢ nowhere → IsMet self.now false next }
+        requires met { next ≢ nowhere → IsMetWithin self.now near_depth next }
         ensures { IfOk result (λ _. ArePlacesNear self.now most places.new.items) }
     {
         let len = places.len();
@@ -453,7 +448,8 @@ impl NFA {
     fn rows_near(&self, alloc: Global, memory: usize) -> Result<Option<Rows>, AllocError>
         requires alone { self.now.rows ≡ None }
         requires alike { ClassesLeadAlike (contiguous_dictionary self.now) self.now.table.classes }
-        ensures { IfOk result (λ near. ∥ IfSome near (AreNearRows (contiguous_dictionary self.now) self.now.table) ∥₁) }
+        ensures lead { IfOk result (λ near. ∥ IfSome near (AreNearRows (contiguous_dictionary self.now) self.now.table) ∥₁) }
+        ensures within { IfOk result (λ near. IfSome near (AreNearWithin self.now memory)) }
     {
         let stride2 = self.table.classes.stride2();
         let most = self.most_near(stride2, memory);
@@ -470,17 +466,20 @@ impl NFA {
     /// The same automaton with other rows near the start, or none.
     pub(super) fn set_near(&mut self, near: Option<Rows>)
         requires { ∥ IfSome near (AreNearRows (contiguous_dictionary self.old) self.old.table) ∥₁ }
-        ensures { IsContiguousMadeOf (contiguous_dictionary self.old) self.old.table self.old.rows self.old.prefilter
+        ensures made { IsContiguousMadeOf (contiguous_dictionary self.old) self.old.table self.old.rows self.old.prefilter
             self.new }
+        ensures near { self.new.near ≡ near }
     {
         self.near = near;
     }
 
     /// Makes rows for states near the start, where not all states have rows. They take at most this many bytes.
     pub(super) fn add_near(&mut self, alloc: Global, memory: usize) -> Result<(), AllocError>
-        requires { ClassesLeadAlike (contiguous_dictionary self.old) self.old.table.classes }
-        ensures { IfOk result (λ _. IsContiguousMadeOf (contiguous_dictionary self.old) self.old.table self.old.rows
+        requires alike { ClassesLeadAlike (contiguous_dictionary self.old) self.old.table.classes }
+        requires none { self.old.near ≡ None }
+        ensures made { IfOk result (λ _. IsContiguousMadeOf (contiguous_dictionary self.old) self.old.table self.old.rows
             self.old.prefilter self.new) }
+        ensures within { IfOk result (λ _. IfSome self.new.near (AreNearWithin self.new memory)) }
     {
         if self.rows.is_some() {
             return Ok(());

@@ -177,7 +177,7 @@ impl Automaton for DFA {
         notes: &mut [Note],
         steps: &mut Steps,
     ) -> Noted {
-        if self.skips.pass_many(self.lens.len()) {
+        if !self.lanes {
             return Noted::none();
         }
         let table = &self.table;
@@ -197,7 +197,7 @@ impl Automaton for DFA {
     }
 
     fn has_lanes(&self) -> bool {
-        !self.skips.pass_many(self.lens.len())
+        self.lanes
     }
 
     #[inline]

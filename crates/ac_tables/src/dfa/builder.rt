@@ -196,14 +196,17 @@ impl Builder {
         let lens = nfa.pattern_lens().clone(alloc)?;
         let prefilter = clone_prefilter(alloc, nfa.prefilter())?;
         let openings = Openings::clone_any(alloc, nfa.openings())?;
-        Ok(DFA::from_parts(
+        let mut dfa = DFA::from_parts(
             table,
             lens,
             prefilter,
             openings,
             *nfa.pairing(),
             nfa.match_kind(),
-        ))
+        );
+        let lanes = !dfa.skips.pass_many(dfa.lens.len());
+        dfa.set_lanes(lanes);
+        Ok(dfa)
     }
 
     /// Builds the DFA of the patterns, which are numbered from 0 in this order.

@@ -1,5 +1,5 @@
 -- A run that always writes while it reads, by a rule file in any form: its result follows from that of a run by its rules.
-use Rattle.std.proofs.Common.{◌≡◌, ◌↔◌, ℕ, List, Result, Ok, Err, refl, ap, subst}
+use Rattle.std.proofs.Common.{◌≡◌, ◌↔◌, ℕ, List, Result, Ok, Err, refl, ap}
 use Rattle.ac_input.specs.Rules.{Rule}
 use Rattle.ac_automaton.specs.declared.error.StreamError.{StreamError}
 use Rattle.ac_automaton.specs.declared.stream.devices.watched.Watched.{Watched}
@@ -13,7 +13,6 @@ use Rattle.acsub.specs.declared.error.RunError.TheVariants as errors
 use Rattle.acsub.specs.declared.rules.Form.{Form}
 use Rattle.acsub.specs.declared.rules.RuleError.{RuleError}
 use Rattle.acsub.specs.declared.rules.RuleError.TheVariants as rule_errors
-use Rattle.acsub.proofs.rules.GrammarLemmas.{bad_none}
 use Rattle.acsub.proofs.run.FileLemmas.{unread_line}
 
 module _ {R W : Type 0} (form : Form) (file : List ℕ) (old new : Watched R × Watched W) (demand : List Rule → Demand)
@@ -33,15 +32,6 @@ module _ {R W : Type 0} (form : Form) (file : List ℕ) (old new : Watched R × 
   early-in (Err (early.Run errors.WriteZero)) answers = (rules, grammar, answers)
   early-in (Err (early.Run errors.Memory)) answers = (rules, grammar, answers.1)
   early-in (Err (early.Run errors.Position)) answers = (rules, grammar, answers)
-
-  -- a run by rules reports no bad line, and their file has none
-  pub early-no_bad_line : (result : Result (Unit {0}) EarlyError)
-      → AnswersEarly old new (demand rules) (writes rules) result → (n : ℕ)
-      → (result ≡ Err (early.Run (errors.Rule (rule_errors.Line n)))) ↔ (grammar_of form).bad file n
-  early-no_bad_line result answers n = (
-    λ is. absurd (subst (AnswersEarly old new (demand rules) (writes rules)) is answers),
-    λ bad. absurd (bad_none form file n rules grammar bad),
-  )
 
 -- ---- a rule file whose rules could not be read
 

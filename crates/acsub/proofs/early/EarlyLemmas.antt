@@ -1,22 +1,18 @@
 -- A run that always writes while it reads returns the result of its stream, or why there was none.
-use Rattle.std.proofs.Common.{◌≡◌, ℕ, List, [], Result, Ok, Err, refl, sym, subst, arith}
+use Rattle.std.proofs.Common.{◌≡◌, Result, Ok, Err, refl, sym, subst}
 use Rattle.std.specs.Prelude.{OnOk}
 use Rattle.std.proofs.Math.Path.{Σ_path}
-use Rattle.std.proofs.lemmas.List.{append-nil}
-use Rattle.ac_input.specs.declared.steps.Steps.{Steps}
 use Rattle.ac_automaton.specs.Stream.Devices.Moved.{NoneTouched}
 use Rattle.ac_automaton.specs.declared.error.StreamError.{StreamError}
 use Rattle.ac_automaton.specs.declared.error.StreamError.TheVariants as stream
 use Rattle.ac_automaton.specs.declared.stream.devices.watched.Watched.{Watched}
-use Rattle.acsub.specs.Early.{AnswersEarly, CostsEarly, Demand, IsUnmet, IsUnready, as_early}
+use Rattle.acsub.specs.Early.{AnswersEarly, Demand, IsUnmet, IsUnready, as_early}
 use Rattle.acsub.specs.Finder.{FailsToBuild}
-use Rattle.acsub.specs.Plan.{Plan}
 use Rattle.acsub.specs.Stream.{IfStreamMemory, IsReturnedAs}
 use Rattle.acsub.specs.declared.early.EarlyError.{EarlyError}
 use Rattle.acsub.specs.declared.early.EarlyError.TheVariants as early
 use Rattle.acsub.specs.declared.error.RunError.{RunError}
 use Rattle.acsub.specs.declared.error.RunError.TheVariants as errors
-use Rattle.acsub.proofs.run.CountLemmas.{no-looks}
 
 -- ---- why none is prepared
 
@@ -85,19 +81,6 @@ early-ok (Ok done) is = refl
 early-ok (Err e) is = cc
 
 -- ---- what it costs
-
--- a run that stopped before it read cost nothing
-pub early_nothing : {R : Type 0} (plan : Plan) (looks_for : List ℕ → ℕ) (buffers : ℕ) (r : Watched R) (steps : Steps)
-    (e : EarlyError) → CostsEarly plan looks_for buffers r r steps steps (Err e)
-early_nothing plan looks_for buffers r steps e =
-    record {
-      gained = [];
-      read = sym (append-nil r.pieces.items);
-      looked = no-looks plan (looks_for []) steps;
-      some = tt;
-      scanned = refl;
-      moved = omega arith;
-    }
 
 -- an `Ok` of the run is one of the stream
 pub told-ok : (searched : Result (Unit {0}) StreamError) (told : Result (Unit {0}) RunError) → IsReturnedAs searched told

@@ -28,6 +28,7 @@ use Rattle.ac_automaton.specs.declared.stream.StreamKinds.TheVariants.{OnlyStand
 use Rattle.ac_automaton.specs.declared.stream.devices.watched.Watched.{Watched}
 use Rattle.aho_corasick.specs.AhoCorasick.{as_built, supported_by}
 use Rattle.aho_corasick.specs.declared.ahocorasick.AhoCorasick.{AhoCorasick}
+use Rattle.acsub.specs.Early.{as_early}
 use Rattle.acsub.specs.Finder.{IsServing}
 use Rattle.acsub.specs.Masked.{AnswersMask, CostsMaskRun, CostsMasking, IsMaskOf, IsMaskable, LeavesNone, MasksBy, MasksInput, for_every, mask_of}
 use Rattle.acsub.specs.Plan.{plan_of}
@@ -38,6 +39,7 @@ use Rattle.acsub.specs.declared.args.settings.Engine.TheVariants.{Packed}
 use Rattle.acsub.specs.declared.args.settings.SettingError.TheVariants.{PackedStandard}
 use Rattle.acsub.specs.declared.args.settings.Settings.{Settings}
 use Rattle.acsub.specs.declared.early.EarlyError.{EarlyError}
+use Rattle.acsub.specs.declared.error.RunError.{RunError}
 use Rattle.acsub.specs.declared.mask.Mask.{Mask}
 use Rattle.acsub.specs.declared.mask.PreparedMask.{PreparedMask}
 use Rattle.acsub.specs.declared.prepared.Finder.TheVariants as finders
@@ -195,8 +197,8 @@ module _ {R W : Type 0} (remaining : R → Option (List ℕ)) (contents : W → 
         (among-masked whole-counted byte s (omega arith)).len occurs)),
   )
 
-  pub leaves-none : (word : Bool) (result : Result (Unit {0}) EarlyError)
-      → AnswersMask remaining contents old new settings rules (mask_of byte word) result
+  pub leaves-none : (word : Bool) (result : Result (Unit {0}) RunError)
+      → AnswersMask remaining contents old new settings rules (mask_of byte word) (as_early result)
       → OnOk result (LeavesNone (mask_of byte word) settings rules old.1 new.1)
   leaves-none word (Ok done) input = leaves-word word input
   leaves-none word (Err e) stopped = tt

@@ -1,17 +1,21 @@
 -- What was counted to find the matches of an input, and what a run costs.
 use Rattle.std.proofs.Common.{◌≡◌, ◌++◌, ℕ, ◌-◌, ◌*◌, ◌≤◌, ◌+◌, Bool, true, false, List, [], length, Option, None, Some, Result, Ok, Err, refl, sym, ap, ◌∙◌, subst, add-zero, arith}
 use Rattle.std.specs.List.{concat}
-use Rattle.std.specs.Prelude.{IsTrue}
+use Rattle.std.specs.Prelude.{IsTrue, if◌then◌else◌}
+use Rattle.std.proofs.Math.Nat.{mul-le-mul_left}
 use Rattle.std.proofs.lemmas.List.{append-nil}
 use Rattle.ac_input.specs.Computed.{walk_of}
 use Rattle.ac_input.specs.Input.{Asked, whole_of, search_of}
 use Rattle.ac_input.specs.Occurrence.{Occurrence}
-use Rattle.ac_input.specs.Work.{lookups_per_byte}
+use Rattle.ac_input.specs.Work.{longest, lookups_per_byte}
+use Rattle.ac_input.specs.declared.search.MatchKind.{MatchKind}
+use Rattle.ac_input.specs.declared.search.MatchKind.TheVariants.{Standard, LeftmostFirst, LeftmostLongest}
 use Rattle.ac_input.specs.declared.steps.Steps.{Steps}
+use Rattle.ac_automaton.specs.Automaton.{Built}
 use Rattle.ac_automaton.specs.InMemory.Iter.{AnswersFindIter, IsWithinBudgetAhead, Walk, WalkCounts, fresh_walk, passed, walk_after_pick}
 use Rattle.ac_automaton.specs.InMemory.Overlapping.OverlappingIter.{AnswersListing, IsRunAfter, IsWithinOneWalk, Run, RunCounts, fresh_run}
 use Rattle.ac_automaton.specs.InMemory.Replace.{matches_in}
-use Rattle.ac_automaton.specs.Stream.{read_again}
+use Rattle.ac_automaton.specs.Stream.{Picks, again_for, looked_in_all, read_again}
 use Rattle.ac_automaton.specs.Stream.Replace.{CostsSearch}
 use Rattle.ac_automaton.specs.declared.error.MatchErrorKind.{MatchErrorKind}
 use Rattle.ac_automaton.specs.declared.stream.devices.watched.Watched.{Watched}
@@ -96,7 +100,13 @@ module _ (plan : Plan) (ac : AhoCorasick) (input : List ℕ) (serves : IsServing
         kind = ap (λ m. m.kind) serves.built.dictionary;
         looks = serving-looks plan.settings plan.rules ac serves;
         within = omega arith;
-        paid = record { looked = λ _. omega arith; near = λ _. omega arith; scanned = omega arith; moved = refl };
+        paid = record {
+          looked = λ _. omega arith;
+          near = λ _. omega arith;
+          leftmost = λ _. omega arith;
+          scanned = omega arith;
+          moved = refl;
+        };
       }
 
   listing-uncounted : IsListingCounted plan (length input) now now (fresh_run (as_built ac) (whole_of input))
@@ -149,7 +159,7 @@ looks-for plan false looks less n before after serves le paid counted =
     record { most = omega arith; by_dfa = λ by_dfa. absurd (not-true (serves by_dfa)) }
 
 -- no look-up was counted
-pub no-looks : (plan : Plan) (n : ℕ) (steps : Steps) → AreLooksFor plan n steps steps
+no-looks : (plan : Plan) (n : ℕ) (steps : Steps) → AreLooksFor plan n steps steps
 no-looks plan n steps = record { most = omega arith; by_dfa = λ by_dfa. omega arith }
 
 -- nothing was counted
@@ -230,6 +240,17 @@ unread-cost remaining plan r r' steps errors.Memory held h =
     (nothing-counted plan _ steps)
 unread-cost remaining plan r r' steps errors.Position held h = absurd h
 
+-- at most all bytes are read ahead in vain
+vain-most : (b : Built) (n matches : ℕ) → looked_in_all Picks b n matches ≤ n + read_again b.dictionary n matches
+vain-most b n matches = by b.lanes b.dictionary.kind (longest b.dictionary.patterns)
+  where
+    by : (lanes : Bool) (kind : MatchKind) (long : ℕ)
+        → n + again_for kind long (if lanes then n else 0) matches ≤ n + again_for kind long n matches
+    by true kind long = omega arith
+    by false Standard long = omega arith
+    by false LeftmostFirst long = let again : ℕ = (long + 1) * matches in omega arith
+    by false LeftmostLongest long = let again : ℕ = (long + 1) * matches in omega arith
+
 -- a run that writes while it reads costs what the search of the stream costs
 pub streamed-cost : {R : Type 0} (plan : Plan) (ac : AhoCorasick) (r r' : Watched R) (before after : Steps)
     (result : Result (Unit {0}) RunError) → IsServing plan.settings plan.rules ac → IsStreamed plan
@@ -243,8 +264,10 @@ streamed-cost plan ac r r' before after result serves streamed (pieces, read, co
     (λ m. length x + read_again m (length x)
     (length (walk_of m.kind (search_of m (whole_of x).anchored (whole_of x).haystack (whole_of x).span))))
     serves.built.dictionary in
+    let most = mul-le-mul_left (lookups_per_byte b.deterministic) (vain-most b (length x) (length (matches_in b x))) in
     let looked =
-    subst (λ k. after.looked.value ≤ before.looked.value + lookups_per_byte b.deterministic * k) same cost.looked in
+    subst (λ k. after.looked.value ≤ before.looked.value + lookups_per_byte b.deterministic * k) same
+    (omega (arith, cost.looked, most)) in
     record {
       gained = pieces;
       read = read;

@@ -133,7 +133,7 @@ replaced-front b plan x text is mode f =
 -- a built automaton for the rules' patterns
 abbrev built_for : Settings → List Rule → Built
 built_for settings rules =
-    record { dictionary = dictionary_for settings rules; deterministic = false; prefilter = None }
+    record { dictionary = dictionary_for settings rules; deterministic = false; prefilter = None; lanes = false }
 
 -- what can be written early is a prefix of the run's text, in every mode
 front-begins : (plan : Plan) (x text : List ℕ) (mode : Mode) → plan.settings.mode ≡ mode → IsStreamed plan

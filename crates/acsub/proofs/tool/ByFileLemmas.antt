@@ -1,12 +1,13 @@
 -- A run over standard input, by what was asked for.
-use Rattle.std.proofs.Common.{◌≡◌, ◌↔◌, ℕ, List, Option, Result, Err}
+use Rattle.std.proofs.Common.{◌≡◌, ◌↔◌, ℕ, List, Option, Result, Ok, Err}
+use Rattle.std.specs.Prelude.{OnOk}
 use Rattle.ac_input.specs.Rules.{Rule}
 use Rattle.ac_automaton.specs.declared.stream.devices.watched.Watched.{Watched}
 use Rattle.acsub.specs.Early.{as_early}
 use Rattle.acsub.specs.Files.{IsJobOf, IsNoJobOf}
 use Rattle.acsub.specs.Given.{form_wanted}
 use Rattle.acsub.specs.Jobs.{RanJob}
-use Rattle.acsub.specs.Outcome.{RanByFile, RanByRules}
+use Rattle.acsub.specs.Outcome.{CountsByFile, CountsByRules, RanByFile, RanByRules}
 use Rattle.acsub.specs.Rules.File.{ReadsRules, grammar_of}
 use Rattle.acsub.specs.Run.{not_read}
 use Rattle.acsub.specs.declared.args.Words.{Words}
@@ -15,6 +16,8 @@ use Rattle.acsub.specs.declared.early.EarlyError.TheVariants as early
 use Rattle.acsub.specs.declared.error.RunError.{RunError}
 use Rattle.acsub.specs.declared.error.RunError.TheVariants as errors
 use Rattle.acsub.specs.declared.job.Job.{Job}
+use Rattle.acsub.specs.Visits.{Tallies}
+use Rattle.acsub.specs.declared.tally.Tally.{Tally}
 use Rattle.acsub.specs.declared.rules.RuleError.{RuleError}
 use Rattle.acsub.specs.declared.rules.RuleError.TheVariants as rule_errors
 use Rattle.acsub.proofs.job.JobLemmas.{input-in, input-no_line, job-ran, no-job_ran, unread-in}
@@ -55,3 +58,19 @@ module _ {R W : Type 0} (remaining : R → Option (List ℕ)) (contents : W → 
       → IsNoJobOf asked rules e → RanByRules remaining contents asked old old rules (Err e)
   asked-none old rules e why =
       no-job_ran remaining contents old asked.mask asked.word asked.stream asked.settings rules e why
+
+-- ---- what was counted
+
+module _ {R : Type 0} (asked : Words) (rules : List Rule) (r r' : Watched R) (before after : Tally) where
+  -- the job that was asked for counted its matches
+  pub rules-counted : (job : Job) (ran : Result (Unit {0}) RunError) → IsJobOf asked rules job
+      → Tallies job r r' before after ran → OnOk (as_early ran) (CountsByRules asked rules r r' before after)
+  rules-counted job (Ok done) made counts = (job, made, counts)
+  rules-counted job (Err e) made counts = tt
+
+  -- so did the run by the bytes of the rules
+  pub file-counted : (file : List ℕ) (result : Result (Unit {0}) EarlyError)
+      → (grammar_of (form_wanted asked)).holds file rules → before.found ≡ 0
+      → OnOk result (CountsByRules asked rules r r' before after) → OnOk result (CountsByFile asked file r r' after)
+  file-counted file (Ok done) holds none counts = (rules, holds, before, none, counts)
+  file-counted file (Err e) holds none counts = tt

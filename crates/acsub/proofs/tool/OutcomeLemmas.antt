@@ -19,6 +19,7 @@ use Rattle.acsub.specs.declared.early.Refusal.TheVariants as refusals
 use Rattle.acsub.specs.declared.error.RunError.{RunError}
 use Rattle.acsub.specs.declared.error.RunError.TheVariants as errors
 use Rattle.acsub.specs.declared.args.Words.{Words}
+use Rattle.acsub.specs.declared.tally.Tally.{Tally}
 use Rattle.acsub.specs.declared.tool.Fault.{Fault}
 use Rattle.acsub.specs.declared.tool.Fault.TheVariants as faults
 use Rattle.acsub.specs.declared.args.WordsFault.TheVariants.{Memory}
@@ -57,54 +58,54 @@ told-some fault (Err (early.Refused refusal)) is = inl (refusal, cc)
 told-some fault (Err (early.Run e)) is = inr (e, cc)
 
 module _ {F R W : Type 0} (held : F → Option (List ℕ)) (remaining : R → Option (List ℕ))
-    (contents : W → Option (List ℕ)) (asked : Words) where
+    (contents : W → Option (List ℕ)) (asked : Words) (tally : Tally) where
   -- the outcome after a run that stopped, and a flush
   run-stopped : (old : Watched R × Watched W) (r' : Watched R) (between after : Watched W) (stopped : Fault)
-      → RanFile held remaining contents asked old (r', between) (Err stopped)
+      → RanFile held remaining contents asked old (r', between) tally (Err stopped)
       → Flushes contents between after 0 ⊎ Flushes contents between after 1
       → ((refusal : Refusal) × (stopped ≡ faults.Refused refusal)) ⊎ ((e : RunError) × (stopped ≡ faults.Run e))
-      → AnswersFile held remaining contents old (r', after) asked (Err stopped)
+      → AnswersFile held remaining contents old (r', after) asked tally (Err stopped)
   run-stopped old r' between after stopped ran flush (inl (refusal, is)) =
-      subst (λ f. AnswersFile held remaining contents old (r', after) asked (Err f)) (sym is)
-      (go flush (subst (λ f. RanFile held remaining contents asked old (r', between) (Err f)) is ran))
+      subst (λ f. AnswersFile held remaining contents old (r', after) asked tally (Err f)) (sym is)
+      (go flush (subst (λ f. RanFile held remaining contents asked old (r', between) tally (Err f)) is ran))
     where
       go : Flushes contents between after 0 ⊎ Flushes contents between after 1
-          → RanFile held remaining contents asked old (r', between) (Err (faults.Refused refusal))
-          → AnswersFile held remaining contents old (r', after) asked (Err (faults.Refused refusal))
+          → RanFile held remaining contents asked old (r', between) tally (Err (faults.Refused refusal))
+          → AnswersFile held remaining contents old (r', after) asked tally (Err (faults.Refused refusal))
       go (inl flush) ran = inl (between, ran, flush)
       go (inr flush) ran = inr (between, ran, flush)
   run-stopped old r' between after stopped ran flush (inr (e, is)) =
-      subst (λ f. AnswersFile held remaining contents old (r', after) asked (Err f)) (sym is)
-      (go flush (subst (λ f. RanFile held remaining contents asked old (r', between) (Err f)) is ran))
+      subst (λ f. AnswersFile held remaining contents old (r', after) asked tally (Err f)) (sym is)
+      (go flush (subst (λ f. RanFile held remaining contents asked old (r', between) tally (Err f)) is ran))
     where
       go : Flushes contents between after 0 ⊎ Flushes contents between after 1
-          → RanFile held remaining contents asked old (r', between) (Err (faults.Run e))
-          → AnswersFile held remaining contents old (r', after) asked (Err (faults.Run e))
+          → RanFile held remaining contents asked old (r', between) tally (Err (faults.Run e))
+          → AnswersFile held remaining contents old (r', after) asked tally (Err (faults.Run e))
       go (inl flush) ran = inl (between, ran, flush)
       go (inr flush) ran = inr (inl (between, ran, flush))
 
   -- the outcome after a run and a flush
   pub run-finished : (old : Watched R × Watched W) (r' : Watched R) (between after : Watched W)
       (answer outcome : Result (Unit {0}) Fault)
-      → RanFile held remaining contents asked old (r', between) answer
+      → RanFile held remaining contents asked old (r', between) tally answer
       → Finishes contents answer between after outcome
-      → AnswersFile held remaining contents old (r', after) asked outcome
+      → AnswersFile held remaining contents old (r', after) asked tally outcome
   run-finished old r' between after (Ok done) (Ok none) ran flush = (between, ran, flush)
   run-finished old r' between after (Ok done) (Err fault) ran flush =
-      subst (λ f. AnswersFile held remaining contents old (r', after) asked (Err f)) (sym flush.0)
+      subst (λ f. AnswersFile held remaining contents old (r', after) asked tally (Err f)) (sym flush.0)
       (between, ran, flush.1)
   run-finished old r' between after (Err stopped) (Ok none) ran flush = absurd flush
   run-finished old r' between after (Err stopped) (Err fault) ran flush =
-      subst (λ f. AnswersFile held remaining contents old (r', after) asked (Err f)) (sym flush.0)
+      subst (λ f. AnswersFile held remaining contents old (r', after) asked tally (Err f)) (sym flush.0)
       (run-stopped old r' between after stopped ran flush.1 (told-some stopped ran.result ran.told))
 
   -- if the rules can't be read, that is the fault, and no device is touched
   pub file-unread : (old : Watched R × Watched W) (fault : Fault) → ReadsRuleText {F = F} {Z = Global} held asked (Err fault)
-      → AnswersFile held remaining contents old old asked (Err fault)
+      → AnswersFile held remaining contents old old asked tally (Err fault)
   file-unread old fault (inl is) =
-      subst (λ f. AnswersFile held remaining contents old old asked (Err f)) (sym is) refl
+      subst (λ f. AnswersFile held remaining contents old old asked tally (Err f)) (sym is) refl
   file-unread old fault (inr is) =
-      subst (λ f. AnswersFile held remaining contents old old asked (Err f)) (sym is) (inr (inr (refl, refl)))
+      subst (λ f. AnswersFile held remaining contents old old asked tally (Err f)) (sym is) (inr (inr (refl, refl)))
 
 -- ---- the words
 

@@ -1,5 +1,5 @@
 -- What a run for whole words has written and cost, given what the search of the stream has.
-use Rattle.std.proofs.Common.{◌*◌, ◌+◌, ◌≡◌, ℕ, ◌≤◌, true, false, List, length, Option, Result, Ok, sym, ap, ◌∙◌, subst, arith}
+use Rattle.std.proofs.Common.{◌*◌, ◌+◌, ◌≡◌, ℕ, ◌≤◌, true, false, List, length, Option, Result, Ok, refl, sym, ap, ◌∙◌, subst, arith}
 use Rattle.std.specs.Prelude.{max}
 use Rattle.std.specs.List.{concat}
 use Rattle.ac_input.specs.declared.steps.Steps.{Steps}
@@ -8,7 +8,7 @@ use Rattle.ac_input.specs.Rules.{Rule}
 use Rattle.ac_input.specs.Word.{whole_occurrences}
 use Rattle.ac_input.specs.Work.{longest, lookups_per_byte, shortest}
 use Rattle.ac_automaton.specs.Automaton.{Built}
-use Rattle.ac_automaton.specs.Stream.{AllWords, CanStream, Decides, Words, items_of, read_again}
+use Rattle.ac_automaton.specs.Stream.{AllWords, CanStream, Decides, Words, in_vain, items_of, read_again}
 use Rattle.ac_automaton.specs.Stream.Answer.{WritesStream}
 use Rattle.ac_automaton.specs.Stream.Devices.Buffer.{room_for}
 use Rattle.ac_automaton.specs.Stream.Devices.Moved.{AllFit}
@@ -137,6 +137,12 @@ module _ {R W : Type 0} (remaining : R → Option (List ℕ)) (contents : W → 
 
 -- ---- what it costs
 
+-- no whole word is read ahead for
+vain-none : (mode : Mode) (b : Built) (n : ℕ) → in_vain (sequence_of mode) b n ≡ 0
+vain-none modes.Replace b n = refl
+vain-none modes.List b n = refl
+vain-none modes.Overlap b n = refl
+
 -- what the search for the items of the mode costs, the run costs
 pub words-costs : {R : Type 0} (settings : Settings) (rules : List Rule) (ac : AhoCorasick) (r r' : Watched R)
     (before after : Steps) (searched : Result (Unit {0}) StreamError) (result : Result (Unit {0}) EarlyError)
@@ -148,8 +154,11 @@ words-costs settings rules ac r r' before after searched result serves (pieces, 
     let x = concat pieces in
     let n = looks_for_words settings rules x in
     let looked = subst (λ m. after.looked.value ≤ before.looked.value + lookups_per_byte b.deterministic
-    * (length x + read_again m (length x) (length (items_of (sequence_of settings.mode) m x))))
-    (words-asked settings rules ac serves) cost.looked in
+    * (length x + read_again m 0 (length (items_of (sequence_of settings.mode) m x))))
+    (words-asked settings rules ac serves)
+    (subst (λ vain. after.looked.value ≤ before.looked.value + lookups_per_byte b.deterministic
+    * (length x + read_again b.dictionary vain (length (items_of (sequence_of settings.mode) b.dictionary x))))
+    (vain-none settings.mode b (length x)) cost.looked) in
     record {
       gained = pieces;
       read = read;

@@ -11,7 +11,7 @@ use crate::args::{count_of, has_values, is_given, is_mode};
 use clap::ArgMatches;
 
 /// What is wrong with arguments that don't go together.
-#[derive(Clone, Copy, Debug, PartialEq, Eq)]
+#[derive(Clone, Copy)]
 pub enum Misuse {
     /// There is neither RULES nor `-e`.
     NoRules,

@@ -13,7 +13,7 @@ use std::error::Error;
 use std::fmt;
 
 /// What is written.
-#[derive(Clone, Copy, Debug, PartialEq, Eq)]
+#[derive(Clone, Copy, PartialEq, Eq)]
 pub enum Mode {
     /// The input, with each match replaced.
     Replace,
@@ -24,7 +24,7 @@ pub enum Mode {
 }
 
 /// By what matches are found. No engine changes what is written, only what a run costs, and its limits.
-#[derive(Clone, Copy, Debug, PartialEq, Eq)]
+#[derive(Clone, Copy, PartialEq, Eq)]
 pub enum Engine {
     /// The DFA for up to 100 patterns; for more, or where it would be too large, the contiguous NFA; and where that would be too
     /// large, the noncontiguous one.
@@ -40,7 +40,7 @@ pub enum Engine {
 }
 
 /// What a run is to do.
-#[derive(Clone, Copy, PartialEq, Eq)]
+#[derive(Clone, Copy)]
 pub struct Settings {
     /// What is written.
     pub mode: Mode,
@@ -60,7 +60,7 @@ pub struct Settings {
 }
 
 /// Why settings are an error: they exclude one another, or the rules don't suit them.
-#[derive(Clone, Copy, Debug, PartialEq, Eq)]
+#[derive(Clone, Copy, Debug)]
 pub enum SettingError {
     /// Overlapping matches under a leftmost kind.
     OverlapLeftmost,

@@ -1,6 +1,6 @@
 //! Replacement over a stream that counts what it replaces: of its matches, or of its whole words.
 //!
-//! The text is that of [`AhoCorasick::try_stream_replace_all_any_kind`], and is gathered and written as there. Both buffers are
+//! The text is that of [`AhoCorasick::try_stream_replace_all_any_kind_counted`], and is gathered and written as there. Both buffers are
 //! taken before the first read, and no memory after that.
 ghost use Rattle.std.specs.Prelude.{◌≡◌, false, IfErr, OnOk};
 ghost use Rattle.ac_automaton.specs.Stream.{CanStream, Picks, Words, items_of};

@@ -25,7 +25,6 @@ use Rattle.ac_automaton.specs.Stream.Replace.{CostsStream, IsStreamCost, Replace
 use Rattle.ac_automaton.specs.Stream.ReplaceWith.{ReplacesStreamWith, calling}
 use Rattle.ac_automaton.specs.declared.stream.replace_with.Calling.{Calling}
 use Rattle.ac_automaton.specs.declared.error.StreamError.{StreamError}
-use Rattle.ac_automaton.specs.declared.stream.StreamKinds.{StreamKinds}
 use Rattle.ac_automaton.specs.declared.stream.devices.watched.Watched.{Watched}
 use Rattle.ac_automaton.proofs.lemmas.CursorLemmas.{slice_range-split}
 use Rattle.ac_automaton.proofs.stream.devices.MovedLemmas.{turns-filled}
@@ -197,17 +196,17 @@ whole-writes remaining items g b text reader_before reader_after z last is write
     written ∙ ap (λ t. items z.1.inner ++ t) (all ∙ sym read)
 
 pub stream-writes : {F W R : Type 0} (remaining : R → Option (List ℕ)) (items : W → List ℕ)
-    (g : Replacer F (Watched W) (Result (Unit {0}) StreamError)) (kinds : StreamKinds) (b : Built)
+    (g : Replacer F (Watched W) (Result (Unit {0}) StreamError)) (b : Built)
     (supports : Anchored → Type 0) (f : F) (text : List ℕ) (reader_before reader_after : Watched R)
     (old new : Watched W) (result : Result (Unit {0}) StreamError) → remaining reader_before.inner ≡ Some text
     → WritesMatched items g
-    → ReplacesStreamWith (λ w. Some (items w)) g remaining kinds b supports f reader_before reader_after old new result
+    → ReplacesStreamWith (λ w. Some (items w)) g remaining b supports f reader_before reader_after old new result
     → OnOk result (items new.inner ≡ items old.inner ++ text)
-stream-writes remaining items g kinds b supports f text reader_before reader_after old new (Ok done) is writes
+stream-writes remaining items g b supports f text reader_before reader_after old new (Ok done) is writes
     (last, before, after, (can, pumps)) =
     whole-writes remaining items g b text reader_before reader_after (record { f = f }, old) (record { f = last }, new)
     is writes pumps.0
-stream-writes remaining items g kinds b supports f text reader_before reader_after old new (Err error) is writes
+stream-writes remaining items g b supports f text reader_before reader_after old new (Err error) is writes
     replaces = tt
 
 -- ---- replacements
@@ -231,14 +230,14 @@ pub stream-costs : {W R : Type 0} (remaining : R → Option (List ℕ)) (content
     (before after : Steps) (result : Result (Unit {0}) StreamError) → remaining reader_before.inner ≡ Some text
     → ReplacesStream remaining contents b replacements reader_before reader_after old new result
     → CostsStream b reader_before reader_after before after result
-    → OnOk result (IsStreamCost b (length text) (length (matches_in b text)) before after)
+    → OnOk result (IsStreamCost Picks b (length text) (length (matches_in b text)) before after)
 stream-costs remaining contents b replacements text reader_before reader_after old new before after (Ok done) is
     ((m, moved, fit, whole), begun) ((pieces, read, cost, all), unread) =
     let same : pieces ≡ m.pieces =
     append_cancel_left reader_before.pieces.items pieces m.pieces (sym read ∙ moved.reader.pieces) in
     let text_read : text ≡ concat pieces = consumed-whole _ _ text (concat m.pieces) is moved.reader.device
     (moved.reader.at_end whole.failed.0 whole.whole) ∙ ap concat (sym same) in
-    subst (λ x. IsStreamCost b (length x) (length (matches_in b x)) before after) (sym text_read) cost
+    subst (λ x. IsStreamCost Picks b (length x) (length (matches_in b x)) before after) (sym text_read) cost
 stream-costs remaining contents b replacements text reader_before reader_after old new before after (Err error) is
     replaces costs = tt
 

@@ -5,12 +5,14 @@
 //! overlaps them stays in part.
 //!
 //! It needs the standard kind, as overlapping searches do, and an unanchored start. The Rust crate has no such calls.
+//!
+//! Pieces that are pushed are masked by a [`StreamMask`](crate::StreamMask), their whole words by a
+//! [`StreamWordMask`](crate::StreamWordMask), which are made of an automaton or a reference to one.
 ghost use Rattle.std.specs.Prelude.{◌≡◌, false};
 ghost use Rattle.ac_automaton.specs.Masking.{CostsMask, Masks, masked_in};
 ghost use Rattle.ac_automaton.specs.Masking.Words.{CostsMaskWords, MasksWords};
-ghost use Rattle.ac_automaton.specs.Masking.Words.Pushed.{AnswersNewWordMasking};
 ghost use Rattle.ac_automaton.specs.Masking.Words.Stream.{CostsMaskWordsStream, MasksWordsStream};
-ghost use Rattle.ac_automaton.specs.Stream.Mask.{AnswersNewMask, CostsMaskStream, MasksStream};
+ghost use Rattle.ac_automaton.specs.Stream.Mask.{CostsMaskStream, MasksStream};
 ghost use Rattle.ac_automaton.specs.Stream.Overlapping.{AcceptsListing};
 ghost use Rattle.ac_input.specs.declared.search.MatchKind.TheVariants.{Standard};
 ghost use Rattle.aho_corasick.specs.AhoCorasick.{as_built, kind_of, supported_by};
@@ -18,7 +20,6 @@ ghost use Rattle.aho_corasick.specs.AhoCorasick.{as_built, kind_of, supported_by
 use super::AhoCorasick;
 use ac_automaton::error::{MatchError, ReplaceError, StreamError};
 use ac_automaton::search::Search;
-use ac_automaton::stream::mask::{StreamMask, StreamWordMask};
 use ac_automaton::watched::Watched;
 use ac_input::search::Anchored;
 use ac_input::steps::Steps;
@@ -26,7 +27,7 @@ use std::alloc::Global;
 use std::io::{Read, Write};
 
 impl AhoCorasick {
-    /// Masks the text in place: see [`AhoCorasick::try_mask`].
+    /// Masks the text in place: see [`AhoCorasick::try_mask_counted`].
     ///
     /// It requires a start for unanchored searches, which every start kind has but `Anchored`, and the standard kind.
     ///
@@ -39,7 +40,8 @@ impl AhoCorasick {
         requires standard { kind_of self.now ≡ Standard }
         ensures { text.new ≡ masked_in (as_built self.now) mask text.old }
     {
-        match self.try_mask(text, mask) {
+        let mut steps = Steps::new();
+        match self.try_mask_counted(text, mask, &mut steps) {
             Ok(()) => {}
             Err(_) => unreachable!(),
         }
@@ -50,13 +52,8 @@ impl AhoCorasick {
     ///
     /// Returns an error if the automaton has no start for an unanchored search, or isn't of the standard kind; the text is then
     /// unchanged.
-    pub fn try_mask(&self, text: &mut [u8], mask: u8) -> Result<(), MatchError>
-        ensures { Masks (as_built self.now) (supported_by self.now) mask text.old text.new result }
-    {
-        Search::try_mask(self, text, mask)
-    }
-
-    /// The same; counts what it does: at least one look at a state for each byte, and at most two.
+    ///
+    /// It counts what it does: at least one look at a state for each byte, and at most two.
     pub fn try_mask_counted(
         &self,
         text: &mut [u8],
@@ -69,28 +66,15 @@ impl AhoCorasick {
         Search::try_mask_counted(self, text, mask, steps)
     }
 
-    /// Writes the input masked, as [`AhoCorasick::try_mask`] masks a text. The input ends at its first empty read. Before each read it
-    /// writes everything but the last bytes that may still be covered: fewer than the longest pattern has. The writer isn't flushed.
+    /// Writes the input masked, as [`AhoCorasick::try_mask_counted`] masks a text. The input ends at its first empty read. Before each
+    /// read it writes everything but the last bytes that may still be covered: fewer than the longest pattern has. The writer isn't
+    /// flushed.
     ///
     /// It requires that the reader has not ended. Returns an error if the automaton has no start for an unanchored search, isn't of the
     /// standard kind, or has an empty pattern, checked in that order, and if there is no memory for its one buffer; the reader and the
     /// writer are then unchanged. It allocates nothing after that. Where a read or a write fails, nothing is tried again.
-    pub fn try_mask_stream<R: Read, W: Write>(
-        &self,
-        alloc: Global,
-        reader: &mut Watched<R>,
-        writer: &mut Watched<W>,
-        mask: u8,
-    ) -> Result<(), StreamError>
-        requires open { reader.old.ended ≡ false }
-        ensures masked { MasksStream R.remaining W.contents (as_built self.now) mask reader.old reader.new
-            writer.old writer.new result }
-        ensures accepted { AcceptsListing (as_built self.now) (supported_by self.now) result }
-    {
-        Search::try_mask_stream(self, alloc, reader, writer, mask)
-    }
-
-    /// The same; counts what it does.
+    ///
+    /// It counts what it does.
     pub fn try_mask_stream_counted<R: Read, W: Write>(
         &self,
         alloc: Global,
@@ -112,20 +96,10 @@ impl AhoCorasick {
     /// that overlap included, and every other byte stays. What a word byte is stands at [`AhoCorasick::try_find_word_iter`]. If the mask is
     /// a word byte that no pattern has, no whole word is left; else one may be left, or may have come about, beside a masked byte.
     ///
-    /// It takes a copy of the text. Returns an error where [`AhoCorasick::try_mask`] does, and then if there is no memory for the copy; the
-    /// text is then unchanged.
-    pub fn try_mask_words(
-        &self,
-        alloc: Global,
-        text: &mut [u8],
-        mask: u8,
-    ) -> Result<(), ReplaceError>
-        ensures { MasksWords (as_built self.now) (supported_by self.now) mask text.old text.new result }
-    {
-        Search::try_mask_words(self, alloc, text, mask)
-    }
-
-    /// The same; counts what it does, but not the copying: at least one look at a state for each byte, and at most two.
+    /// It takes a copy of the text. Returns an error where [`AhoCorasick::try_mask_counted`] does, and then if there is no memory for the
+    /// copy; the text is then unchanged.
+    ///
+    /// It counts what it does, but not the copying: at least one look at a state for each byte, and at most two.
     pub fn try_mask_words_counted(
         &self,
         alloc: Global,
@@ -139,28 +113,14 @@ impl AhoCorasick {
         Search::try_mask_words_counted(self, alloc, text, mask, steps)
     }
 
-    /// Writes the input with its whole words masked, as [`AhoCorasick::try_mask_words`] masks a text. The input ends at its first empty
-    /// read. Before each read it writes everything but the last bytes that may still be covered: at most as many as the longest pattern
+    /// Writes the input with its whole words masked, as [`AhoCorasick::try_mask_words_counted`] masks a text. The input ends at its first
+    /// empty read. Before each read it writes everything but the last bytes that may still be covered: at most as many as the longest pattern
     /// has, and none where nothing is live. The writer isn't flushed.
     ///
-    /// It requires that the reader has not ended. Returns an error where [`AhoCorasick::try_mask_stream`] does; the reader and the writer
-    /// are then unchanged. It has two buffers of `max(65536, 8 * (longest + 1))` bytes, and allocates nothing after them.
-    pub fn try_mask_words_stream<R: Read, W: Write>(
-        &self,
-        alloc: Global,
-        reader: &mut Watched<R>,
-        writer: &mut Watched<W>,
-        mask: u8,
-    ) -> Result<(), StreamError>
-        requires open { reader.old.ended ≡ false }
-        ensures masked { MasksWordsStream R.remaining W.contents (as_built self.now) mask reader.old reader.new
-            writer.old writer.new result }
-        ensures accepted { AcceptsListing (as_built self.now) (supported_by self.now) result }
-    {
-        Search::try_mask_words_stream(self, alloc, reader, writer, mask)
-    }
-
-    /// The same; counts what it does.
+    /// It requires that the reader has not ended. Returns an error where [`AhoCorasick::try_mask_stream_counted`] does; the reader
+    /// and the writer are then unchanged. It has two buffers of `max(65536, 8 * (longest + 1))` bytes, and allocates nothing after them.
+    ///
+    /// It counts what it does.
     pub fn try_mask_words_stream_counted<R: Read, W: Write>(
         &self,
         alloc: Global,
@@ -176,31 +136,5 @@ impl AhoCorasick {
         ensures cost { CostsMaskWordsStream (as_built self.now) reader.old reader.new steps.old steps.new result }
     {
         Search::try_mask_words_stream_counted(self, alloc, reader, writer, mask, steps)
-    }
-
-    /// A masking of a stream whose pieces come when they come: see [`StreamMask`]. It borrows the automaton; one that owns it is made
-    /// by [`StreamMask::new`], from a clone, which shares the automaton. Returns an error where [`AhoCorasick::try_mask_stream`] does
-    /// before it reads.
-    pub fn try_stream_mask<'a>(
-        &'a self,
-        alloc: Global,
-        mask: u8,
-    ) -> Result<StreamMask<&'a AhoCorasick>, StreamError>
-        ensures { AnswersNewMask (as_built self.now) (supported_by self.now) mask result }
-    {
-        Search::try_stream_mask(self, alloc, mask)
-    }
-
-    /// A masking of the whole words of a stream whose pieces come when they come: see [`StreamWordMask`]. It borrows the automaton; one
-    /// that owns it is made by [`StreamWordMask::new`], from a clone, which shares the automaton. Returns an error where
-    /// [`AhoCorasick::try_mask_words_stream`] does before it reads.
-    pub fn try_stream_word_mask<'a>(
-        &'a self,
-        alloc: Global,
-        mask: u8,
-    ) -> Result<StreamWordMask<&'a AhoCorasick>, StreamError>
-        ensures { AnswersNewWordMasking (as_built self.now) (supported_by self.now) mask result }
-    {
-        Search::try_stream_word_mask(self, alloc, mask)
     }
 }

@@ -110,7 +110,7 @@ impl AhoCorasick {
     /// A call may look at up to 8 KiB past the match that it returns, over several parts of the text side by side, and counts
     /// each look when it makes it. Under the standard kind no byte is looked at again for that, so all matches together cost no more
     /// looks than those of `find_iter` may; under a leftmost kind what was read ahead may be lost where a longer match is taken, and
-    /// is then read again. The iterator takes some 3 KiB and no other memory. Where reading ahead can't pay it does as `find_iter`:
+    /// is then read again, each byte at most once. The iterator takes some 3 KiB and no other memory. Where reading ahead can't pay it does as `find_iter`:
     /// with a prefilter, unless that is packed search for more than 64 patterns; with an empty pattern; for an anchored input; for an
     /// earliest search under a leftmost kind; and for an input of less than 1 KiB.
     pub fn find_iter_ahead<'a, 'h>(&'a self, input: Input<'h>) -> FindIterAhead<'a, 'h>

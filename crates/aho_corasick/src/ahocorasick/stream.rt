@@ -4,35 +4,36 @@
 //! an error if that isn't so; [`AhoCorasick::stream_find_iter`] requires it. One buffer is allocated before the first read, and no
 //! memory after it.
 //!
-//! [`AhoCorasick::try_stream_find_overlapping_iter`] returns every occurrence in a stream. The Rust crate has no such call.
-//!
-//! The calls whose names have `any_kind` search under any kind. Under a leftmost kind they hold a match back until no byte that
-//! follows can change it. The Rust crate has none of them.
+//! [`stream_find_iter`](crate::stream_find_iter) also searches under any kind, as does the call whose name has `any_kind`. Under a
+//! leftmost kind a match is held back until no byte that follows can change it.
+//! [`stream_find_overlapping_iter`](crate::stream_find_overlapping_iter) returns every occurrence in a stream. Pieces that are pushed
+//! are searched by a [`StreamSearch`](crate::StreamSearch), and replaced by a [`StreamReplacer`](crate::StreamReplacer), which are made
+//! of an automaton or a reference to one. The Rust crate has none of these.
 //!
 //! A search may look at up to 8 KiB of the held bytes ahead of the place to which it has come. It counts each look when it makes
 //! it. Under the standard kind it looks at none of these bytes again. Under a leftmost kind it begins anew after a match, and may
-//! have looked ahead in vain: so it reads each byte at most once more than it would without.
+//! have looked ahead in vain: so it reads each byte at most once more than it would without. Where `has_lanes` is false it looks at
+//! none ahead.
 ghost use Rattle.std.specs.Prelude.{◌≡◌, false, length, IfOk, OnOk};
 ghost use Rattle.ac_literal.specs.Packed.{bytes_of};
 ghost use Rattle.ac_automaton.specs.declared.error.StreamError.TheVariants.{Memory};
 ghost use Rattle.ac_automaton.specs.InMemory.Replace.{IsForMatches};
-ghost use Rattle.ac_automaton.specs.Stream.{AnswersNew, CanStream};
-ghost use Rattle.ac_automaton.specs.Stream.Iter.{AnswersStreamListing, FindsStream, IsStreamOver};
+ghost use Rattle.ac_automaton.specs.Stream.{CanStream};
+ghost use Rattle.ac_automaton.specs.Stream.Iter.{FindsStream, IsStreamOver};
 ghost use Rattle.ac_automaton.specs.Stream.Pump.{PumpsMatches, PumpsOccurrences};
 ghost use Rattle.ac_automaton.specs.Stream.Replace.{AcceptsStream, CostsStream, ReplacesStream};
 ghost use Rattle.ac_automaton.specs.Stream.ReplaceWith.{ReplacesStreamWith};
-ghost use Rattle.ac_automaton.specs.Stream.Replacer.{AnswersReplacer};
 ghost use Rattle.ac_automaton.specs.declared.stream.StreamKinds.TheVariants.{AnyKind, OnlyStandard};
 ghost use Rattle.aho_corasick.specs.AhoCorasick.{as_built, supported_by, pattern_count};
 ghost use Rattle.aho_corasick.specs.Streamed.{IsStreamReplaced};
 
 use super::automaton::enforce_anchored_consistency;
-use super::{AhoCorasick, StreamFindIter, StreamFindOverlappingIter};
+use super::{AhoCorasick, StreamFindIter};
 use crate::engine::Engine;
 use ac_automaton::automaton::Automaton;
 use ac_automaton::error::StreamError;
+use ac_automaton::stream::StreamKinds;
 use ac_automaton::stream::sink::Sink;
-use ac_automaton::stream::{StreamKinds, StreamReplacer, StreamSearch};
 use ac_automaton::watched::Watched;
 use ac_input::search::{Anchored, Match};
 use ac_input::steps::Steps;
@@ -96,25 +97,6 @@ impl AhoCorasick {
             reader.entry result }
     {
         Automaton::try_stream_find_iter(self, alloc, reader)
-    }
-
-    /// Every occurrence in a stream, one after another: see [`StreamFindOverlappingIter`]. Each is returned after the read that
-    /// returned its last byte, and before the next one, by end, start and number, as [`AhoCorasick::try_find_overlapping_iter`] orders
-    /// them. Their places are counted from the first byte that is read. It allocates one buffer of 64 KiB. It requires that the reader
-    /// has not ended.
-    ///
-    /// Returns an error if the automaton has no start for an unanchored search, isn't of the standard kind, or has an empty
-    /// pattern, checked in that order, and then if there is no memory for the buffer. Nothing was read then.
-    pub fn try_stream_find_overlapping_iter<'a, R>(
-        &'a self,
-        alloc: Global,
-        reader: &'a mut Watched<R>,
-    ) -> Result<StreamFindOverlappingIter<'a, R>, StreamError>
-        requires { reader.old.ended ≡ false }
-        ensures { AnswersStreamListing (as_built self.now) (supported_by self.now) reader.entry
-            result }
-    {
-        Automaton::try_stream_find_overlapping_iter(self, alloc, reader)
     }
 
     /// Writes the input with each match replaced by the replacement of its pattern. The input ends at its first empty read. Before
@@ -200,124 +182,27 @@ impl AhoCorasick {
         F: FnMut(&Match, &[u8], &mut Watched<W>) -> Result<(), StreamError>,
         requires open { reader.old.ended ≡ false }
         requires ready { IsForMatches F.FnMut (pattern_count self.now) replace_with }
-        ensures { ReplacesStreamWith W.contents F.FnMut R.remaining OnlyStandard (as_built self.now)
+        ensures { ReplacesStreamWith W.contents F.FnMut R.remaining (as_built self.now)
             (supported_by self.now) replace_with reader.old reader.new writer.old writer.new result }
     {
         Automaton::try_stream_replace_all_with(self, alloc, reader, writer, replace_with)
-    }
-
-    /// All matches of a stream under any kind, one after another: see [`AhoCorasick::try_stream_find_iter_any_kind`].
-    ///
-    /// It requires that the reader has not ended, that the start kind has unanchored searches, and that no pattern is empty. Returns
-    /// an error only if memory runs out.
-    pub fn stream_find_iter_any_kind<'a, R>(
-        &'a self,
-        alloc: Global,
-        reader: &'a mut Watched<R>,
-    ) -> Result<StreamFindIter<'a, R>, AllocError>
-        requires open { reader.old.ended ≡ false }
-        requires can { CanStream AnyKind (as_built self.now) (supported_by self.now) }
-        ensures { IfOk result (IsStreamOver (as_built self.now) reader.entry) }
-    {
-        match self.try_stream_find_iter_any_kind(alloc, reader) {
-            Ok(matches) => Ok(matches),
-            Err(error) => Err(out_of_memory(error)),
-        }
-    }
-
-    /// All matches of a stream under any kind, one after another: see [`StreamFindIter`]. Under the standard kind it is
-    /// [`AhoCorasick::try_stream_find_iter`]. Under a leftmost kind each match is returned after the read with which it is
-    /// decided: no byte that follows can change it, since nothing that began no later is live any more. At the end of the input
-    /// all are. At most as many bytes are held back as the longest pattern has, and after each match at most so many bytes and
-    /// one are read again. Each byte may be looked at once more, read ahead in vain.
-    ///
-    /// It takes the buffer of [`AhoCorasick::try_stream_find_iter`], and requires that the reader has not ended.
-    ///
-    /// Returns an error if the automaton has no start for an unanchored search, or has an empty pattern, checked in that order, and
-    /// then if there is no memory for the buffer. Nothing was read then.
-    pub fn try_stream_find_iter_any_kind<'a, R>(
-        &'a self,
-        alloc: Global,
-        reader: &'a mut Watched<R>,
-    ) -> Result<StreamFindIter<'a, R>, StreamError>
-        requires { reader.old.ended ≡ false }
-        ensures { FindsStream AnyKind (as_built self.now) (supported_by self.now)
-            reader.entry result }
-    {
-        Automaton::try_stream_find_iter_any_kind(self, alloc, reader)
-    }
-
-    /// A search of a stream whose pieces come when they come, as from a socket: see [`StreamSearch`]. It owns no reader. Push each
-    /// piece, and after each push take the matches that are decided; finish it, and take the rest. However a text is cut into pieces,
-    /// the matches are the same: those of [`AhoCorasick::try_stream_find_iter_any_kind`].
-    ///
-    /// It takes the buffer of [`AhoCorasick::try_stream_find_iter`], and no memory after that. It borrows the automaton. A search that
-    /// owns one is made by [`StreamSearch::any_kind`], from a clone, which shares the automaton.
-    ///
-    /// Returns an error if the automaton has no start for an unanchored search, or has an empty pattern, checked in that order, and
-    /// then if there is no memory for the buffer.
-    pub fn try_stream_search<'a>(
-        &'a self,
-        alloc: Global,
-    ) -> Result<StreamSearch<&'a AhoCorasick>, StreamError>
-        ensures { AnswersNew AnyKind (as_built self.now) (supported_by self.now) result }
-    {
-        Automaton::try_stream_search(self, alloc)
-    }
-
-    /// A replacement over a stream whose pieces come when they come: see [`StreamReplacer`]. It owns no reader and no writer. Push each
-    /// piece, and after each push take the replaced text, slice by slice; finish it, and take the rest. However a text is cut into
-    /// pieces, the replaced text is the same: that of [`AhoCorasick::try_stream_replace_all_any_kind`].
-    ///
-    /// It takes one buffer, as [`AhoCorasick::try_stream_search`] does, and returns an error where that does.
-    pub fn try_stream_replacer<'a>(
-        &'a self,
-        alloc: Global,
-    ) -> Result<StreamReplacer<&'a AhoCorasick>, StreamError>
-        ensures { AnswersReplacer (as_built self.now) (supported_by self.now) result }
-    {
-        Automaton::try_stream_replacer(self, alloc)
     }
 
     /// Writes the input with each match replaced by the replacement of its pattern, under any kind. Before each read everything is
     /// written that no later byte can change; it holds back at most as many bytes as the longest pattern has. The writer isn't
     /// flushed.
     ///
-    /// It takes, reads, writes and fails as [`AhoCorasick::try_stream_replace_all`] does, but is an error only where
-    /// [`AhoCorasick::try_stream_find_iter_any_kind`] is.
+    /// It takes, reads, writes and fails as [`AhoCorasick::try_stream_replace_all`] does, but is no error for another kind than the
+    /// standard one.
     ///
     /// ```text
     /// let masks = vec![in alloc; mask; ac.patterns_len()]?; // `mask` is b"***"
-    /// ac.try_stream_replace_all_any_kind(alloc, &mut Watched::new(text), writer, &masks)
+    /// ac.try_stream_replace_all_any_kind_counted(alloc, &mut Watched::new(text), writer, &masks, steps)
     /// ```
-    pub fn try_stream_replace_all_any_kind<R: Read, W: Write>(
-        &self,
-        alloc: Global,
-        reader: &mut Watched<R>,
-        writer: &mut Watched<W>,
-        replacements: &[&[u8]],
-    ) -> Result<(), StreamError>
-        requires open { reader.old.ended ≡ false }
-        requires one_each { length replacements.now ≡ pattern_count self.now }
-        ensures replaced { OnOk result (IsStreamReplaced R.remaining W.contents self.now
-            (bytes_of replacements.now) reader.old reader.new writer.old writer.new) }
-        ensures moved { ReplacesStream R.remaining W.contents (as_built self.now)
-            (bytes_of replacements.now) reader.old reader.new writer.old writer.new result }
-        ensures accepted { AcceptsStream AnyKind (as_built self.now) (supported_by self.now) result }
-    {
-        let mut steps = Steps::new();
-        self.try_stream_replace_all_any_kind_counted(
-            alloc,
-            reader,
-            writer,
-            replacements,
-            &mut steps,
-        )
-    }
-
-    /// The same, and counts what it does. Under a leftmost kind it looks at more than
-    /// [`AhoCorasick::try_stream_replace_all_counted`] does: after each match at what it reads again, and at each byte at most
-    /// once more, read ahead in vain. The clause `replaced` of that call follows from `moved`.
+    ///
+    /// It counts what it does. Under a leftmost kind it looks at more than [`AhoCorasick::try_stream_replace_all_counted`] does: after
+    /// each match at what it reads again, and with lanes at each byte at most once more, read ahead in vain. The clause `replaced` of
+    /// [`AhoCorasick::try_stream_replace_all`] follows from `moved`.
     pub fn try_stream_replace_all_any_kind_counted<R: Read, W: Write>(
         &self,
         alloc: Global,
@@ -342,28 +227,6 @@ impl AhoCorasick {
             replacements,
             steps
         ))
-    }
-
-    /// Writes the input under any kind, and in place of each match what the closure writes. It requires of the closure what
-    /// [`AhoCorasick::try_stream_replace_all_with`] does.
-    ///
-    /// It reads, writes and fails as [`AhoCorasick::try_stream_replace_all_any_kind`] does. The closure's first error ends the call
-    /// and is returned unchanged.
-    pub fn try_stream_replace_all_any_kind_with<R: Read, W: Write, F>(
-        &self,
-        alloc: Global,
-        reader: &mut Watched<R>,
-        writer: &mut Watched<W>,
-        replace_with: F,
-    ) -> Result<(), StreamError>
-    where
-        F: FnMut(&Match, &[u8], &mut Watched<W>) -> Result<(), StreamError>,
-        requires open { reader.old.ended ≡ false }
-        requires ready { IsForMatches F.FnMut (pattern_count self.now) replace_with }
-        ensures { ReplacesStreamWith W.contents F.FnMut R.remaining AnyKind (as_built self.now)
-            (supported_by self.now) replace_with reader.old reader.new writer.old writer.new result }
-    {
-        Automaton::try_stream_replace_all_any_kind_with(self, alloc, reader, writer, replace_with)
     }
 
     /// Reads a stream to its end, and passes its matches to a sink with the text between them: see [`Sink`]. It accepts these kinds.
@@ -394,7 +257,7 @@ impl AhoCorasick {
     }
 
     /// The same for every occurrence, by end, start and number. They may overlap, so the sink is passed no text between them. It needs
-    /// the standard kind, and takes the buffer of [`AhoCorasick::try_stream_find_overlapping_iter`].
+    /// the standard kind, and takes the buffer of [`stream_find_overlapping_iter`](crate::stream_find_overlapping_iter).
     ///
     /// Returns an error where that call does, and nothing has happened then; and if a read fails, the sink stops, or there are more
     /// bytes than places. The Rust crate has no such call.

@@ -5,19 +5,19 @@
 //! ([`word_laws`](ac_input::word_laws)).
 //!
 //! It needs the standard kind, an unanchored start and no empty pattern. The Rust crate has no such calls.
+//!
+//! The words of a stream come from [`stream_find_word_iter`](crate::stream_find_word_iter), all of them from
+//! [`stream_find_overlapping_word_iter`](crate::stream_find_overlapping_word_iter). Of pieces that are pushed they are found by a
+//! [`WordSearch`](crate::WordSearch) and an [`OverlappingWordSearch`](crate::OverlappingWordSearch).
 ghost use Rattle.std.specs.Prelude.{◌≡◌, ◌≤◌, false, length};
 ghost use Rattle.ac_automaton.specs.InMemory.Words.{AnswersWords, AnswersWordsFrom};
-ghost use Rattle.ac_automaton.specs.InMemory.Words.Overlapping.{AnswersWordListing};
 ghost use Rattle.ac_automaton.specs.InMemory.Words.Replace.{ReplacesWholeWords};
 ghost use Rattle.ac_automaton.specs.Stream.Overlapping.{AcceptsListing};
-ghost use Rattle.ac_automaton.specs.Stream.WholeWords.{CostsWordStream, FindsStreamAllWords, FindsStreamWords, PumpsAllWords, PumpsWords, ReplacesWords, asked_for};
+ghost use Rattle.ac_automaton.specs.Stream.WholeWords.{CostsWordStream, PumpsAllWords, PumpsWords, ReplacesWords, asked_for};
 ghost use Rattle.ac_literal.specs.Packed.{bytes_of};
 ghost use Rattle.aho_corasick.specs.AhoCorasick.{as_built, pattern_count, supported_by};
 
-use super::{
-    AhoCorasick, FindOverlappingWordIter, FindWordIter, StreamFindOverlappingWordIter,
-    StreamFindWordIter,
-};
+use super::{AhoCorasick, FindWordIter};
 use ac_automaton::error::{MatchError, ReplaceError, StreamError};
 use ac_automaton::search::Search;
 use ac_automaton::stream::sink::Sink;
@@ -69,19 +69,6 @@ impl AhoCorasick {
         Search::try_find_word_iter_from(self, kind, haystack, at)
     }
 
-    /// All whole words of a text, overlapping ones too, by their ends, their starts and their numbers: those of the occurrences of
-    /// [`AhoCorasick::try_find_overlapping_iter`] beside which no word byte stands. It takes no memory, and uses no prefilter.
-    ///
-    /// Returns an error where [`AhoCorasick::try_find_word_iter`] does.
-    pub fn try_find_overlapping_word_iter<'a, 'h>(
-        &'a self,
-        haystack: &'h [u8],
-    ) -> Result<FindOverlappingWordIter<'a, 'h>, MatchError>
-        ensures { AnswersWordListing (as_built self.now) (supported_by self.now) haystack.entry.now result }
-    {
-        Search::try_find_overlapping_word_iter(self, haystack)
-    }
-
     /// The text with each of its whole words under a kind replaced by the replacement of its pattern. The memory is at first as large as
     /// the text, and grows as any `Vec` does.
     ///
@@ -100,65 +87,15 @@ impl AhoCorasick {
         Search::try_replace_words(self, kind, alloc, haystack, replacements)
     }
 
-    /// The whole words of a stream under a kind, one after another. A word waits for the byte after it, and under a leftmost kind for what
-    /// may still be preferred to it: for one byte more than the longest pattern has, from its start on, or for a place where nothing is
-    /// live. Each is returned before the next read once it is decided. It allocates one buffer of `max(65536, 8 * (longest + 1))` bytes,
-    /// and nothing after that.
-    ///
-    /// It requires that the reader has not ended. Returns an error where [`AhoCorasick::try_find_word_iter`] does, and then if there is no
-    /// memory for the buffer. Nothing was read then.
-    pub fn try_stream_find_word_iter<'a, R>(
-        &'a self,
-        kind: MatchKind,
-        alloc: Global,
-        reader: &'a mut Watched<R>,
-    ) -> Result<StreamFindWordIter<'a, R>, StreamError>
-        requires { reader.old.ended ≡ false }
-        ensures { FindsStreamWords kind (as_built self.now) (supported_by self.now) reader.entry result }
-    {
-        Search::try_stream_find_word_iter(self, kind, alloc, reader)
-    }
-
-    /// All whole words of a stream, overlapping ones too, by their ends, their starts and their numbers. A word waits only for the byte
-    /// after it. It allocates one buffer of `max(65536, 8 * (longest + 1))` bytes, and nothing after that.
-    ///
-    /// It requires that the reader has not ended. Returns an error where [`AhoCorasick::try_stream_find_word_iter`] does.
-    pub fn try_stream_find_overlapping_word_iter<'a, R>(
-        &'a self,
-        alloc: Global,
-        reader: &'a mut Watched<R>,
-    ) -> Result<StreamFindOverlappingWordIter<'a, R>, StreamError>
-        requires { reader.old.ended ≡ false }
-        ensures { FindsStreamAllWords (as_built self.now) (supported_by self.now) reader.entry result }
-    {
-        Search::try_stream_find_overlapping_word_iter(self, alloc, reader)
-    }
-
     /// Writes the input with each of its whole words under a kind replaced by the replacement of its pattern. The input ends at its first
     /// empty read. Before each read it has written everything up to where a word may still begin: all but at most as many bytes as the
     /// longest pattern has, or one, and all of them where nothing is live. The writer isn't flushed.
     ///
     /// It requires that the reader has not ended, and one replacement for each pattern. Returns an error where
-    /// [`AhoCorasick::try_stream_find_word_iter`] does, and if there is no memory for its two buffers; the reader and the writer are then
+    /// [`AhoCorasick::try_find_word_iter`] does, and if there is no memory for its two buffers; the reader and the writer are then
     /// unchanged. It allocates nothing after that. Where a read or a write fails, nothing is tried again.
-    pub fn try_stream_replace_words<R: Read, W: Write>(
-        &self,
-        kind: MatchKind,
-        alloc: Global,
-        reader: &mut Watched<R>,
-        writer: &mut Watched<W>,
-        replacements: &[&[u8]],
-    ) -> Result<(), StreamError>
-        requires open { reader.old.ended ≡ false }
-        requires one_each { length replacements.now ≡ pattern_count self.now }
-        ensures replaced { ReplacesWords R.remaining W.contents (asked_for kind (as_built self.now)) (bytes_of replacements.now)
-            reader.old reader.new writer.old writer.new result }
-        ensures accepted { AcceptsListing (as_built self.now) (supported_by self.now) result }
-    {
-        Search::try_stream_replace_words(self, kind, alloc, reader, writer, replacements)
-    }
-
-    /// The same; counts what it does.
+    ///
+    /// It counts what it does.
     pub fn try_stream_replace_words_counted<R: Read, W: Write>(
         &self,
         kind: MatchKind,
@@ -190,7 +127,7 @@ impl AhoCorasick {
     /// no later byte can change is passed, and the sink holds nothing back then. Counts what it does.
     ///
     /// It requires that the reader has not ended, and that the sink is ready for every pattern and holds nothing back. Returns an error
-    /// where [`AhoCorasick::try_stream_find_word_iter`] does, and nothing has happened then; and if a read fails, the sink stops, or there
+    /// where [`stream_find_word_iter`](crate::stream_find_word_iter) does, and nothing has happened then; and if a read fails, the sink stops, or there
     /// are more bytes than places.
     pub fn try_stream_pump_words<R: Read, W, K: Sink<W>>(
         &self,

@@ -24,7 +24,7 @@ loop-read-init g c = record {
       (λ n. IsAhead (g.A.Automaton.built c.args.automaton.now) (g.A.Automaton.Reaches c.args.automaton.now No)
       (g.A.Automaton.matches c.args.automaton.now) c.args.anew.now c.args.bytes.now n c.args.sid c.args.ahead.now)
       (let e : c.args.from ≡ c.args.from + 0 = omega arith in e) c.requires.ahead;
-  once = λ base once. once;
+  once = omega arith;
 }
 
 pub read_part-stop-requires-clause-reached : goal.read_part-stop-requires-clause-reached
@@ -57,7 +57,7 @@ returns-then-is_match-clause-cost g c =
 
 pub returns-then-is_match-clause-once : goal.returns-then-is_match-clause-once
 returns-then-is_match-clause-once g c =
-    λ base once. c.read_part-stop.ensures.once base (c.loop-read.invariant.once base once)
+    omega (arith, c.read_part-stop.ensures.once, c.loop-read.invariant.once)
 
 pub loop-read-preserved : goal.loop-read-preserved
 loop-read-preserved g c =
@@ -85,7 +85,7 @@ loop-read-preserved g c =
       ahead = ahead-noticed _
           (subst (λ n. IsAhead b (R No) M c.args.anew.now c.args.bytes.now n c.read_part-stop.result.sid
           c.read_part-stop.new.ahead) there (rw quiet at c.read_part-stop.ensures.ahead));
-      once = λ base once. c.read_part-stop.ensures.once base (c.loop-read.invariant.once base once);
+      once = omega (arith, c.read_part-stop.ensures.once, c.loop-read.invariant.once);
     }
 
 pub returns-clause-ahead : goal.returns-clause-ahead

@@ -63,9 +63,10 @@ pub returns-then-eq-clause-once : goal.returns-then-eq-clause-once
 returns-then-eq-clause-once g c =
     let a = c.args.automaton.now in
     subst (StaysReadOnce c.args.bytes.now c.args.ahead.now) (sym c.take_note.ensures)
-    (λ base once. taken-once (g.A.Automaton.built a) (g.A.Automaton.Reaches a) (g.A.Automaton.matches a) c.args.anew.now
+    (let taken = taken-once (g.A.Automaton.built a) (g.A.Automaton.Reaches a) (g.A.Automaton.matches a) c.args.anew.now
     c.args.bytes.now c.args.at c.args.sid c.next_note-upcoming.new.self c.in-Some.note
-    c.next_note-upcoming.ensures.ahead (first g c) base (c.next_note-upcoming.ensures.once base once))
+    c.next_note-upcoming.ensures.ahead (first g c) in
+    omega (arith, taken, c.next_note-upcoming.ensures.once))
 
 -- the automaton's own loop has read a part of the bytes
 alone : (g : Over) (c : goal.After-advance_by g)

@@ -1,6 +1,6 @@
 -- The next pick of a walk, what it costs, and what it leaves of the walk.
 use Rattle.std.proofs.Common.{◌≡◌, ℕ, ◌+◌, ◌-◌, ◌*◌, ◌<◌, ◌≤◌, Bool, true, false, ◌∷◌, length, Option, None, Some, IfSome, add-zero, if◌then◌else◌, refl, sym, ap, subst, ◌∙◌, arith}
-use Rattle.std.proofs.Math.Nat.{mul-le-mul_left}
+use Rattle.std.proofs.Math.Nat.{mul-add, mul-le-mul_left}
 use Rattle.std.proofs.lemmas.Option.{none-some}
 use Rattle.std.specs.Iterator.{YieldsFirst, MakesProgress, item_count}
 use Rattle.ac_input.specs.declared.search.MatchKind.{MatchKind}
@@ -11,10 +11,10 @@ use Rattle.ac_input.specs.Input.{Asked, is_anchored}
 use Rattle.ac_input.specs.Occurrence.{Search, Occurrence, starting_at}
 use Rattle.ac_input.specs.Steps.{Added, AreNone}
 use Rattle.ac_input.specs.Walk.{Repeats, IsPick, Here, Further}
-use Rattle.ac_input.specs.Work.{HasCounted, IsFindWork, lookups_per_byte, over_at}
+use Rattle.ac_input.specs.Work.{HasCounted, IsFindWork, longest, lookups_per_byte, over_at}
 use Rattle.ac_input.proofs.lemmas.WalkLemmas.{walk_after-none, walk_after-some, walk_after-nothing}
 use Rattle.ac_automaton.specs.Automaton.{Built, prefilter_for, searched}
-use Rattle.ac_automaton.specs.InMemory.Iter.{CostsPick, CountsPick, CountsWalk, IsOnItsWay, IsRestOf, IsWithinBudget, PickCounts, Walk, walk_after_pick, walk_at, walk_kind, left_of, IsPickWork, IsPickOf, passed}
+use Rattle.ac_automaton.specs.InMemory.Iter.{CostsPick, CountsPick, CountsWalk, IsOnItsWay, IsRestOf, IsWithinBudget, PickCounts, Walk, walk_after_pick, walk_at, walk_kind, left_of, IsPickCost, IsPickWork, IsPickOf, passed, passed_again}
 use Rattle.ac_automaton.proofs.in_memory.find.CountedLemmas.{counted-moved, sums-more, counted-none}
 use Rattle.ac_input.proofs.lemmas.UnusedLemmas.{best-fresh}
 
@@ -25,35 +25,36 @@ pick-wherever (Here h n) = Here h n
 pick-wherever (Further b h rep k) = Further b h rep k
 
 -- the pick of the input that is left is the walk's next pick
-pub pick-of_walk : {b : Built} {first : ℕ} {left : Asked} {last : Option ℕ} {sums : Steps} {w : Walk}
+pub pick-of_walk : {b : Built} {first : ℕ} {left : Asked} {last : Option ℕ} {given : ℕ} {sums : Steps} {w : Walk}
     {r : Option Occurrence} →
-    walk_at b first left last sums ≡ w → IsPickOf b left last r
+    walk_at b first left last given sums ≡ w → IsPickOf b left last r
     → IsPick (walk_kind w) (searched w.built w.asked) w.at w.last r
 pick-of_walk {last} {r} e h =
     subst (λ v. IsPick (walk_kind v) (searched v.built v.asked) v.at v.last r) e (pick-wherever h)
 
 -- the walk after a pick, by the calls that make it: it stands where the pick ended
-pub given-some : {b : Built} {first : ℕ} {i left : Asked} {last : Option ℕ} {sums : Steps} (more : Steps) {w : Walk}
-    {r : Option Occurrence} {o : Occurrence} {n : ℕ} → walk_at b first i last sums ≡ w → r ≡ Some o
-    → left ≡ record i { span = record i.span { start = o.end } } → n ≡ o.end
-    → walk_at b first left (Some n) more
+pub given-some : {b : Built} {first : ℕ} {i left : Asked} {last : Option ℕ} {given count : ℕ} {sums : Steps}
+    (more : Steps) {w : Walk} {r : Option Occurrence} {o : Occurrence} {n : ℕ} → walk_at b first i last given sums ≡ w
+    → r ≡ Some o → left ≡ record i { span = record i.span { start = o.end } } → n ≡ o.end → count ≡ given + 1
+    → walk_at b first left (Some n) count more
     ≡ record (walk_after_pick w r) { looked = more.looked.value; scanned = more.scanned.value; moved = more.moved.value }
-given-some {b} {first} {i} more {w} {o} {n} view is rest there =
-    ap (λ l. walk_at b first l (Some n) more) rest
-    ∙ ap (λ m. walk_at b first (record i { span = record i.span { start = o.end } }) (Some m) more) there
+given-some {b} {first} {i} {given} {count} more {w} {o} {n} view is rest there counted =
+    ap (λ l. walk_at b first l (Some n) count more) rest
+    ∙ ap (λ m. walk_at b first (record i { span = record i.span { start = o.end } }) (Some m) count more) there
+    ∙ ap (λ k. walk_at b first (record i { span = record i.span { start = o.end } }) (Some o.end) k more) counted
     ∙ ap (λ x. record (walk_after_pick x (Some o)) { looked = more.looked.value; scanned = more.scanned.value; moved = more.moved.value })
     view
     ∙ ap (λ q. record (walk_after_pick w q) { looked = more.looked.value; scanned = more.scanned.value; moved = more.moved.value })
     (sym is)
 
 -- and where there was none, past the span
-pub given-none : {b : Built} {first : ℕ} {i left : Asked} {last : Option ℕ} {sums : Steps} (more : Steps) {w : Walk}
-    {r : Option Occurrence} → walk_at b first i last sums ≡ w → r ≡ None
+pub given-none : {b : Built} {first : ℕ} {i left : Asked} {last : Option ℕ} {given : ℕ} {sums : Steps} (more : Steps)
+    {w : Walk} {r : Option Occurrence} → walk_at b first i last given sums ≡ w → r ≡ None
     → left ≡ record i { span = record i.span { start = i.span.end + 1 } }
-    → walk_at b first left last more
+    → walk_at b first left last given more
     ≡ record (walk_after_pick w r) { looked = more.looked.value; scanned = more.scanned.value; moved = more.moved.value }
-given-none {b} {first} {i} {last} more {w} view is rest =
-    ap (λ l. walk_at b first l last more) rest
+given-none {b} {first} {i} {last} {given} more {w} view is rest =
+    ap (λ l. walk_at b first l last given more) rest
     ∙ ap (λ x. record (walk_after_pick x None) { looked = more.looked.value; scanned = more.scanned.value; moved = more.moved.value })
     view
     ∙ ap (λ q. record (walk_after_pick w q) { looked = more.looked.value; scanned = more.scanned.value; moved = more.moved.value })
@@ -68,9 +69,9 @@ rest-by asked between left place rest is there =
     ∙ ap (λ n. record asked { span = record asked.span { start = n } }) there
 
 -- after a pick a walk is on its way
-pub on-after : {b : Built} {first : ℕ} {i : Asked} {last : Option ℕ} {sums more : Steps} (o : Occurrence)
-    → IsOnItsWay (walk_at b first i last sums) → (i.span.start ≤ o.end) × (o.end ≤ i.span.end)
-    → IsOnItsWay (walk_at b first (record i { span = record i.span { start = o.end } }) (Some o.end) more)
+pub on-after : {b : Built} {first : ℕ} {i : Asked} {last : Option ℕ} {given count : ℕ} {sums more : Steps}
+    (o : Occurrence) → IsOnItsWay (walk_at b first i last given sums) → (i.span.start ≤ o.end) × (o.end ≤ i.span.end)
+    → IsOnItsWay (walk_at b first (record i { span = record i.span { start = o.end } }) (Some o.end) count more)
 on-after o way lies = record {
   begun = omega (arith, way.begun, lies.0);
   within = (omega (arith, lies.1), way.within.1);
@@ -82,9 +83,9 @@ last-on : (last : Option ℕ) {at to : ℕ} → at ≤ to → IfSome last (λ en
 last-on None le h = h
 last-on (Some l) le h = omega (arith, le, h)
 
-pub on-past : {b : Built} {first : ℕ} {i : Asked} {last : Option ℕ} {sums more : Steps} → i.span.start ≤ i.span.end
-    → IsOnItsWay (walk_at b first i last sums)
-    → IsOnItsWay (walk_at b first (record i { span = record i.span { start = i.span.end + 1 } }) last more)
+pub on-past : {b : Built} {first : ℕ} {i : Asked} {last : Option ℕ} {given count : ℕ} {sums more : Steps}
+    → i.span.start ≤ i.span.end → IsOnItsWay (walk_at b first i last given sums)
+    → IsOnItsWay (walk_at b first (record i { span = record i.span { start = i.span.end + 1 } }) last count more)
 on-past {last} ordered way = record {
   begun = omega (arith, way.begun, ordered);
   within = (omega arith, way.within.1);
@@ -142,6 +143,7 @@ work-further {kind} {deterministic} {s} last {first} {r} inside le best rep once
           omega (arith, mul-le-mul_left (lookups_per_byte deterministic) shorter);
       standard = λ k. let a = free.standard k in let b = twice.standard k in
           omega (arith, mul-le-mul_left (lookups_per_byte deterministic) less);
+      once = λ some. absurd (best-fresh kind s last first inside some best rep);
       leftmost = λ some o is. absurd (best-fresh kind s last first inside some best rep);
       scanned = let a = free.scanned in let d = twice.scanned in omega arith;
       moved = twice.moved ∙ free.moved;
@@ -190,6 +192,7 @@ idle-cost {w} x past paid had = (
     pick = record {
       looked = omega arith;
       standard = λ k. omega arith;
+      once = λ some. omega arith;
       leftmost = λ some o e. absurd (none-some o e);
       scanned = omega arith;
       moved = refl;
@@ -257,6 +260,7 @@ work-added {deterministic} s {at} {r} {start} {done} before after none added wor
       standard = λ k. let a =
           subst (λ over. done.looked.value ≤ start.looked.value + lookups_per_byte deterministic * (over - at)) same
           (work.standard k) in omega (arith, none.looked, added.looked);
+      once = λ some. omega (arith, work.once some, none.looked, added.looked);
       leftmost = λ some o is. omega (arith, work.leftmost some o is, none.looked, added.looked);
       scanned = let a = subst (λ over. done.scanned.value ≤ start.scanned.value + 256 * (over - at)) same
           work.scanned in omega (arith, none.scanned, added.scanned);
@@ -288,3 +292,147 @@ pick-costs {w} {r} {start} {done} {before} {after} goes begun within none added 
   pick-counted goes begun within none added more.looked more.scanned counts had,
   paid,
 )
+
+-- ---- what a walk has cost after a pick
+
+-- a pick lies within the span, where the walk stood or later
+pub pick-lies : {kind : MatchKind} {s : Search} {at : ℕ} {last : Option ℕ} {o : Occurrence}
+    → IsPick kind s at last (Some o) → (at ≤ o.start) × (o.start ≤ o.end) × (o.end ≤ s.end)
+pick-lies (Here best apart) = best.0.within
+pick-lies (Further b first repeats best) = let within = best.0.within in (omega (arith, within.0), within.1, within.2)
+
+-- looks for some bytes and for those after them
+looks-join : (deterministic : Bool) {old done new : ℕ} (n k m : ℕ) → old ≤ lookups_per_byte deterministic * n
+    → done ≤ lookups_per_byte deterministic * k → n + k ≤ m → new ≡ old + done
+    → new ≤ lookups_per_byte deterministic * m
+looks-join true n k m before more fits sum = omega (arith, before, more, fits, sum)
+looks-join false n k m before more fits sum = omega (arith, before, more, fits, sum)
+
+-- where the next search begins: at the pick's end, or past the span
+abbrev pub after_pick : Asked → Option Occurrence → ℕ
+after_pick asked None = asked.span.end + 1
+after_pick asked (Some o) = o.end
+
+-- where the pick before the next one ended
+abbrev pub last_pick : Option ℕ → Option Occurrence → Option ℕ
+last_pick last None = last
+last_pick last (Some o) = Some o.end
+
+-- how many picks were given
+abbrev pub given_by : ℕ → Option Occurrence → ℕ
+given_by given None = given
+given_by given (Some o) = given + 1
+
+-- the walk after the pick of an input that is left, with what it has cost then
+abbrev pub walk_past : Built → ℕ → Asked → Option ℕ → ℕ → Option Occurrence → Steps → Walk
+walk_past b first asked last given r more =
+    walk_at b first (record asked { span = record asked.span { start = after_pick asked r } }) (last_pick last r)
+    (given_by given r) more
+
+-- a walk within its budget is so after its next pick
+pub budget-after : (b : Built) {first : ℕ} {asked : Asked} {last : Option ℕ} {given : ℕ} {sums more : Steps}
+    (r : Option Occurrence) {start done : Steps} → first ≤ asked.span.start → asked.span.start ≤ asked.span.end
+    → AreNone start → Added done sums more → IsPickOf b asked last r → IsPickCost b asked start done r
+    → IsWithinBudget (walk_at b first asked last given sums) → IsWithinBudget (walk_past b first asked last given r more)
+budget-after b {first} {asked} {last} {given} {sums} {more} None begun ordered none added pick work paid =
+    let d = b.deterministic in
+    let before : ℕ = passed (walk_at b first asked last given sums) in
+    let after : ℕ = passed (walk_past b first asked last given None more) in
+    let again : ℕ = passed_again (walk_at b first asked last given sums) in
+    let left : ℕ = asked.span.end - asked.span.start in
+    let sum : before + left ≡ after = omega (arith, begun, ordered) in
+    record {
+      looked = λ standard. looks-join d before left after (paid.looked standard)
+          (omega (arith, work.standard standard, none.looked)) (omega (arith, sum)) added.looked;
+      leftmost = λ some. looks-join d (before + again) left (after + again) (paid.leftmost some)
+          (omega (arith, work.once some, none.looked)) (omega (arith, sum)) added.looked;
+      scanned = omega (arith, work.scanned, none.scanned, added.scanned, paid.scanned, sum);
+      moved = omega (arith, work.moved, none.moved, added.moved, paid.moved);
+    }
+budget-after b {first} {asked} {last} {given} {sums} {more} (Some o) begun ordered none added pick work paid =
+    let d = b.deterministic in
+    let lies = pick-lies pick in
+    let before : ℕ = passed (walk_at b first asked last given sums) in
+    let after : ℕ = passed (walk_past b first asked last given (Some o) more) in
+    let long : ℕ = longest b.dictionary.patterns + 1 in
+    let again : ℕ = long * given in
+    let sum : before + (o.end - asked.span.start) ≡ after = omega (arith, begun, lies.0, lies.1, lies.2) in
+    let once : long * (given + 1) ≡ again + long = let e = mul-add long given 1 in omega (arith, e) in
+    record {
+      looked = λ standard. looks-join d before (o.end - asked.span.start) after (paid.looked standard)
+          (omega (arith, work.standard standard, none.looked)) (omega (arith, sum)) added.looked;
+      leftmost = λ some. looks-join d (before + again) (o.start + longest b.dictionary.patterns + 1 - asked.span.start)
+          (after + long * (given + 1)) (paid.leftmost some) (omega (arith, work.leftmost some o refl, none.looked))
+          (omega (arith, sum, once, lies.1)) added.looked;
+      scanned = omega (arith, work.scanned, none.scanned, added.scanned, paid.scanned, sum);
+      moved = omega (arith, work.moved, none.moved, added.moved, paid.moved);
+    }
+
+-- after a pick a walk is on its way
+pub way-after : {b : Built} {first : ℕ} {asked : Asked} {last : Option ℕ} {given : ℕ} {sums more : Steps}
+    (r : Option Occurrence) → asked.span.start ≤ asked.span.end → IsPickOf b asked last r
+    → IsOnItsWay (walk_at b first asked last given sums) → IsOnItsWay (walk_past b first asked last given r more)
+way-after None ordered pick way = on-past ordered way
+way-after (Some o) ordered pick way = let lies = pick-lies pick in
+    on-after o way (omega (arith, lies.0, lies.1), lies.2)
+
+-- and has counted each byte that it has passed
+pub counts-after : (b : Built) {first : ℕ} (asked : Asked) (last : Option ℕ) (given : ℕ) {sums more : Steps}
+    (r : Option Occurrence) {start done : Steps} → first ≤ asked.span.start → asked.span.start ≤ asked.span.end
+    → AreNone start → Added done sums more → PickCounts b asked r start done
+    → CountsWalk (walk_at b first asked last given sums) → CountsWalk (walk_past b first asked last given r more)
+counts-after b {first} asked last given {sums} {more} None begun ordered none added counted had =
+    walk-counts-on (walk_at b first asked last given sums) {v = walk_past b first asked last given None more} None refl
+    begun ordered none added.looked added.scanned
+    counted had
+counts-after b {first} asked last given {sums} {more} (Some o) begun ordered none added counted had =
+    walk-counts-on (walk_at b first asked last given sums) {v = walk_past b first asked last given (Some o) more} (Some o) refl
+    begun ordered none added.looked added.scanned
+    counted had
+
+-- all that a walk keeps of them
+pub picked-kept : (b : Built) {first : ℕ} {asked : Asked} {last : Option ℕ} {given : ℕ} {sums more : Steps}
+    (r : Option Occurrence) {start done : Steps} → IsOnItsWay (walk_at b first asked last given sums)
+    → asked.span.start ≤ asked.span.end → AreNone start → Added done sums more → IsPickOf b asked last r
+    → IsPickCost b asked start done r → PickCounts b asked r start done
+    → IsWithinBudget (walk_at b first asked last given sums) → CountsWalk (walk_at b first asked last given sums)
+    → IsOnItsWay (walk_past b first asked last given r more)
+    × IsWithinBudget (walk_past b first asked last given r more) × CountsWalk (walk_past b first asked last given r more)
+picked-kept b {asked = asked} {last = last} {given = given} r way ordered none added pick work counted paid had = (
+  way-after r ordered pick way,
+  budget-after b r way.begun ordered none added pick work paid,
+  counts-after b asked last given r way.begun ordered none added counted had,
+)
+
+-- the walk after a pick, with what it has cost then
+past-is : (b : Built) (first : ℕ) (asked : Asked) (last : Option ℕ) (given : ℕ) (more : Steps) (r : Option Occurrence)
+    → record (walk_after_pick (walk_at b first asked last given more) r) { looked = more.looked.value; scanned = more.scanned.value; moved = more.moved.value }
+    ≡ walk_past b first asked last given r more
+past-is b first asked last given more None = refl
+past-is b first asked last given more (Some o) = refl
+
+-- the calls that make it
+pub past-some : (b : Built) (first : ℕ) (i : Asked) (last : Option ℕ) (given : ℕ) (more : Steps) (r : Option Occurrence)
+    {left : Asked} {o : Occurrence} {n count : ℕ} → r ≡ Some o
+    → left ≡ record i { span = record i.span { start = o.end } } → n ≡ o.end → count ≡ given + 1
+    → walk_at b first left (Some n) count more ≡ walk_past b first i last given r more
+past-some b first i last given more r is rest there counted =
+    given-some {i = i} {last = last} {given = given} {sums = more} more refl is rest there counted
+    ∙ past-is b first i last given more r
+
+-- and past the span
+pub past-none : (b : Built) (first : ℕ) (i : Asked) (last : Option ℕ) (given : ℕ) (more : Steps) (r : Option Occurrence)
+    {left : Asked} → r ≡ None → left ≡ record i { span = record i.span { start = i.span.end + 1 } }
+    → walk_at b first left last given more ≡ walk_past b first i last given r more
+past-none b first i last given more r is rest =
+    given-none {i = i} {last = last} {given = given} {sums = more} more refl is rest
+    ∙ past-is b first i last given more r
+
+-- a walk that has not begun is within its budget
+pub fresh-budget : (w : Walk) → w.looked ≡ 0 → w.scanned ≡ 0 → w.moved ≡ 0 → IsWithinBudget w
+fresh-budget w looked scanned moved = record {
+  looked = λ standard. omega (arith, looked);
+  leftmost = λ some. omega (arith, looked);
+  scanned = omega (arith, scanned);
+  moved = moved;
+}

@@ -233,7 +233,7 @@ pub first-ahead : {S : Type 0} (reads_ahead : Bool) (A : Ghosts S) (a : S) (aske
 first-ahead false A a asked place ahead room left none = none
 first-ahead true A a asked Over ahead room left none = none
 first-ahead true A a asked (At sid from at index) ahead room left none =
-    ahead-none room left (λ standard. omega (arith, none))
+    ahead-none room left (λ standard. omega (arith, none)) (λ _. none)
 
 -- What was read ahead of a search is at most `most_ahead` bytes, and lies between where the search stands and the end
 -- of the span.

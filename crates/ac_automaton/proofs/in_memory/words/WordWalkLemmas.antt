@@ -140,6 +140,7 @@ word-given b Reaches from x p q sums more None finds =
         kind = kind j;
         haystack = x;
         at = last j;
+        read = q.at;
         looked = more.looked.value;
         scanned = more.scanned.value;
         moved = more.moved.value;
@@ -147,8 +148,23 @@ word-given b Reaches from x p q sums more None finds =
     )
 word-given b Reaches from x p q sums more (Some o) finds = (
   final-pick b.dictionary p.kind x p.last o finds.1,
-  ap (λ place. word_walk_at b x place more) finds.0,
+  ap (λ place. record (word_walk_at b x place more) { read = q.at }) finds.0,
 )
+
+-- where it found no word, it has read all
+pub word-ends : (m : Dictionary) (Reaches : List ℕ → StateID → Type 0) (from : ℕ) (x : List ℕ) (p q : WordPlace)
+    (r : Option Occurrence) → FindsWord m Reaches from true x p q r → r ≡ None → q.at ≡ length x
+word-ends m Reaches from x p q None finds none = finds.4
+word-ends m Reaches from x p q (Some o) finds none = absurd (let e : Some o ≡ None = none in cc)
+
+-- a search that has read all looks at nothing more
+pub word-over : (b : Built) (Reaches : List ℕ → StateID → Type 0) (from : ℕ) (closed : Bool) (x : List ℕ) (p q : WordPlace)
+    (r : Option Occurrence) (before after : Steps) → FindsWord b.dictionary Reaches from closed x p q r
+    → CostsWord b x p q r before after → p.at ≡ length x → after.looked.value ≡ before.looked.value
+word-over b Reaches from closed x p q None before after finds cost all =
+    let end = finds.4 in cost.rests (omega (arith, end, all))
+word-over b Reaches from closed x p q (Some o) before after finds (at, ends, reach, inside, cost) all =
+    cost.rests (omega (arith, inside, all))
 
 -- what it cost is within the walk's bound
 pub word-paid : (b : Built) (Reaches : List ℕ → StateID → Type 0) (from : ℕ) (x : List ℕ) (p q : WordPlace)

@@ -58,7 +58,7 @@ returns-clause-reads g c =
     c.read_lanes-lanes.new.steps) (sym c.gather.ensures.gathered)
     (lanes-read (IsLaneCut c.args.after.now c.args.start M) (g.A.LookUp.built a) R M c.args.anew c.args.sid c.args.start
     c.args.bytes.now c.args.at c.args.len (length c.args.notes.now) c.args.after.now c.in-Some.begun
-    c.read_lanes-lanes.result c.read_lanes-lanes.new.notes c.args.steps.now c.read_lanes-lanes.new.steps
+    c.read_lanes-lanes.result c.read_lanes-lanes.new.notes c.args.steps.now c.read_lanes-lanes.new.steps may.lanes
     (λ kind byte small is. record { only = may.frees kind byte small is; quiet = may.quiet c.args.start past })
     (λ byte small is. record { small = small; is = is; state = refl; quiet = may.quiet c.args.start past })
     c.in-Some.ensures lanes.noted lanes.all lanes.read)

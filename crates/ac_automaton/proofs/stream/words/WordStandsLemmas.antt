@@ -63,7 +63,7 @@ words-budget b pieces given closed from p moved sums looks order within none sev
     let twice = bound.0 in
     let lookups = budget-from b.deterministic sums.looked.value 0 (p.at + again) (omega arith) bound.1 in
     let all = more-looks b.deterministic (p.at + again) 0 _ lookups
-    (passed-within p.kind long n p.at 0 (length (concat pieces)) within (omega arith) (λ _. omega arith)) in
+    (passed-within p.kind long n p.at 0 0 (length (concat pieces)) within (omega arith) (λ _. omega arith)) in
     record {
       some = looks.some;
       looked = omega (arith, all);

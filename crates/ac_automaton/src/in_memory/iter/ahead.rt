@@ -2,9 +2,10 @@
 //!
 //! A walk over many matches of a long text spends its time waiting for one look-up after another. [`FindIterAhead`] has the automaton
 //! read ahead over several parts of the text side by side, and takes the matches from its notes: see [`ahead`](crate::ahead). It
-//! returns what [`FindIter`](crate::iter::FindIter) returns, and looks at as many states over the whole span. But a call may read up
-//! to 8 KiB past the match that it returns, and counts these looks when it makes them. So it doesn't pay for a caller who needs the
-//! first few matches only.
+//! returns what [`FindIter`](crate::iter::FindIter) returns. Under the standard kind it looks at as many states over the whole span.
+//! Under a leftmost kind notes may be lost, where a search begins again after a match. So it looks at each byte at most once more than
+//! `FindIter` may: no byte is read ahead twice. A call may read up to 8 KiB past the match that it returns, and counts these looks when
+//! it makes them. So it doesn't pay for a caller who needs the first few matches only.
 //!
 //! It pays with hundreds of patterns and more, whose tables don't lie in the nearest cache. The notes are some 3 KiB within the
 //! iterator itself; nothing is allocated. To make one takes as long as to search some hundred bytes, so for short texts `FindIter` is
@@ -14,9 +15,9 @@
 //! leftmost kind also only where the search isn't an earliest one. A prefilter passes bytes faster, unless it is packed search for
 //! more than 64 patterns that doesn't go by grams, and the automaton reads ahead, or matches are a few bytes apart. Elsewhere this
 //! iterator goes on as `FindIter` does.
-ghost use Rattle.std.specs.Prelude.{◌≡◌, ◌≤◌, [], length, IfSome};
+ghost use Rattle.std.specs.Prelude.{◌≡◌, ◌≤◌, [], length, take, IfSome};
 ghost use Rattle.std.specs.Iterator.{YieldsFirst, item_count};
-ghost use Rattle.ac_automaton.specs.Ahead.{IsPaid};
+ghost use Rattle.ac_automaton.specs.Ahead.{IsPaid, StaysReadOnce};
 ghost use Rattle.ac_automaton.specs.InMemory.Find.Ahead.{MayReadAhead, ReadsAheadFrom, ended_at};
 ghost use Rattle.ac_automaton.specs.InMemory.Iter.{GivesPick, CostsPickAhead, left_of, IsPickOf, IsPickCost, IsPlaceIn, IsRestOf, IsOnItsWay, PickCounts, walk_from_place};
 
@@ -40,6 +41,7 @@ pub struct FindIterAhead<'a, 'h, A: Search> {
     input: Input<'h>,
     last: Option<usize>,
     first: Count,
+    given: Count,
     sums: Steps,
     /// The state in which each search begins, if it reads ahead.
     start: Option<StateID>,
@@ -47,21 +49,22 @@ pub struct FindIterAhead<'a, 'h, A: Search> {
 }
 
 impl<'a, 'h, A: Search> Model for FindIterAhead<'a, 'h, A> {
-    ghost use Rattle.std.specs.Prelude.{◌≤◌, min};
-    ghost use Rattle.ac_automaton.specs.Ahead.{bytes_ahead, less_ahead};
+    ghost use Rattle.std.specs.Prelude.{◌≤◌, min, take};
+    ghost use Rattle.ac_automaton.specs.Ahead.{IsReadOnceFrom, bytes_ahead, less_ahead};
     ghost use Rattle.ac_automaton.specs.InMemory.Find.Ahead.{ReadsAheadFrom};
     ghost use Rattle.ac_automaton.specs.InMemory.Iter.{CountsWalk, Walk, walk_at, IsOnItsWay, IsWithinBudget};
 
     ghost Value = { Walk };
 
-    ghost view = { λ i. walk_at (A.built i.automaton.now) i.first.value i.input i.last i.sums };
+    ghost view = { λ i. walk_at (A.built i.automaton.now) i.first.value i.input i.last i.given.value i.sums };
 
     ghost invariant = { λ i.
         A.supports i.automaton.now i.input.anchored
-        × IsOnItsWay (walk_at (A.built i.automaton.now) i.first.value i.input i.last i.sums)
-        × IsWithinBudget (walk_at (A.built i.automaton.now) i.first.value i.input i.last (less_ahead i.sums i.ahead))
-        × CountsWalk (walk_at (A.built i.automaton.now) i.first.value i.input i.last (less_ahead i.sums i.ahead))
+        × IsOnItsWay (walk_at (A.built i.automaton.now) i.first.value i.input i.last i.given.value i.sums)
+        × IsWithinBudget (walk_at (A.built i.automaton.now) i.first.value i.input i.last i.given.value (less_ahead i.sums i.ahead))
+        × CountsWalk (walk_at (A.built i.automaton.now) i.first.value i.input i.last i.given.value (less_ahead i.sums i.ahead))
         × ReadsAheadFrom A.Automaton i.automaton.now i.start i.input (min i.input.span.start i.input.span.end) i.ahead
+        × IsReadOnceFrom i.first.value (take i.input.span.end i.input.haystack) i.ahead
         × (bytes_ahead i.ahead ≤ i.sums.looked.value) };
 }
 
@@ -113,6 +116,7 @@ fn next_pick_ahead<A: Search>(
     ensures paid { IsPaid ahead.old ahead.new steps.new (λ paid. IsPickCost (A.built automaton.now) input.old steps.old paid result
         × PickCounts (A.built automaton.now) input.old result steps.old paid) }
     ensures reads { ReadsAheadFrom A.Automaton automaton.now start input.old (ended_at input.old result) ahead.new }
+    ensures once { StaysReadOnce (take input.old.span.end input.old.haystack) ahead.old ahead.new }
 {
     match start {
         Some(start) => automaton.search_ahead(input, start, ahead, steps),
@@ -138,14 +142,17 @@ impl<'a, 'h, A: Search> FindIterAhead<'a, 'h, A> {
         input.set_start(place.start);
         let start = reads_from(automaton, &input, start);
         let first = Count::zero().more(&place.start);
+        let mut ahead = Ahead::none();
+        ahead.forget(place.start);
         FindIterAhead {
             automaton,
             input,
             last: place.last,
             first,
+            given: Count::zero(),
             sums: Steps::new(),
             start,
-            ahead: Ahead::none(),
+            ahead,
         }
     }
 
@@ -185,6 +192,7 @@ impl<'a, 'h, A: Search> FindIterAhead<'a, 'h, A> {
             Some(found) => {
                 self.input.set_start(found.end());
                 self.last = Some(found.end());
+                self.given = self.given.next();
             }
             None => self.input.set_start(self.input.end() + 1),
         }

@@ -4,8 +4,8 @@
 //! see [`listed`](crate::words::listed). So a word waits only for the byte after it, or until nothing more comes. The walk never begins
 //! anew, and no byte is looked at twice.
 //!
-//! An [`OverlappingWordSearch`] returns the next word of what was read, without a read ([`OverlappingWordSearch::next`]), takes a piece
-//! that is pushed ([`OverlappingWordSearch::push`]), and makes one read, as an [`ItemSearch`]. Up to its
+//! An [`OverlappingWordSearch`] returns the next word of what was read, without a read ([`OverlappingWordSearch::next_counted`]), takes a piece
+//! that is pushed ([`OverlappingWordSearch::push_counted`]), and makes one read, as an [`ItemSearch`]. Up to its
 //! [`cut`](OverlappingWordSearch::cut) everything is decided: a word still to be found ends there or later. It holds the bytes of each
 //! such word, and the byte before it.
 ghost use Rattle.std.specs.Prelude.{◌≡◌, ◌↔◌, ◌-◌, [], false, true, length, IfErr, IfOk, IsTrue, drop};
@@ -15,7 +15,7 @@ ghost use Rattle.ac_input.specs.Work.{longest};
 ghost use Rattle.ac_automaton.specs.Stream.{CanBeCounted, CanStream, FindsHeld, GoesOn, IsOnCourse, IsOutOfMemory, IsSearched, ReadsMore, StreamCounts, closed_by, cut_of, fresh_progress, read_by};
 ghost use Rattle.ac_automaton.specs.Stream.Iter.{RestsIfRefused};
 ghost use Rattle.ac_automaton.specs.Stream.Push.{Pushes};
-ghost use Rattle.ac_automaton.specs.Stream.WholeWords.{AnswersNewAllWords, FindsStreamAllWords};
+ghost use Rattle.ac_automaton.specs.Stream.WholeWords.{AnswersNewAllWords, FindsStreamAllWords, LooksNoMore};
 ghost use Rattle.ac_automaton.specs.declared.stream.StreamKinds.TheVariants.{OnlyStandard};
 
 use super::held::HeldText;
@@ -39,15 +39,15 @@ use std::marker::Model;
 /// while let Some(piece) = receive() {
 ///     let mut rest = piece;
 ///     while !rest.is_empty() {
-///         let n = search.push(rest)?;
+///         let n = search.push_counted(rest, steps)?;
 ///         rest = &rest[n..];
-///         while let Some(word) = search.next() {
+///         while let Some(word) = search.next_counted(steps) {
 ///             // in the order of their ends
 ///         }
 ///     }
 /// }
 /// search.finish();
-/// while let Some(word) = search.next() {
+/// while let Some(word) = search.next_counted(steps) {
 ///     // those that end with the text
 /// }
 /// ```
@@ -146,18 +146,12 @@ impl<A: Search> OverlappingWordSearch<A> {
     /// states.
     ///
     /// After more bytes than there are places it is always none.
-    pub fn next(&mut self) -> Option<Match>
-        ensures finds { FindsHeld self.old result self.new }
-        ensures kept { IsOnCourse self.new }
-    {
-        let mut steps = Steps::new();
-        self.next_counted(&mut steps)
-    }
-
-    /// The same; counts what it does.
+    ///
+    /// It counts what it does.
     pub fn next_counted(&mut self, steps: &mut Steps) -> Option<Match>
         ensures finds { FindsHeld self.old result self.new }
         ensures counts { StreamCounts self.old self.new steps.old steps.new }
+        ensures over { LooksNoMore self.old steps.old steps.new }
         ensures kept { IsOnCourse self.new }
     {
         if self.text.is_over() {
@@ -197,8 +191,8 @@ impl<A: Search> OverlappingWordSearch<A> {
         self.text.is_closed()
     }
 
-    /// Tells the search that nothing more comes, so that the words that wait are decided: [`OverlappingWordSearch::next`] returns all that
-    /// are left.
+    /// Tells the search that nothing more comes, so that the words that wait are decided: [`OverlappingWordSearch::next_counted`] returns
+    /// all that are left.
     pub fn finish(&mut self)
         ensures closed { self.new ≡ closed_by self.old }
         ensures kept { IsOnCourse self.new }
@@ -214,7 +208,7 @@ impl<A: Search> OverlappingWordSearch<A> {
     }
 
     /// Takes the first bytes of a piece, as many as there is room for, after all that was pushed before. Returns how many: the piece
-    /// isn't needed any more. None are taken while [`OverlappingWordSearch::next`] may find a word in what was pushed before; else at
+    /// isn't needed any more. None are taken while [`OverlappingWordSearch::next_counted`] may find a word in what was pushed before; else at
     /// least one is, if there is one.
     ///
     /// There is room for `max(65536, 8 * (max(1, longest) + 1))` bytes, so a piece of up to seven eighths of that is mostly taken whole.
@@ -223,16 +217,8 @@ impl<A: Search> OverlappingWordSearch<A> {
     ///
     /// It requires that the search wasn't finished: see [`OverlappingWordSearch::is_closed`]. Returns the error `Position` if there are
     /// more bytes than places, and each time after that.
-    pub fn push(&mut self, piece: &[u8]) -> Result<usize, StreamError>
-        requires unclosed { self.old.closed ≡ false }
-        ensures pushes { Pushes (IsSearched self.old) self.old self.new piece.now result }
-        ensures kept { IsOnCourse self.new }
-    {
-        let mut steps = Steps::new();
-        self.push_counted(piece, &mut steps)
-    }
-
-    /// The same; counts the bytes that it moves.
+    ///
+    /// It counts the bytes that it moves.
     pub fn push_counted(&mut self, piece: &[u8], steps: &mut Steps) -> Result<usize, StreamError>
         requires unclosed { self.old.closed ≡ false }
         ensures pushes { Pushes (IsSearched self.old) self.old self.new piece.now result }
@@ -314,12 +300,15 @@ impl<A: Search> ItemSearch for OverlappingWordSearch<A> {
     }
 }
 
-/// The remaining words of all whole words of a stream. From [`Search::try_stream_find_overlapping_word_iter`].
+/// The remaining words of all whole words of a stream. From [`stream_find_overlapping_word_iter`].
 pub type StreamFindOverlappingWordIter<'a, A, R> = StreamIter<'a, OverlappingWordSearch<&'a A>, R>;
 
-/// All whole words of a stream, one after another: as [`Search::try_stream_find_overlapping_word_iter`], but the reader is the first
-/// parameter. Call this one where your own contract speaks of the reader: it says that the reader is unchanged if the search returns
-/// an error. A contract can say what becomes of a borrowed value only for the first parameter.
+/// All whole words of a stream, overlapping ones too, one after another: by end, start and number. A word waits only for the byte after
+/// it. It allocates one buffer of `max(65536, 8 * (longest + 1))` bytes, and nothing after that. It looks once at each byte, or twice if
+/// the automaton isn't deterministic.
+///
+/// Returns an error where [`stream_find_word_iter`](crate::stream::stream_find_word_iter) does. The reader is unchanged then. A contract
+/// can say what becomes of a borrowed value only for the first parameter, so that is the reader.
 pub fn stream_find_overlapping_word_iter<'a, A: Search, R>(
     reader: &'a mut Watched<R>,
     automaton: &'a A,

@@ -1,5 +1,5 @@
 -- Each turn moves one match into the buffer.
-use Rattle.std.proofs.Common.{◌≡◌, ◌∷◌, drop, length, refl, sym, ◌∙◌, arith}
+use Rattle.std.proofs.Common.{◌≡◌, ◌+◌, ◌∷◌, ap, drop, length, refl, sym, ◌∙◌, arith}
 use Rattle.ac_automaton.specs.InMemory.Iter.{left_of}
 use Rattle.ac_c.proofs.walk.FillLemmas.{fill-end, fill-enough, fill-given, fill-rest}
 use Rattle.ac_c.proofs.walking.WalkingLemmas.{walks-none, walks-on}
@@ -7,7 +7,13 @@ use Rattle.ac_c.proofs.walk.fill.Goals as goal
 
 pub loop-at-init : goal.loop-at-init
 loop-at-init g c =
-    record { rest = refl; enough = omega arith; given = refl; cost = walks-none g.W.Walking.ahead _ _ c.requires }
+    record {
+      rest = refl;
+      counted = omega arith;
+      enough = omega arith;
+      given = refl;
+      cost = walks-none g.W.Walking.ahead _ _ c.requires;
+    }
 
 pub returns-in-None : goal.returns-in-None
 returns-in-None g c =
@@ -16,7 +22,9 @@ returns-in-None g c =
     fill-end _ c.loop-at.at (sym i.rest ∙ n.yields.0) i.enough in
     record {
       given = record { count = omega arith; given = i.given };
-      rest = n.yields.1 ∙ sym (sym i.rest ∙ n.yields.0);
+      past =
+          let same = ap (λ w. w.given) n.gives.1 in
+          (n.yields.1 ∙ sym (sym i.rest ∙ n.yields.0), omega (arith, same, i.counted));
       cost = walks-on g.W.Walking.ahead _ _ _ _ _ _ i.cost n.cost;
     }
 
@@ -27,6 +35,7 @@ loop-at-preserved g c =
     ≡ c.in-Some.found ∷ left_of (walk c.next_match.new.self) = sym i.rest ∙ n.yields in
     record {
       rest = fill-rest _ c.loop-at.at c.in-Some.found _ next;
+      counted = let more = ap (λ w. w.given) n.gives.1 in omega (arith, more, i.counted);
       enough = fill-enough _ c.loop-at.at c.in-Some.found _ next;
       given =
           rw c.from_match.ensures (fill-given _ c.loop-at.out c.loop-at.at c.in-Some.found _ (omega arith) next

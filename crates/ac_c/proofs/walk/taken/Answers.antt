@@ -10,4 +10,4 @@ returns g c =
     rw c.stands.ensures.value at c.cursor_at.ensures in
     let within : IsPlaceIn v.asked (record { start = v.at; last = v.last }) =
     rw c.stands.ensures.value at c.stands.ensures.within in
-    record { given = f.given; moved = v; rest = f.rest; cost = f.cost; within = within; goes = goes }
+    record { given = f.given; moved = v; past = f.past; cost = f.cost; within = within; goes = goes }

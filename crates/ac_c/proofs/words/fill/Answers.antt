@@ -55,7 +55,7 @@ loop-at-preserved c =
       given = rw c.from_match.ensures (fill-given _ c.loop-at.out c.loop-at.at o _ (omega arith) next i.given);
       same =
           rw c.from_match.ensures (words-same w c.loop-at.words u _ o i.same n.gives
-          ∙ ap (λ (at : ℕ). record w { at = at; looked = u.looked; scanned = u.scanned; moved = u.moved })
+          ∙ ap (λ (at : ℕ). record w { at = at; read = u.read; looked = u.looked; scanned = u.scanned; moved = u.moved })
           (sym (from-written w.at c.loop-at.out c.loop-at.at o (omega arith))));
       within = words-within c.loop-at.words u o n.gives;
       cost =

@@ -12,6 +12,7 @@ invariant-loop-at l = record {
   given : take l.at l.out ≡ map shown (take l.at (words_left l.fn.words));
   same : l.words ≡ record l.fn.words {
     at = from_after l.fn.words.at l.out l.at;
+    read = l.words.read;
     looked = l.words.looked;
     scanned = l.words.scanned;
     moved = l.words.moved;

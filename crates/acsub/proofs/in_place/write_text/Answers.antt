@@ -1,7 +1,6 @@
 -- The run over the old file wrote its text into the new one.
 use Rattle.std.proofs.Common.{Ok, subst}
-use Rattle.acsub.specs.Files.{behind}
-use Rattle.acsub.specs.Jobs.{RanJob}
+use Rattle.acsub.specs.Visits.{RunsJob, behind}
 use Rattle.acsub.proofs.files.FileRunLemmas.{over-file}
 use Rattle.acsub.proofs.in_place.write_text.Goals as goal
 
@@ -10,7 +9,7 @@ returns-in-Ok g c =
     let held = g.F.File.Read.remaining in
     let contents = g.F.File.Write.contents in
     over-file g.row.F.Denot held (behind contents) c.args.job.now c.in_ok-input.input c.run_over.new.reader
-    c.args.output.now c.run_over.new.writer (Ok tt) c.in_ok-input.ensures.fresh
+    (c.args.output.now, c.args.tally.now) (c.run_over.new.writer, c.run_over.new.tally) c.in_ok-input.ensures.fresh (Ok tt)
     (subst
-    (RanJob (behind held) (behind contents) (c.in_ok-input.input, c.args.output.now)
-    (c.run_over.new.reader, c.run_over.new.writer) c.args.job.now) c.in-Ok.is c.run_over.ensures)
+    (RunsJob (behind held) (behind contents) c.args.job.now (c.in_ok-input.input, c.args.output.now, c.args.tally.now)
+    (c.run_over.new.reader, c.run_over.new.writer, c.run_over.new.tally)) c.in-Ok.is c.run_over.ensures)

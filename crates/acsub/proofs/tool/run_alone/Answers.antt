@@ -6,7 +6,7 @@ pub returns-in-Ok : goal.returns-in-Ok
 returns-in-Ok g c =
     let ran = c.run_by_file-ran in
     run-finished g.F.File.Read.remaining g.R.Read.remaining g.W.Write.contents c.args.task.now.asked.now
-    (c.args.reader.now, c.args.writer.now) ran.new.reader ran.new.writer c.finish.new.writer c.told_as.result
+    ran.new.tally (c.args.reader.now, c.args.writer.now) ran.new.reader ran.new.writer c.finish.new.writer c.told_as.result
     c.finish.result
     (record {
       file = c.as_slice.result.now;
@@ -14,11 +14,12 @@ returns-in-Ok g c =
       result = ran.result;
       told = c.told_as.ensures;
       ran = ran.ensures.ran;
+      counts = ran.ensures.counts;
       fault = ran.ensures.fault;
     })
     c.finish.ensures
 
 pub returns-in-Err : goal.returns-in-Err
 returns-in-Err g c =
-    file-unread g.F.File.Read.remaining g.R.Read.remaining g.W.Write.contents c.args.task.now.asked.now
+    file-unread g.F.File.Read.remaining g.R.Read.remaining g.W.Write.contents c.args.task.now.asked.now c.args.tally.now
     (c.args.reader.now, c.args.writer.now) c.in-Err.fault c.in-Err.ensures

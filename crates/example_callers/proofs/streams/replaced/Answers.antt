@@ -15,6 +15,6 @@ returns-in-OnlyStandard c =
 pub returns-in-AnyKind : goal.returns-in-AnyKind
 returns-in-AnyKind c =
     let reads = ap (λ r. Some r.now) c.new-reader.ensures.device in
-    let called = c.try_stream_replace_all_any_kind in
+    let called = c.try_stream_replace_all_any_kind_counted in
     stream-replaces _ (λ v. v.items) (as_built c.args.ac.now) (map (λ r. r.now) c.args.replacements.now) c.args.text.now
     c.new-reader.result called.new.reader c.args.writer.now called.new.writer called.result reads called.ensures.moved

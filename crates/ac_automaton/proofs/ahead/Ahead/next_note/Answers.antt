@@ -1,5 +1,5 @@
 -- The next note of what was read ahead, before or after a block was.
-use Rattle.std.proofs.Common.{◌∙◌, sym}
+use Rattle.std.proofs.Common.{◌∙◌, sym, arith}
 use Rattle.ac_automaton.proofs.ahead.AheadLemmas.{first-none, skipped-ahead, skipped-later, skipped-once}
 use Rattle.ac_automaton.proofs.ahead.Ahead.next_note.Goals as goal
 
@@ -24,5 +24,6 @@ returns-clause-later g c = skipped-later c.upcoming.ensures.skipped c.upcoming.e
 
 pub returns-clause-once : goal.returns-clause-once
 returns-clause-once g c =
-    λ base once. skipped-once c.args.bytes.now c.upcoming.ensures.skipped base
-    (c.read_block.ensures.once base (skipped-once c.args.bytes.now c.upcoming-note.ensures.skipped base once))
+    let before = skipped-once c.args.bytes.now c.upcoming-note.ensures.skipped in
+    let after = skipped-once c.args.bytes.now c.upcoming.ensures.skipped in
+    omega (arith, before, c.read_block.ensures.once, after)

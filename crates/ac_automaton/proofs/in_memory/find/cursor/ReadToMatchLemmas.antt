@@ -22,7 +22,7 @@ use Rattle.ac_automaton.proofs.stream.BestOnLemmas.{best-stays}
 
 -- the automaton as if it had no prefilter
 abbrev unasked : Built → Built
-unasked b = record { dictionary = b.dictionary; deterministic = b.deterministic; prefilter = None }
+unasked b = record b { prefilter = None }
 
 -- Without a prefilter, an unanchored search under the standard kind stops only where patterns match.
 matching-stops : (b : Built) (matches : StateID → List ℕ) (text : List ℕ) (state : StateID)

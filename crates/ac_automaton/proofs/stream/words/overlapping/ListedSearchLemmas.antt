@@ -1,9 +1,11 @@
 -- What a search of a stream for all whole words keeps between its calls stays right.
-use Rattle.std.proofs.Common.{◌≡◌, ℕ, ◌+◌, Bool, List, [], ◌∷◌, ◌++◌, length, take, Option, Some, None, sym, ap, subst, refl, ◌∙◌, arith, append-nil, length-append}
+use Rattle.std.proofs.Common.{◌≡◌, ℕ, ◌+◌, ◌≤◌, Bool, List, [], ◌∷◌, ◌++◌, length, take, Option, Some, None, sym, ap, subst, refl, ◌∙◌, arith, append-nil, length-append}
 use Rattle.std.specs.List.{concat}
 use Rattle.std.proofs.Math.Seq.{take-append_seam}
 use Rattle.ac_input.specs.declared.search.Anchored.TheVariants.{No}
 use Rattle.ac_input.specs.declared.steps.Steps.{Steps}
+use Rattle.ac_input.specs.Dictionary.{Dictionary}
+use Rattle.ac_input.specs.Number.{StateID}
 use Rattle.ac_input.specs.Occurrence.{Occurrence}
 use Rattle.ac_input.specs.Steps.{Added, AreNone}
 use Rattle.ac_automaton.specs.InMemory.Overlapping.{OnlyLooked}
@@ -41,6 +43,13 @@ given-first A a pieces given closed from p moved sums is =
     let first = listed-begins m (A.matches a) closed x given p is.stands.listed [] (λ _. refl) in
     ap (λ l. take (length given) (word_listing m l)) (sym (append-nil x)) ∙ ap (take (length given)) first.1
     ∙ take-append_seam given first.0
+
+-- a search stands within the text
+pub lists-within : (m : Dictionary) (Reaches : List ℕ → StateID → Type 0) (matches : StateID → List ℕ) (from : ℕ)
+    (closed : Bool) (x : List ℕ) (given : List Occurrence) (p : ListedPlace) (r : Option Occurrence)
+    → ListsWord m Reaches matches from closed x given p r → p.at ≤ length x
+lists-within m Reaches matches from closed x given p None lists = lists.0.within
+lists-within m Reaches matches from closed x given p (Some o) lists = lists.0.within
 
 module _ {S : Type 0} (A : Ghosts S) (i : Inside S) (is : IsRight A i) where
   -- the bytes that were read, and the words that were returned

@@ -69,7 +69,7 @@ module _ {S : Type 0} (A : Ghosts S) (a : S) (pieces : List (List ℕ)) (given :
       let bound : sums.looked.value ≤ lookups_per_byte b.deterministic * p.at =
       subst (λ n. sums.looked.value ≤ lookups_per_byte b.deterministic * n) here
       (paid-to m b.deterministic (text_from m x 0) 0 p.at p.at sums.looked.value (omega arith) (omega arith) is.paid) in
-      let all = more-looks b.deterministic p.at 0 (length x + read_again m (length x) (length given)) bound
+      let all = more-looks b.deterministic p.at 0 (length x + read_again m 0 (length given)) bound
       (omega (arith, within)) in
       record {
         some = is.some;

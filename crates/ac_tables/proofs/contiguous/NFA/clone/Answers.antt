@@ -35,7 +35,7 @@ from_parts-copy-requires-clause-opened c = let a = c.args.self.now in
 pub set_near-requires : goal.set_near-requires
 set_near-requires c =
     let a = c.args.self.now in
-    let made = c.from_parts-copy.ensures in
+    let made = c.from_parts-copy.ensures.made in
     let same = sym c.in_ok-lens.ensures in
     let near = near-copied (contiguous_dictionary a) a.table c.in_ok-table.table a.near c.in_ok-near.near
     c.in_ok-table.ensures c.in_ok-near.ensures a.near_lead in

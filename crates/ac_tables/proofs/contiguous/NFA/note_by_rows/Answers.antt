@@ -23,7 +23,7 @@ returns-in_default-rows_of-clause-reads c = reads-nothing _ _ _ _ _ _ _ _ _ _ _ 
 
 pub note_ahead-noted-requires-clause-may : goal.note_ahead-noted-requires-clause-may
 note_ahead-noted-requires-clause-may c =
-    may-note-rows _ c.in-Some-row_of.start c.in-Some-last_up_to.last c.in-Some-row_of.ensures
+    may-note-rows _ c.in-Some-row_of.start c.in-Some-last_up_to.last c.requires.lanes c.in-Some-row_of.ensures
     c.in-Some-last_up_to.ensures
 
 pub note_ahead-noted-requires-clause-reached : goal.note_ahead-noted-requires-clause-reached

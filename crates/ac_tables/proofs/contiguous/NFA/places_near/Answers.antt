@@ -1,9 +1,7 @@
--- The start is met, and so are the places that were found, in any order.
-use Rattle.std.proofs.Common.{◌++◌, [], ◌∷◌, refl, ap, sym, subst, ◌∙◌}
-use Rattle.ac_input.specs.declared.search.Anchored.TheVariants.{No}
+-- The start is near, and so are the places that were found, in any order.
+use Rattle.std.proofs.Common.{◌++◌, [], ◌∷◌, ap, sym, subst, ◌∙◌}
 use Rattle.ac_tables.specs.Contiguous.NearReads.{AreFound, ArePlacesNear}
-use Rattle.ac_tables.proofs.contiguous.NameLemmas.{read-is_met, start-read}
-use Rattle.ac_tables.proofs.contiguous.NearFillLemmas.{near-start, found-sorted}
+use Rattle.ac_tables.proofs.contiguous.NearPlacesLemmas.{near-start, found-sorted}
 use Rattle.ac_tables.proofs.contiguous.NFA.places_near.Goals as goal
 
 pub push_rising-requires-clause-found : goal.push_rising-requires-clause-found
@@ -17,5 +15,4 @@ push_rising-requires-clause-near c =
     let a = c.args.self.now in
     subst (ArePlacesNear a c.args.most)
     (sym (c.in_ok-push.ensures.items ∙ ap (λ l. l ++ a.table.start ∷ []) c.in_ok-places.ensures.items))
-    (near-start a c.args.most a.table.start c.requires.some
-    (read-is_met a No a.table.start ∣ ([], start-read a No a.table.start refl) ∣₁))
+    (near-start a c.args.most c.requires.some)

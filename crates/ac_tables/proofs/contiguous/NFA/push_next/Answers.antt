@@ -2,7 +2,7 @@
 use Rattle.std.proofs.Common.{◌≡◌, ◌-◌, length, slice_index, ap, sym, subst, ◌∙◌, arith}
 use Rattle.std.proofs.lemmas.List.{get_or_read}
 use Rattle.ac_tables.specs.Contiguous.NearReads.{ArePlacesNear}
-use Rattle.ac_tables.proofs.contiguous.NearFillLemmas.{near-more}
+use Rattle.ac_tables.proofs.contiguous.NearPlacesLemmas.{near-more}
 use Rattle.ac_tables.proofs.contiguous.NFA.push_next.Goals as goal
 
 pub returns : goal.returns

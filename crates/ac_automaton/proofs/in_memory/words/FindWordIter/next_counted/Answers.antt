@@ -1,8 +1,8 @@
 -- The next word, and what it costs.
-use Rattle.std.proofs.Common.{subst, refl, arith}
+use Rattle.std.proofs.Common.{true, subst, refl, arith}
 use Rattle.ac_input.specs.declared.search.Anchored.TheVariants.{No}
 use Rattle.ac_automaton.specs.InMemory.Words.{CostsNextWord, GivesWord, word_walk_at}
-use Rattle.ac_automaton.proofs.in_memory.words.WordWalkLemmas.{word-given, word-paid}
+use Rattle.ac_automaton.proofs.in_memory.words.WordWalkLemmas.{word-ends, word-given, word-over, word-paid}
 use Rattle.ac_automaton.proofs.in_memory.words.FindWordIter.next_counted.Goals as goal
 
 pub returns-clause-gives : goal.returns-clause-gives
@@ -45,4 +45,9 @@ returns-clause-cost g c =
       looked = let none = c.new-taken.ensures.looked in let all = c.add.ensures.looked in omega arith;
       scanned = let none = c.new-taken.ensures.scanned in let all = c.add.ensures.scanned in let same = only.scanned in omega arith;
       moved = let none = c.new-taken.ensures.moved in let all = c.add.ensures.moved in let same = only.moved in omega arith;
+      ends = word-ends b.dictionary (g.A.Automaton.Reaches a No) 0 i.haystack.now i.place c.next_word-found.new.place
+          c.next_word-found.result finds;
+      over = λ all. let none = c.new-taken.ensures.looked in let sum = c.add.ensures.looked in
+          let same = word-over b (g.A.Automaton.Reaches a No) 0 true i.haystack.now i.place c.next_word-found.new.place
+          c.next_word-found.result _ _ finds cost all in omega (arith, none, sum, same);
     })

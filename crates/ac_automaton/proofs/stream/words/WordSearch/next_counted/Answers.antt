@@ -3,8 +3,10 @@ use Rattle.std.proofs.lemmas.Grind.{common_steps}
 use Rattle.std.proofs.Common.{subst, arith}
 use Rattle.ac_input.specs.declared.search.Anchored.TheVariants.{No}
 use Rattle.ac_automaton.specs.Stream.{FindsHeld}
+use Rattle.ac_automaton.specs.Stream.WholeWords.{LooksNoMore}
 use Rattle.ac_automaton.specs.Stream.WholeWords.Held.{text_of}
 use Rattle.ac_automaton.specs.declared.stream.words.WordSearch.TheInside.{Inside}
+use Rattle.ac_automaton.proofs.in_memory.words.WordWalkLemmas.{word-over}
 use Rattle.ac_automaton.proofs.stream.StreamCountLemmas.{StreamCounts-none}
 use Rattle.ac_automaton.proofs.stream.words.WordSearchLemmas.{IsRight, come_by, found-in, found-reads, window-stands}
 use Rattle.ac_automaton.proofs.stream.words.WordSearch.next_counted.Given.{Over}
@@ -49,6 +51,22 @@ invariant_of-self g c = (found g c).0
 pub returns-clause-finds : goal.returns-clause-finds
 returns-clause-finds g c =
     subst (λ t. FindsHeld t c.next_word-found.result (come_by g.A.Automaton (after g c))) c.self.view_is (found g c).1
+
+pub returns-clause-over : goal.returns-clause-over
+returns-clause-over g c =
+    let i = c.self.inside in
+    let x = text_of i.text in
+    let w = c.window.result in
+    let stands = window-stands g.A.Automaton i c.self.invariant w c.window.ensures.from in
+    let next = c.next_word-found in
+    let none = c.new-taken.ensures.looked in
+    let sum = c.add.ensures.looked in
+    subst (λ t. LooksNoMore t c.args.steps.now c.add.new.self) c.self.view_is
+    (λ all.
+    let same = word-over (g.A.Automaton.built i.automaton) (g.A.Automaton.Reaches i.automaton No) w.from w.closed x i.place
+    next.new.place next.result _ _ (next.ensures.finds x c.window.ensures.shows stands)
+    (next.ensures.cost x c.window.ensures.shows stands) all in
+    omega (arith, none, sum, same))
 
 pub returns-clause-kept : goal.returns-clause-kept
 returns-clause-kept g c = (found g c).0.0

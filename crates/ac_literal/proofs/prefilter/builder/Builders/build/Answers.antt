@@ -1,7 +1,8 @@
 -- If no way is taken, neither packed search nor start bytes serve.
-use Rattle.std.proofs.Common.{◌≡◌, false, Option, None, Some, sym, subst, inl, inr}
+use Rattle.std.proofs.Common.{◌≡◌, false, Option, None, Some, sym, subst, inl, inr, arith}
 use Rattle.std.specs.Option.{is_some}
 use Rattle.std.proofs.lemmas.Bool.{false≢true}
+use Rattle.std.proofs.lemmas.Grind.{common_steps}
 use Rattle.std.specs.Prelude.{MatchOption, List, ℕ}
 use Rattle.ac_literal.specs.Prefilter.Strategies.{AreStarts, AreFull}
 use Rattle.ac_literal.specs.Prefilter.{IsStrategyOf, MemmemServes, PackedServes, AreStartBytes}
@@ -25,3 +26,21 @@ returns-then-is_none c =
     (¬ (AreFull m.patterns × ((bytes : List ℕ) × AreStartBytes m bytes))) (AreStarts m)
     c.build_start_bytes-starts.result c.if-is_none.ensures (c.build_start_bytes-starts.ensures m collected) in
     elim demand [ inl packed ↦ no_packed packed | inr starts ↦ no_starts starts ]
+
+pub returns-in_err-strategy : goal.returns-in_err-strategy
+returns-in_err-strategy c = grind (arith, common_steps)
+
+pub returns-in-Some : goal.returns-in-Some
+returns-in-Some c = grind (arith, common_steps)
+
+pub returns-then-prefers : goal.returns-then-prefers
+returns-then-prefers c = grind (arith, common_steps)
+
+pub returns-in_err-strategy-2 : goal.returns-in_err-strategy-2
+returns-in_err-strategy-2 c = grind (arith, common_steps)
+
+pub returns-in-Some-2 : goal.returns-in-Some-2
+returns-in-Some-2 c = grind (arith, common_steps)
+
+pub returns : goal.returns
+returns c = grind (arith, common_steps)

@@ -11,7 +11,11 @@ returns-clause-built c =
     let patterns = c.args.patterns.now in
     let own = subst (λ s. IsBuiltOf s patterns (built_as from)) c.self.view_is c.in_ok-nfa.ensures.built in
     IfOk-weaker c.build_from_noncontiguous.result _ _
-    (λ made h. record { built = subst (IsBuiltOf c.args.self.now patterns) (sym h.built) own; from = (from, h) })
+    (λ made h. record {
+      built = subst (IsBuiltOf c.args.self.now patterns) (sym h.built)
+          (record { dictionary = own.dictionary; looks = own.looks; prefilter = own.prefilter; within = own.within });
+      from = (from, h);
+    })
     c.build_from_noncontiguous.ensures.made
 
 pub returns-clause-refused : goal.returns-clause-refused

@@ -2,7 +2,7 @@
 use Rattle.std.proofs.Common.{◌≡◌, false, ap, sym, subst, ◌∙◌}
 use Rattle.std.proofs.lemmas.Result.{err_from_is_err_and}
 use Rattle.ac_input.specs.Limits.{IsWithinLimits}
-use Rattle.std.specs.Prelude.{IfSome}
+use Rattle.std.specs.Prelude.{◌/◌, IfSome, IsTrue, is_some}
 use Rattle.ac_input.specs.Alphabet.Classes.{ClassesLeadAlike}
 use Rattle.ac_literal.specs.Openings.{AreOpenings}
 use Rattle.ac_noncontiguous.specs.Nfa.Reads.{dictionary}
@@ -10,7 +10,9 @@ use Rattle.ac_noncontiguous.proofs.lemmas.CopyLemmas.{opened-copied, same-dictio
 use Rattle.ac_tables.specs.Contiguous.Table.{AreWordsOf, AreSomeStates}
 use Rattle.ac_tables.specs.Contiguous.Builder.{IsLaidOf, IsMadeFrom, contiguous_dense_depth}
 use Rattle.ac_tables.specs.Contiguous.Build.{AreRowsWithin, IsRefusedFor}
+use Rattle.ac_tables.specs.Contiguous.NearReads.{near_part, AreNearWithin}
 use Rattle.ac_tables.specs.Source.{AreClassesFor}
+use Rattle.ac_tables.proofs.contiguous.NearPlacesLemmas.{near-same-any}
 use Rattle.ac_tables.proofs.contiguous.WordTableLemmas.{refused-laid}
 use Rattle.ac_tables.proofs.contiguous.builder.Builder.build_from_noncontiguous.Goals as goal
 
@@ -48,12 +50,12 @@ from_parts-made-requires-clause-opened c =
     subst (λ d. ∥ IfSome c.in_ok-openings.openings (AreOpenings d) ∥₁) (sym e)
     (opened-copied _ _ _ c.in_ok-openings.ensures c.openings.ensures)
 
-pub add_near-requires : goal.add_near-requires
-add_near-requires c =
+pub add_near-requires-clause-alike : goal.add_near-requires-clause-alike
+add_near-requires-clause-alike c =
     let nfa = c.args.nfa.now in
     let e = same-dictionary (dictionary nfa) (c.in_ok-lens.ensures ∙ c.pattern_lens.ensures)
     c.pairing-pairing.ensures.value c.match_kind-kind.ensures in
-    let made = c.from_parts-made.ensures in
+    let made = c.from_parts-made.ensures.made in
     let classes = ap (λ t. t.classes) made.table ∙ c.in_ok-laid.ensures.made.classed in
     subst (λ d. ClassesLeadAlike d c.from_parts-made.result.table.classes) (sym (made.dictionary ∙ e))
     (subst (ClassesLeadAlike (dictionary nfa)) (sym classes) c.in_ok-classes.ensures.serve.alike)
@@ -66,17 +68,21 @@ returns-clause-made c =
     depth c.in_ok-laid.ensures.made in
     let e = same-dictionary (dictionary nfa) (c.in_ok-lens.ensures ∙ c.pattern_lens.ensures)
     c.pairing-pairing.ensures.value c.match_kind-kind.ensures in
-    let parts = c.from_parts-made.ensures in
-    let last = c.in_ok-add_near.ensures in
-    let words : c.add_near.new.self.table.words.items ≡ c.in_ok-laid.laid.table.words.items =
-    ap (λ t. t.words.items) (last.table ∙ parts.table) in
-    subst (λ s. IsMadeFrom s nfa c.add_near.new.self) c.self.view_is
+    let parts = c.from_parts-made.ensures.made in
+    let last = c.in_ok-add_near.ensures.made in
+    let kept = c.set_lanes.ensures.made in
+    let made_nfa = c.set_lanes.new.self in
+    let words : made_nfa.table.words.items ≡ c.in_ok-laid.laid.table.words.items =
+    ap (λ t. t.words.items) (kept.table ∙ last.table ∙ parts.table) in
+    subst (λ s. IsMadeFrom s nfa made_nfa) c.self.view_is
     (record {
       built =
-          ap (λ d. record { dictionary = d; deterministic = false; prefilter = c.add_near.new.self.prefilter })
-          (last.dictionary ∙ (parts.dictionary ∙ e))
-          ∙ ap (λ f. record { dictionary = dictionary nfa; deterministic = false; prefilter = f })
-          (last.prefilter ∙ (parts.prefilter ∙ (c.in_ok-prefilter.ensures ∙ c.prefilter.ensures.value)));
+          ap (λ d. record { dictionary = d; deterministic = false; prefilter = made_nfa.prefilter; lanes = made_nfa.lanes })
+          (kept.dictionary ∙ last.dictionary ∙ (parts.dictionary ∙ e))
+          ∙ ap (λ f. record { dictionary = dictionary nfa; deterministic = false; prefilter = f; lanes = made_nfa.lanes })
+          (kept.prefilter ∙ last.prefilter ∙ (parts.prefilter ∙ (c.in_ok-prefilter.ensures ∙ c.prefilter.ensures.value)));
+      lanes = λ yes. subst (λ r. IsTrue (is_some r)) (sym kept.rows)
+          (c.pays_for_lanes-lanes.ensures (sym c.set_lanes.ensures.value ∙ yes));
       classes = c.in_ok-classes.classes;
       serve = c.in_ok-classes.ensures.classes;
       words = subst (AreWordsOf nfa (contiguous_dense_depth c.self.inside.settings) c.in_ok-classes.classes) (sym words)
@@ -84,5 +90,9 @@ returns-clause-made c =
       within = made.small;
       rows = subst
           (AreRowsWithin nfa (contiguous_dense_depth c.self.inside.settings) c.in_ok-classes.classes
-          c.self.inside.settings.row_memory) (sym (last.rows ∙ parts.rows)) made.rows;
+          c.self.inside.settings.row_memory) (sym (kept.rows ∙ last.rows ∙ parts.rows)) made.rows;
+      near = subst (λ near. IfSome near (AreNearWithin made_nfa (c.self.inside.settings.row_memory / near_part)))
+          (sym c.set_lanes.ensures.near)
+          (near-same-any c.add_near.new.self made_nfa (c.self.inside.settings.row_memory / near_part) c.add_near.new.self.near
+          kept c.in_ok-add_near.ensures.within);
     })

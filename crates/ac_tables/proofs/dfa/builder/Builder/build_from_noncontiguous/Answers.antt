@@ -1,5 +1,5 @@
 -- The table is made from the automaton, and the DFA is built as the automaton was.
-use Rattle.std.proofs.Common.{sym, subst, ◌∙◌}
+use Rattle.std.proofs.Common.{sym, subst, refl, ◌∙◌}
 use Rattle.std.proofs.lemmas.Result.{err_from_is_err_and}
 use Rattle.std.specs.Prelude.{IfSome}
 use Rattle.ac_literal.specs.Openings.{AreOpenings}
@@ -17,16 +17,16 @@ returns-in_err-table-clause-refused c =
     c.self.view_is c.in_err-table.ensures.refused in
     rw (p.1, p.2) (refused-of c.args.self.now c.args.nfa.now c.in_err-table.field-0.0 h)
 
-pub from_parts-requires-clause-parts : goal.from_parts-requires-clause-parts
-from_parts-requires-clause-parts c =
+pub from_parts-dfa-requires-clause-parts : goal.from_parts-dfa-requires-clause-parts
+from_parts-dfa-requires-clause-parts c =
     let nfa = c.args.nfa.now in
     let same = same-dictionary (dictionary nfa) (c.in_ok-lens.ensures ∙ c.pattern_lens.ensures) c.pairing.ensures.value
     c.match_kind.ensures in
     parts-of nfa c.in_ok-table.table c.in_ok-prefilter.prefilter _ same c.in_ok-table.ensures.made.made
     c.prefilter.ensures.made (c.in_ok-prefilter.ensures ∙ c.prefilter.ensures.value)
 
-pub from_parts-requires-clause-opened : goal.from_parts-requires-clause-opened
-from_parts-requires-clause-opened c =
+pub from_parts-dfa-requires-clause-opened : goal.from_parts-dfa-requires-clause-opened
+from_parts-dfa-requires-clause-opened c =
     let nfa = c.args.nfa.now in
     let same = same-dictionary (dictionary nfa) (c.in_ok-lens.ensures ∙ c.pattern_lens.ensures) c.pairing.ensures.value
     c.match_kind.ensures in
@@ -40,9 +40,13 @@ returns-clause-built c =
     c.match_kind.ensures in
     let h = subst (λ s. IsTableFor nfa s.start_kind s.byte_classes c.in_ok-table.table) c.self.view_is
     c.in_ok-table.ensures.made in
-    let made : IsDfaMadeOf (dictionary nfa) c.in_ok-table.table (built_as nfa).prefilter c.from_parts.result = record {
-      dictionary = c.from_parts.ensures.dictionary ∙ same;
-      table = c.from_parts.ensures.table;
-      prefilter = c.from_parts.ensures.prefilter ∙ (c.in_ok-prefilter.ensures ∙ c.prefilter.ensures.value);
+    let parts = c.from_parts-dfa.ensures in
+    let kept = c.set_lanes.ensures in
+    let dfa = c.set_lanes.new.self in
+    let made : IsDfaMadeOf (dictionary nfa) c.in_ok-table.table (built_as nfa).prefilter dfa.lanes dfa = record {
+      dictionary = kept.dictionary ∙ parts.dictionary ∙ same;
+      table = kept.table ∙ parts.table;
+      prefilter = kept.prefilter ∙ parts.prefilter ∙ (c.in_ok-prefilter.ensures ∙ c.prefilter.ensures.value);
+      lanes = refl;
     } in
-    dfa-of c.args.self.now nfa c.in_ok-table.table c.from_parts.result h made
+    dfa-of c.args.self.now nfa c.in_ok-table.table dfa h made

@@ -4,7 +4,7 @@ use Rattle.std.proofs.lemmas.Grind.{common_steps}
 use Rattle.ac_input.specs.declared.search.Anchored.TheVariants.{No}
 use Rattle.ac_automaton.specs.Stream.{IsOnCourse, fresh_progress}
 use Rattle.ac_automaton.specs.Stream.Overlapping.Search.{IsListingSearch}
-use Rattle.ac_automaton.proofs.ahead.AheadLemmas.{ahead-none}
+use Rattle.ac_automaton.proofs.ahead.AheadLemmas.{ahead-fresh}
 use Rattle.ac_automaton.proofs.stream.StreamListingSearchLemmas.{first_place, fresh-listing-right, fresh-listing-view, less-none}
 use Rattle.ac_automaton.proofs.stream.overlapping.search.ListingSearch.beginning.Given.{Over}
 use Rattle.ac_automaton.proofs.stream.overlapping.search.ListingSearch.beginning.Goals as goal
@@ -36,7 +36,7 @@ invariant_of-result g c =
           (first_place c.args.start c.list_len.result) c.zero.result.value c.in_ok-bytes.bytes.len [] 0 false)
           (sym less)
           (right g c),
-      ahead-none c.none.ensures.room c.none.ensures.none (λ standard. omega (arith, c.none.ensures.nothing)),
+      ahead-fresh c.none.ensures.room c.none.ensures.none c.none.ensures.nothing,
       omega (arith, c.none.ensures.nothing),
     )
 

@@ -3,10 +3,11 @@ use Rattle.std.proofs.lemmas.Grind.{common_steps}
 use Rattle.std.proofs.Common.{subst, take, arith}
 use Rattle.ac_automaton.specs.ListedWords.{word_listing}
 use Rattle.ac_automaton.specs.Stream.{FindsHeld, StreamCounts}
+use Rattle.ac_automaton.specs.Stream.WholeWords.{LooksNoMore}
 use Rattle.ac_automaton.specs.Stream.WholeWords.Held.{text_of}
 use Rattle.ac_automaton.specs.declared.stream.words.overlapping.OverlappingWordSearch.TheInside.{Inside}
 use Rattle.ac_automaton.proofs.stream.StreamCountLemmas.{StreamCounts-none}
-use Rattle.ac_automaton.proofs.stream.words.overlapping.ListedSearchLemmas.{IsRight, come_by, found-counts, found-in, window-stands}
+use Rattle.ac_automaton.proofs.stream.words.overlapping.ListedSearchLemmas.{IsRight, come_by, found-counts, found-in, lists-within, window-stands}
 use Rattle.ac_automaton.proofs.stream.words.overlapping.OverlappingWordSearch.next_counted.Given.{Over}
 use Rattle.ac_automaton.proofs.stream.words.overlapping.OverlappingWordSearch.next_counted.Goals as goal
 
@@ -51,6 +52,22 @@ returns-clause-counts g c =
     c.new-taken.result c.next_listed_word-found.new.steps
     (c.next_listed_word-found.ensures.cost (text_of i.text) given (seen.shows, stands)) c.new-taken.ensures
     c.count.ensures.same c.count.ensures.added c.add.ensures)
+
+pub returns-clause-over : goal.returns-clause-over
+returns-clause-over g c =
+    let i = c.self.inside in
+    let x = text_of i.text in
+    let given = take i.text.returned (word_listing (g.A.Automaton.built i.automaton).dictionary x) in
+    let seen = c.window.ensures in
+    let stands = window-stands g.A.Automaton i c.self.invariant c.window.result seen.from seen.closed in
+    let next = c.next_listed_word-found in
+    let w = c.window.result in
+    let cost = next.ensures.cost x given (seen.shows, stands) in
+    let within = lists-within _ _ _ w.from w.closed x given next.new.place next.result (next.ensures.lists x given (seen.shows, stands)) in
+    let none = c.new-taken.ensures.looked in
+    let sum = c.add.ensures.looked in
+    subst (λ t. LooksNoMore t c.args.steps.now c.add.new.self) c.self.view_is
+    (λ all. let same = cost.rests (omega (arith, all, within)) in omega (arith, none, sum, same))
 
 pub returns-clause-kept : goal.returns-clause-kept
 returns-clause-kept g c = (found g c).0.0

@@ -1,2 +1,0 @@
--- Lemmas of the run through all whole words.
-pub mod WordRunLemmas

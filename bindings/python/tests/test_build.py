@@ -235,7 +235,7 @@ def sha_of_b():
 
 def release():
     """The module that makes the files of a release."""
-    with unittest.mock.patch.object(sys, "path", [f"{ROOT}/tools", *sys.path]):
+    with unittest.mock.patch.object(sys, "path", [f"{ROOT}/tools/lib", *sys.path]):
         import release_wheel
     return release_wheel
 

@@ -8,7 +8,7 @@ import subprocess
 import tarfile
 import tempfile
 
-ROOT = os.path.dirname(os.path.dirname(os.path.abspath(__file__)))
+ROOT = os.path.dirname(os.path.dirname(os.path.dirname(os.path.abspath(__file__))))
 PACKAGE = f"{ROOT}/bindings/node"
 
 # Where each file of the package comes from, but for package.json and the addons.

@@ -4,7 +4,7 @@ import io
 import os
 import tarfile
 
-ROOT = os.path.dirname(os.path.dirname(os.path.abspath(__file__)))
+ROOT = os.path.dirname(os.path.dirname(os.path.dirname(os.path.abspath(__file__))))
 MODULE = f"{ROOT}/bindings/go"
 KINDS = (".go", ".h", ".mod", ".md")
 """What a module has. The scripts `test` and `bench` need the rest of the repository."""

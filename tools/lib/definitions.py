@@ -1,4 +1,4 @@
-"""What a search finds and what a run of `acsub` writes, in Python: docs/DEFINITIONS.md once more, and nothing of the library.
+"""What a search finds and what a run of `acsub` writes, in Python: docs/REFERENCE.md once more, and nothing of the library.
 
 `compare` holds the library and the program to it. A byte's partner is `other[byte]`, of a table of 256 bytes; patterns are numbered by
 their places in a list; an occurrence is a pattern's number, its start and its end.

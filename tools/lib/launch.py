@@ -9,7 +9,7 @@ import sys
 import termios
 import time
 
-REPOSITORY = os.path.dirname(os.path.dirname(os.path.abspath(__file__)))
+REPOSITORY = os.path.dirname(os.path.dirname(os.path.dirname(os.path.abspath(__file__))))
 CRATE = f"{REPOSITORY}/crates/acsub"
 PROGRAM = f"{CRATE}/out/acsub"
 

@@ -1,6 +1,6 @@
 """The files of a release for Python: a wheel with the library in it, and the sources, which are built over a library that is installed.
 
-usage: python tools/release_wheel.py PREFIX DIST [PYTHON ..]
+usage: python tools/lib/release_wheel.py PREFIX DIST [PYTHON ..]
 
 Makes both in the folder DIST, over the library that bindings/c/build has installed below PREFIX, and tries them with each CPython from 3.8
 on that is named, or else is found here. `make` and `tried` are what tools/release calls. It needs a C compiler, objdump, nm and readelf,
@@ -21,7 +21,7 @@ import time
 import zipfile
 
 sys.dont_write_bytecode = True
-ROOT = os.path.dirname(os.path.dirname(os.path.abspath(__file__)))
+ROOT = os.path.dirname(os.path.dirname(os.path.dirname(os.path.abspath(__file__))))
 sys.path.insert(0, f"{ROOT}/bindings/python/backend")
 import dadofennel_build as build  # noqa: E402
 import dadofennel_library as library  # noqa: E402

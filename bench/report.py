@@ -46,11 +46,13 @@ def put(path, content):
         file.write(content)
 
 
-def put_between(page, content):
+def put_between(page, content, begin=BEGIN):
     """Puts the content between the marks of a page."""
     with open(page) as file:
-        before, _, rest = file.read().partition(BEGIN)
-    put(page, f"{before}{BEGIN}\n{content}{END}{rest.partition(END)[2]}")
+        before, mark, rest = file.read().partition(begin)
+    if not mark:
+        sys.exit(f"{page} has no line {begin}")
+    put(page, f"{before}{begin}\n{content}{END}{rest.partition(END)[2]}")
 
 
 def tables_of(results):

@@ -1,4 +1,5 @@
 """What the tools share: what they need, the program and the library, rule files, and how much memory a process has."""
+import contextlib
 import fcntl
 import os
 import re
@@ -64,6 +65,32 @@ def programs(given):
         if subprocess.run(words, cwd=CRATE, stdin=stdin, stdout=sys.stderr).returncode:
             sys.exit("the program was not built")
     return [PROGRAM]
+
+
+def kept_by_trial(crate, folder, *words):
+    """The program that `rt try` with these words builds of a crate, under a path in the folder, and what was said; the path may be absent.
+
+    rt removes the program as it ends: a second name keeps it.
+    """
+    words, kept = ["rt", "try", *words], f"{folder}/kept"
+    how = {"stdin": subprocess.DEVNULL, "stdout": subprocess.DEVNULL, "stderr": subprocess.PIPE}
+    run = subprocess.Popen(words, cwd=crate, env={**os.environ, "TMPDIR": folder}, **how)
+    while run.poll() is None:
+        for path, _, names in os.walk(folder):
+            if "program" in names and not os.path.exists(kept):
+                with contextlib.suppress(OSError):
+                    os.link(f"{path}/program", kept)
+        time.sleep(0.01)
+    return kept, run.stderr.read().decode(errors="replace")
+
+
+def trial(folder):
+    """The program of this repository as `rt try` builds it: with checks, without optimization, and without a proof."""
+    need("rt")
+    kept, said = kept_by_trial(CRATE, folder, "--", "--version")
+    if not os.path.exists(kept):
+        sys.exit(f"{said}{os.path.basename(sys.argv[0])}: `rt try` left no program")
+    return kept
 
 
 def write_rules(path, pairs):

@@ -52,10 +52,15 @@ def first_line(*words):
     return said_by(*words).splitlines()[0]
 
 
+def clang():
+    """The toolchain's compiler."""
+    version = first_line(f"{os.path.dirname(said_by('rt', 'doc').strip())}/toolchain/bin/clang", "--version")
+    return f"the toolchain's {version}"
+
+
 def compilers(built):
     """What compiled and linked the files."""
-    clang = first_line(f"{os.path.dirname(said_by('rt', 'doc').strip())}/toolchain/bin/clang", "--version")
-    lines = ["", "Compiled and linked by:", f"  acsub, and the archives: the toolchain's {clang}"]
+    lines = ["", "Compiled and linked by:", f"  acsub, and the archives: {clang()}"]
     for it in built:
         compiler = it.machine.compiler()
         lines += [f"  the C code of the library and of the modules for {it.machine.name}, which no proof covers:"]

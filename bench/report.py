@@ -214,9 +214,9 @@ TABLES = [
     ),
     (
         "Beside the public crate CRATE 1.1",
-        "Our speed by that of the public crate CRATE 1.1, the faster of its own choice and its DFA: above 1 ours, by `auto`, is faster. The"
-        " first five columns are of whole runs. Under the standard kind both write while they read, and under leftmost kinds both hold the"
-        " input. The others are of searches in memory, ours by `find_iter_ahead`.",
+        "The speed of `auto` divided by that of the public crate CRATE 1.1, the faster of its own choice and its DFA: above 1 `auto` is"
+        " faster. The first five columns are of whole runs. Under the standard kind both write while they read, and under leftmost kinds"
+        " both hold the input. The others are of searches in memory, here by `find_iter_ahead`.",
         [
             by_best("`list`", "list"),
             by_best("`replace`", "replace"),
@@ -230,21 +230,21 @@ TABLES = [
     ),
     (
         "Short texts",
-        "How many times the instructions of ours the public crate CRATE 1.1 takes for a call on a short text, by its own choice of engine:"
-        " above 1 ours takes fewer. Ours is the library for C. Instructions are the same whatever else the machine does; time isn't.",
+        "The instructions that the public crate CRATE 1.1 takes for a call on a short text, by its own choice of engine, divided by those"
+        " of the library for C: above 1 the library takes fewer. Other work on the machine changes a time, but not a count of instructions.",
         short_columns(
             lambda heading, call: Column(heading, "short-texts", "instructions", f"library {call}", f"crate 1.1 {call}", inverse=True)
         ),
     ),
     (
         "Instructions of a call on a short text",
-        "Ours, of the same rows.",
+        "Those of the library for C, in the same rows.",
         short_columns(lambda heading, call: Column(heading, "short-texts", "instructions", f"library {call}")),
     ),
     (
         "The code for either processor",
-        "MB/s of the library for C over a text that is held (`dado_some`), by its code for x86-64-v2 and for x86-64-v3, and the speed of the"
-        " second by that of the first. It chooses by the processor.",
+        "MB/s of the library for C over a text that is held (`dado_some`), by its code for x86-64-v2 and for x86-64-v3, and the second"
+        " divided by the first. The library chooses by the processor.",
         [
             column
             for kind in ("standard", "leftmost-first")
@@ -257,7 +257,8 @@ TABLES = [
     ),
     (
         "By the public crate CRATE 0.7, standard kind",
-        "Our speed by that of the public crate CRATE 0.7, with an engine of the same kind: above 1 ours is faster. Both write while they read.",
+        "The speed of acsub divided by that of the public crate CRATE 0.7, with an engine of the same kind: above 1 acsub is faster. Both"
+        " write while they read.",
         ratios("list", "list", ("auto", "auto"), ("dfa", "dfa"), ("contiguous", "nfa"), ("noncontiguous", "nfa"))
         + ratios("replace", "replace", ("auto", "auto"), ("dfa", "dfa")),
     ),
@@ -269,14 +270,14 @@ TABLES = [
     ),
     (
         "Masks",
-        "MB/s of `acsub mask`, which masks all occurrences, and its speed by that of `acsub list` under the standard kind.",
+        "MB/s of `acsub mask`, which masks all occurrences, and that divided by the speed of `acsub list` under the standard kind.",
         speeds("mask", ("auto", "mask auto"), ("DFA", "mask dfa"))
         + [Column(f"by list, {engine}", "mask", "speeds", f"mask {engine}", f"list {engine}") for engine in ("auto", "dfa")],
     ),
     (
         "Whole words",
-        "MB/s of `acsub list --word`, under the standard kind and under leftmost-longest, and of `acsub mask --word`, and the speed of each"
-        " by that of the same run without `--word`, which writes while it reads, too.",
+        "MB/s of `acsub list --word`, under the standard kind and under leftmost-longest, and of `acsub mask --word`, and each divided by"
+        " the speed of the same run without `--word`, which writes while it reads, too.",
         [
             column
             for heading, label in (("list", "list"), ("leftmost-longest", "leftmost"), ("mask", "mask"))
@@ -293,8 +294,8 @@ TABLES = [
     ),
     (
         "A search in memory, standard kind",
-        "MB/s over a text that is held, by the fastest pass: all matches, ours by `find_iter_ahead` and the crate's by `find_iter`."
-        " Hyperscan counts all occurrences. The last column is our `auto` by Hyperscan.",
+        "MB/s over a text that is held, by the fastest pass: all matches, here by `find_iter_ahead` and in the crate by `find_iter`."
+        " Hyperscan counts all occurrences. The last column is `auto` divided by Hyperscan.",
         speeds("in-memory", *IN_MEMORY) + [Column("by Hyperscan", "in-memory", "speeds", "acsub auto", "Hyperscan")],
     ),
     ("A search in memory, leftmost-first", "The same under leftmost-first.", speeds("leftmost-in-memory", *IN_MEMORY)),
@@ -305,7 +306,7 @@ TABLES = [
     ),
     (
         "Memory of builds",
-        "The most MB that those runs had touched. The last two columns are ours by that of CRATE 1.1: below 1 ours takes less.",
+        "The most MB that those runs had touched. The last two columns are acsub divided by CRATE 1.1: below 1 acsub takes less.",
         peaks("build", *BUILDS)
         + [
             Column(f"{heading} by crate 1.1's", "build", "peaks", f"acsub {engine}", f"crate 1.1 {engine}")
@@ -361,6 +362,6 @@ def heading(results):
         f"acsub is compiled for {code['acsub']}, and what searches in memory for {code['in_memory']}."
         + (f" The library for C chose its code for {code['library']}." if "library" in code else ""),
     ]
-    lines += [f"Beside ours: {', '.join(said)}."] if said else []
+    lines += [f"Beside acsub: {', '.join(said)}."] if said else []
     lines += [f"Left out: {name}, since {why}." for name, why in results["left_out"].items()]
     return " ".join(lines) + "\n"

@@ -5,7 +5,7 @@ It is looked for in this order, and each place is said:
 1. DADOFENNEL_PREFIX: the folder that `bindings/c/build PREFIX` was given, or that a release's archive was unpacked to
 2. of a clone, bindings/c/out, where it was built before
 3. what pkg-config knows as `dadofennel`, such as Debian's package libdadofennel-dev
-4. of a clone, bindings/c/build proves it into bindings/c/out. That takes some 20 minutes at first, and its progress is shown.
+4. of a clone, bindings/c/build proves it into bindings/c/out. That takes 20 to 60 minutes at first, and its progress is shown.
 """
 import os
 import queue
@@ -25,7 +25,7 @@ TERMINAL = "/dev/tty"
 
 PROVING = """\
 dadofennel: no library was found, so {build} proves and compiles it now, into {out}.
-dadofennel: that takes some 20 minutes at first. Where DADOFENNEL_PREFIX names a library, or pkg-config finds one, that is taken.
+dadofennel: that takes 20 to 60 minutes at first. Where DADOFENNEL_PREFIX names a library, or pkg-config finds one, that is taken.
 """
 
 

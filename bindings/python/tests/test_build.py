@@ -142,7 +142,7 @@ class Proved(InAFolder):
         self.builds("echo == ac_common; echo proved >&2")
         found = library.library()
         self.assertEqual(found.archive, f"{self.folder}/c/out/lib/libdadofennel.a")
-        self.assertIn("takes some 20 minutes at first", self.said.getvalue())
+        self.assertIn("takes 20 to 60 minutes at first", self.said.getvalue())
         self.assertIn("  0:00 == ac_common\n  0:00 proved\n", self.said.getvalue())
         self.assertTrue(self.terminal().startswith("\n  0:00 "), self.terminal())
 
@@ -345,7 +345,7 @@ class Installed(unittest.TestCase):
                 shown += os.read(terminal, 4096)
         os.close(terminal)
         self.assertEqual(os.waitpid(child, 0)[1], 0, shown.decode())
-        for line in (b"no library was found", b"takes some 20 minutes", b"0:00 == ac_of_the_test", b"Successfully installed dadofennel"):
+        for line in (b"no library was found", b"takes 20 to 60 minutes", b"0:00 == ac_of_the_test", b"Successfully installed dadofennel"):
             self.assertIn(line, shown)
         self.assertEqual(self.python("import dadofennel; print(dadofennel.Automaton(['a']).is_match('a'))"), "True")
 

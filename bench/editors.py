@@ -12,28 +12,28 @@ from measure import Command
 from report import put, put_between, table, two_digits
 
 MARK = "<!-- bench/run --editors writes from here -->"
-SET = "one-thousand"
-# perl takes the words from a file, and the first one where several begin at one place
+WORD = "the"
+WORDS = 1000
+# perl takes the words from a file
 PERL = 'BEGIN { open F, "<", shift; chomp(@w = <F>); $w = join "|", map { quotemeta } @w } s/$w/X/g'
 
 
 class Editors:
-    """The programs by their names, the two texts, the word and its replacement, and the words of a rule file."""
+    """The programs by their names, the two texts, and the thousand words, also as rules."""
 
     def __init__(self, asked, folder, data):
         self.programs = dict(found(asked, folder))
         self.runs = asked.runs or (1 if asked.quick else 3)
         self.text, self.part = f"{data}/long.txt", f"{data}/part.txt"
         self.mb = (lengthened(self.text, data, asked.mib), lengthened(self.part, data, max(1, asked.mib // 8)))
-        self.word = first_line(f"{data}/five-common.words")
-        self.words = f"{data}/{SET}.words"
-        self.rules = f"{data}/{SET}.same"
-        with open(self.words) as file:
-            put(self.rules, "".join(f"{line.strip()}\tX\n" for line in file))
+        self.words, self.rules = f"{data}/apart.words", f"{data}/apart.rules"
+        words = apart(f"{data}/five-thousand.words")
+        put(self.words, "".join(f"{it}\n" for it in words))
+        put(self.rules, "".join(f"{it}\tX\n" for it in words))
 
     def commands(self, kind):
         """The commands of a column, as one would write them: each program that can do it."""
-        new, old = self.word[::-1], self.word
+        old, new = WORD, WORD.upper()
         leftmost = ["--kind", "leftmost-first", "--stream"]
         of = {
             "word": {
@@ -87,9 +87,14 @@ def lengthened(path, data, mib):
     return os.path.getsize(path) / 1e6
 
 
-def first_line(path):
+def apart(path):
+    """The first words of a list of which none begins another: so all programs take the same ones, whichever they prefer."""
+    taken = []
     with open(path) as file:
-        return file.readline().strip()
+        for word in map(str.strip, file):
+            if len(taken) < WORDS and not any(word.startswith(it) or it.startswith(word) for it in taken):
+                taken.append(word)
+    return taken
 
 
 def digest_of(source):
@@ -155,13 +160,14 @@ def measured(asked, machine):
     seconds, peaks = streamed(editors, "word")
     changed = in_place(editors, folder)
     many, _ = streamed(editors, "words")
-    lines = [["", "seconds", "MB of memory", "seconds in place", f"seconds, 1,000 words in {editors.mb[1]:,.0f} MB"]]
+    lines = [["", "seconds", "MB of memory", "seconds in place", f"seconds, {WORDS:,} words in {editors.mb[1]:,.0f} MB"]]
     for name, title in TITLES.items():
         if name in seconds:
             lines.append([title, *(cell(it.get(name)) for it in (seconds, peaks, changed, many))])
     note = (
-        f"The word `{editors.word}` replaced in {editors.mb[0] / 1000:.2f} GB, {matches(editors):,} times. Processor time, the best of"
-        f" {editors.runs} runs, of {datetime.date.today().isoformat()} on {machine}, with a load of {load:.1f}. All write the same bytes:"
+        f"The word `{WORD}` replaced in {editors.mb[0] / 1000:.2f} GB, {matches(editors):,} times: seconds of processor time, the best run of"
+        f" {editors.runs}, on {datetime.date.today().isoformat()}, on {machine}, with a load of {load:.1f}. All write the same bytes."
+        " ripgrep maps the file, so its memory has the whole of it:"
     )
     return f"{note}\n\n{table(lines)}"
 

@@ -38,9 +38,17 @@ static int found_in(PyObject *self, PyObject *const *given, int anchored, int ea
         if (status == DADO_OK) out->start += text.shift, out->end += text.shift;
     }
     release(&text);
+    if (owner != NULL && status > DADO_NONE) refuse(STATE(core), status);
     Py_DECREF(core);
-    if (owner == NULL) return -1;
-    return status > DADO_NONE ? refuse(status) : (int)status;
+    return owner == NULL || status > DADO_NONE ? -1 : (int)status;
+}
+
+/* A match of a text that an automaton has just searched. */
+static PyObject *match_by(PyObject *self, const dado_match *found, PyObject *text) {
+    Core *core = core_of(self);
+    PyObject *made = core == NULL ? NULL : match_of(STATE(core), found, 0, text);
+    Py_XDECREF(core);
+    return made;
 }
 
 static PyObject *automaton_find(PyObject *self, PyObject *const *args, Py_ssize_t count, PyObject *names) {
@@ -52,7 +60,7 @@ static PyObject *automaton_find(PyObject *self, PyObject *const *args, Py_ssize_
     if ((anchored = is_true(given[3])) < 0 || (earliest = is_true(given[4])) < 0) return NULL;
     status = found_in(self, given, anchored, earliest, &found);
     if (status == DADO_NONE) Py_RETURN_NONE;
-    return status < 0 ? NULL : match_of(&found, 0, given[0]);
+    return status < 0 ? NULL : match_by(self, &found, given[0]);
 }
 
 static PyObject *automaton_is_match(PyObject *self, PyObject *const *args, Py_ssize_t count, PyObject *names) {
@@ -77,10 +85,9 @@ typedef struct {
 /* The first matches of a short text: as many as there is room for. -1 with an exception. */
 static int first_few(const Owner *owner, Haystack *text, Going *going, dado_match *few, size_t *count, int *is_all) {
     dado_status status = some(owner->handle, going, text, few, FEW, count);
-    if (status > DADO_NONE) return refuse(status);
     *is_all = *count < FEW;
-    if (text->is_counted) status = dado_in_characters(text->at, text->len, &text->counted, few, count);
-    return status > DADO_NONE ? refuse(status) : 0;
+    if (status <= DADO_NONE && text->is_counted) status = dado_in_characters(text->at, text->len, &text->counted, few, count);
+    return status > DADO_NONE ? refuse(owner->state, status) : 0;
 }
 
 /* An iterator over what is asked for. The matches of a short text are found at once. */
@@ -102,7 +109,7 @@ static PyObject *matches_in(Core *core, PyObject *source, PyObject *start, PyObj
     }
     if (!is_all || asked->as_lists || (count != 0 && !is_plain(source)))
         return walk_new(&text, source, near, &going, few, count, is_all, asked->as_lists);
-    made = found_new(few, count, text.shift, source);
+    made = found_new(STATE(core), few, count, text.shift, source);
     release(&text);
     return made;
 }
@@ -176,8 +183,7 @@ static PyObject *batches(PyObject *module, PyObject *args) {
     PyObject *core, *text, *start, *end, *made = NULL;
     Asked asked = {MATCHES, 0, 0, 0, 1};
     int listed;
-    (void)module;
-    if (!PyArg_ParseTuple(args, "O!OOOp", core_type, &core, &text, &start, &end, &listed)) return NULL;
+    if (!PyArg_ParseTuple(args, "O!OOOp", state_of(module)->core_type, &core, &text, &start, &end, &listed)) return NULL;
     if (listed) asked.way = OCCURRENCES;
     if ((listed ? serves_listing((Core *)core) : serves((Core *)core, 0)) == 0) made = matches_in((Core *)core, text, start, end, &asked);
     return made;
@@ -186,8 +192,7 @@ static PyObject *batches(PyObject *module, PyObject *args) {
 static PyObject *matches_after(PyObject *module, PyObject *args) {
     PyObject *core, *text;
     Asked asked = {MATCHES, 0, 0, 0, 0};
-    (void)module;
-    if (!PyArg_ParseTuple(args, "O!Op", core_type, &core, &text, &asked.again) || serves((Core *)core, 0) < 0) return NULL;
+    if (!PyArg_ParseTuple(args, "O!Op", state_of(module)->core_type, &core, &text, &asked.again) || serves((Core *)core, 0) < 0) return NULL;
     return matches_in((Core *)core, text, NULL, NULL, &asked);
 }
 
@@ -195,19 +200,18 @@ static PyObject *words_in(PyObject *module, PyObject *args) {
     PyObject *core, *text, *word;
     Asked asked = {WORDS, 0, 0, 0, 0};
     int kind;
-    (void)module;
-    if (!PyArg_ParseTuple(args, "O!OO", core_type, &core, &text, &word) || (kind = kind_of(word)) < 0) return NULL;
+    if (!PyArg_ParseTuple(args, "O!OO", state_of(module)->core_type, &core, &text, &word) || (kind = kind_of(word)) < 0) return NULL;
     asked.kind = (uint32_t)kind;
     return serves_words((Core *)core) < 0 ? NULL : matches_in((Core *)core, text, NULL, NULL, &asked);
 }
 
 /* ---- Many texts ---- */
 
-static PyObject *list_of_few(const dado_match *few, size_t count, size_t shift, PyObject *source) {
+static PyObject *list_of_few(const State *state, const dado_match *few, size_t count, size_t shift, PyObject *source) {
     PyObject *list = PyList_New((Py_ssize_t)count);
     size_t i;
     for (i = 0; list != NULL && i < count; i++) {
-        PyObject *match = match_of(&few[i], shift, source);
+        PyObject *match = match_of(state, &few[i], shift, source);
         if (match == NULL) Py_CLEAR(list);
         else PyList_SetItem(list, (Py_ssize_t)i, match);
     }
@@ -231,7 +235,7 @@ static PyObject *found_each(Core *core, PyObject *source) {
     if (!failed && !is_all) walk = walk_new(&text, source, near, &going, few, count, 0, 0);
     else release(&text);
     if (walk != NULL) list = PySequence_List(walk);
-    else if (!failed && is_all) list = list_of_few(few, count, text.shift, source);
+    else if (!failed && is_all) list = list_of_few(STATE(core), few, count, text.shift, source);
     Py_XDECREF(walk);
     return list;
 }
@@ -246,7 +250,7 @@ static PyObject *is_match_each(Core *core, PyObject *text) {
     if (owner != NULL) UNLOCKED(it.len, status = dado_is_match(owner->handle, it.at, it.len));
     release(&it);
     if (owner == NULL) return NULL;
-    if (status > DADO_NONE) refuse(status);
+    if (status > DADO_NONE) refuse(STATE(core), status);
     return status > DADO_NONE ? NULL : PyBool_FromLong(status == DADO_OK);
 }
 
@@ -339,7 +343,7 @@ static int set_built(PyObject *self, PyObject *core, void *unused) {
     Searches *it = (Searches *)self;
     Core *before = it->core;
     (void)unused;
-    if (core == NULL || !PyObject_TypeCheck(core, core_type) || ((Core *)core)->plain == NULL) {
+    if (core == NULL || !is_core(core) || ((Core *)core)->plain == NULL) {
         PyErr_SetString(PyExc_TypeError, "what was built is a core that was begun");
         return -1;
     }
@@ -379,15 +383,12 @@ static PyMethodDef functions[] = {
     {"batches", batches, METH_VARARGS, "The matches of a part of a text, or all occurrences, as batches of three lists."},
     {"matches_after", matches_after, METH_VARARGS, "The matches of a text; before it, one may have ended."},
     {"words_in", words_in, METH_VARARGS, "The whole words of a text under a kind."},
+    {NULL, NULL, 0, NULL},
 };
 
 int calls_ready(PyObject *module) {
-    PyObject *type = PyType_FromSpec(&spec);
-    size_t i;
-    if (type == NULL || PyModule_AddObject(module, "Searches", type) < 0) return -1;
-    for (i = 0; i < sizeof functions / sizeof functions[0]; i++) {
-        PyObject *function = PyCFunction_NewEx(&functions[i], NULL, NULL);
-        if (function == NULL || PyModule_AddObject(module, functions[i].ml_name, function) < 0) return -1;
-    }
-    return 0;
+    PyTypeObject *type = type_made(module, &spec, "Searches");
+    if (type == NULL) return -1;
+    Py_DECREF(type);
+    return PyModule_AddFunctions(module, functions);
 }

@@ -135,7 +135,7 @@ static int slices_of(Slices *it, Core *core, PyObject *replacements, int is_long
     int is_one = core->text == 1 ? PyUnicode_CheckExact(replacements) : core->text == 0 && PyBytes_CheckExact(replacements), done;
     it->count = core->count, it->texts = it->others = NULL;
     it->at = it->count <= NEAR ? it->near : malloc(it->count * sizeof *it->at);
-    if (it->at == NULL) return refuse(DADO_NO_MEMORY);
+    if (it->at == NULL) return no_memory();
     done = is_one ? one_for_all(it, replacements) : all_of(it, core, replacements, is_long);
     if (done < 0) let_go(it);
     return done;
@@ -153,7 +153,7 @@ static PyObject *replaced(const Core *core, const Haystack *text, const Slices *
     UNLOCKED(text->len, status = words ? dado_replace_words(ac, *words, text->at, text->len, slices->at, slices->count, &made)
                                        : dado_replace(ac, text->at, text->len, slices->at, slices->count, &made));
     at = made.len ? (const char *)made.at : "";
-    if (status != DADO_OK) refuse(status);
+    if (status != DADO_OK) refuse(STATE(core), status);
     else if (is_text) result = PyUnicode_DecodeUTF8(at, (Py_ssize_t)made.len, "surrogatepass");
     else result = PyBytes_FromStringAndSize(at, (Py_ssize_t)made.len);
     dado_text_free(&made);
@@ -273,7 +273,7 @@ static PyObject *with_stars(const char *plain, const char *covered, size_t len, 
     for (i = 0; i < len; i++) stars += (unsigned char)covered[i] == COVERED && begins(plain[i]);
     out = malloc(len + stars * width + 1);
     if (out == NULL) {
-        refuse(DADO_NO_MEMORY);
+        no_memory();
         return NULL;
     }
     for (i = 0; i < len; i++) {
@@ -310,7 +310,7 @@ static PyObject *masked_text(Core *core, PyObject *source, PyObject *star_given,
         memcpy(copy, text.at, text.len);
         status = masked(core, (uint8_t *)copy, text.len, plain ? (uint8_t)star[0] : COVERED, words);
     }
-    if (status != DADO_OK) refuse(status);
+    if (status != DADO_OK) refuse(STATE(core), status);
     else if (plain) made = PyUnicode_FromStringAndSize(copy, (Py_ssize_t)text.len);
     else made = with_stars((const char *)text.at, copy, text.len, star, (size_t)width);
     free(copy);
@@ -354,7 +354,7 @@ static PyObject *masked_bytes(Core *core, PyObject *source, PyObject *star_given
     status = masked(core, (uint8_t *)PyBytes_AsString(made), (size_t)PyBytes_Size(made), (uint8_t)star, words);
     if (status == DADO_OK) return made;
     Py_DECREF(made);
-    refuse(status);
+    refuse(STATE(core), status);
     return NULL;
 }
 
@@ -380,7 +380,7 @@ static int mask_lent(Core *core, PyObject *source, int star, int words) {
     if (PyObject_GetBuffer(source, &lent, PyBUF_WRITABLE) < 0) return not_lent(source);
     status = masked(core, lent.buf, (size_t)lent.len, (uint8_t)star, words);
     PyBuffer_Release(&lent);
-    return status == DADO_OK ? 0 : refuse(status);
+    return status == DADO_OK ? 0 : refuse(STATE(core), status);
 }
 
 static PyObject *mask_lying(PyObject *self, const Signature *signature, PyObject *const *args, Py_ssize_t count, PyObject *names,

@@ -6,16 +6,17 @@
 
 typedef struct {
     PyObject_HEAD
+    State *state;                 /* held */
     dado_masker *handle;
 } Masker;
 
-static PyTypeObject *masker_type;
-
 static void masker_free(PyObject *self) {
     PyTypeObject *type = Py_TYPE(self);
+    State *state = ((Masker *)self)->state;
     dado_masker_free(&((Masker *)self)->handle);
     PyObject_Free(self);
     Py_DECREF(type);
+    state_let_go(state);
 }
 
 /* Begins a masker of a core, which masks with a byte. */
@@ -24,15 +25,15 @@ static PyObject *masker(PyObject *module, PyObject *args) {
     unsigned char byte;
     Masker *made;
     dado_status status;
-    (void)module;
-    if (!PyArg_ParseTuple(args, "O!b", core_type, &core, &byte)) return NULL;
-    made = PyObject_New(Masker, masker_type);
+    State *state = state_of(module);
+    if (!PyArg_ParseTuple(args, "O!b", state->core_type, &core, &byte)) return NULL;
+    made = PyObject_New(Masker, state->masker_type);
     if (made == NULL) return NULL;
-    made->handle = NULL;
+    made->state = state_held(state), made->handle = NULL;
     status = dado_masker_new(((Core *)core)->plain->handle, byte, &made->handle);
     if (status == DADO_OK) return (PyObject *)made;
     Py_DECREF(made);
-    refuse(status);
+    refuse(state, status);
     return NULL;
 }
 
@@ -42,7 +43,7 @@ static int add_ready(Masker *it, PyObject *list) {
     dado_status status = dado_masker_ready(&it->handle, &slice);
     PyObject *bytes;
     int done;
-    if (status != DADO_OK) return refuse(status);
+    if (status != DADO_OK) return refuse(it->state, status);
     bytes = PyBytes_FromStringAndSize((const char *)slice.at, (Py_ssize_t)slice.len);
     done = bytes == NULL ? -1 : PyList_Append(list, bytes);
     Py_XDECREF(bytes);
@@ -54,7 +55,7 @@ static int push_all(Masker *it, const uint8_t *at, size_t len, PyObject *list) {
     do {
         dado_status status;
         UNLOCKED(len - from, status = dado_masker_push(&it->handle, len ? at + from : NULL, len - from, &taken));
-        if (status != DADO_OK) return refuse(status);
+        if (status != DADO_OK) return refuse(it->state, status);
         if (add_ready(it, list) < 0) return -1;
         from += taken;
     } while (from < len);
@@ -76,7 +77,7 @@ static PyObject *masker_finish(PyObject *self, PyObject *none) {
     dado_status status = dado_masker_finish(&((Masker *)self)->handle);
     PyObject *list = PyList_New(0);
     (void)none;
-    if (status != DADO_OK) refuse(status);
+    if (status != DADO_OK) refuse(((Masker *)self)->state, status);
     if (list != NULL && (status != DADO_OK || add_ready((Masker *)self, list) < 0)) Py_CLEAR(list);
     return list;
 }
@@ -92,15 +93,12 @@ static PyType_Spec spec = {"dadofennel._native.Masker", sizeof(Masker), 0, Py_TP
 static PyMethodDef functions[] = {
     {"masker", masker, METH_VARARGS, "Begins a masker of a core, which masks with a byte."},
     {"starred", starred, METH_VARARGS, "A text with stars, of its UTF-8 and of that with COVERED where it is masked."},
+    {NULL, NULL, 0, NULL},
 };
 
 int maskers_ready(PyObject *module) {
-    size_t i;
-    masker_type = (PyTypeObject *)PyType_FromSpec(&spec);
-    if (masker_type == NULL || PyModule_AddIntConstant(module, "COVERED", COVERED) < 0) return -1;
-    for (i = 0; i < sizeof functions / sizeof functions[0]; i++) {
-        PyObject *function = PyCFunction_NewEx(&functions[i], NULL, NULL);
-        if (function == NULL || PyModule_AddObject(module, functions[i].ml_name, function) < 0) return -1;
-    }
-    return 0;
+    State *state = state_of(module);
+    state->masker_type = type_made(module, &spec, NULL);
+    if (state->masker_type == NULL || PyModule_AddIntConstant(module, "COVERED", COVERED) < 0) return -1;
+    return PyModule_AddFunctions(module, functions);
 }

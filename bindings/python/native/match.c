@@ -1,17 +1,11 @@
 /* Matches: tuples of three numbers, each with a reference to the text that was searched. */
 #include "native.h"
 
-PyTypeObject *match_type;
+/* The type that `Match` is derived from is a tuple that has a place for one reference more, after its items. Each object of the type has
+ * that place, however it was made, since the type's basic size counts it. It is NULL where no text is held. */
 
-/* The type that `Match` is derived from: a tuple that has a place for one reference more, after its items. Each object of the type has that
- * place, however it was made, since the type's basic size counts it. It is NULL where no text is held. */
-static PyTypeObject *held_type;
 /* How far after its beginning a tuple has its items. */
 static size_t items_at;
-/* Whether the memory of a match may be set at once. From CPython 3.14 on a tuple has more than its size and its items. */
-static int at_once;
-/* `tuple.__new__`, which makes a match where that isn't so. */
-static PyObject *tuple_new;
 
 enum { NUMBERS = 3 };
 
@@ -33,8 +27,8 @@ static int numbers_of(const dado_match *it, size_t shift, PyObject **out) {
 int is_plain(PyObject *text) { return PyUnicode_CheckExact(text) || PyBytes_CheckExact(text) || PyByteArray_CheckExact(text); }
 
 /* A match, whose memory is set here. The numbers and a plain text lead nowhere, so then the collector needn't look at it. */
-static PyObject *made_at_once(PyObject *const *numbers, PyObject *text) {
-    PyObject *made = (PyObject *)PyObject_GC_NewVar(PyVarObject, match_type, NUMBERS), **items;
+static PyObject *made_at_once(const State *state, PyObject *const *numbers, PyObject *text) {
+    PyObject *made = (PyObject *)PyObject_GC_NewVar(PyVarObject, state->match_type, NUMBERS), **items;
     int i;
     if (made == NULL) return NULL;
     for (items = items_of(made), i = 0; i < NUMBERS; i++) items[i] = numbers[i];
@@ -44,12 +38,12 @@ static PyObject *made_at_once(PyObject *const *numbers, PyObject *text) {
     return made;
 }
 
-static PyObject *made_by_call(PyObject *const *numbers, PyObject *text) {
+static PyObject *made_by_call(const State *state, PyObject *const *numbers, PyObject *text) {
     PyObject *made = NULL, *plain = PyTuple_New(NUMBERS);
     int i;
     if (plain == NULL) return NULL;
     for (i = 0; i < NUMBERS; i++) Py_INCREF(numbers[i]), PyTuple_SetItem(plain, i, numbers[i]);
-    made = PyObject_CallFunctionObjArgs(tuple_new, (PyObject *)match_type, plain, NULL);
+    made = PyObject_CallFunctionObjArgs(state->tuple_new, (PyObject *)state->match_type, plain, NULL);
     Py_DECREF(plain);
     if (made == NULL) return NULL;
     for (i = 0; i < NUMBERS; i++) Py_DECREF(numbers[i]);
@@ -58,11 +52,18 @@ static PyObject *made_by_call(PyObject *const *numbers, PyObject *text) {
     return made;
 }
 
-PyObject *match_of(const dado_match *it, size_t shift, PyObject *text) {
+/* Whether there is a type of matches; else that is what was raised. */
+static int has_match_type(const State *state) {
+    if (state->match_type != NULL) return 1;
+    PyErr_SetString(PyExc_RuntimeError, "the module has no type of matches");
+    return 0;
+}
+
+PyObject *match_of(const State *state, const dado_match *it, size_t shift, PyObject *text) {
     PyObject *numbers[NUMBERS], *made;
     int i;
-    if (numbers_of(it, shift, numbers) < 0) return NULL;
-    made = at_once ? made_at_once(numbers, text) : made_by_call(numbers, text);
+    if (!has_match_type(state) || numbers_of(it, shift, numbers) < 0) return NULL;
+    made = state->at_once ? made_at_once(state, numbers, text) : made_by_call(state, numbers, text);
     if (made == NULL)
         for (i = 0; i < NUMBERS; i++) Py_DECREF(numbers[i]);
     return made;
@@ -108,8 +109,8 @@ static PyObject *held_group(PyObject *self, PyObject *args) {
 /* Gives a match a part of a text to hold, and the place where that begins. */
 static PyObject *hold(PyObject *module, PyObject *args) {
     PyObject *match, *part, *before, *at;
-    (void)module;
-    if (!PyArg_ParseTuple(args, "O!OO!", match_type, &match, &part, &PyLong_Type, &at)) return NULL;
+    const State *state = state_of(module);
+    if (!has_match_type(state) || !PyArg_ParseTuple(args, "O!OO!", state->match_type, &match, &part, &PyLong_Type, &at)) return NULL;
     part = PyTuple_Pack(2, part, at);
     if (part == NULL) return NULL;
     before = *text_at(match), *text_at(match) = part;
@@ -160,13 +161,13 @@ static PyMethodDef methods[] = {
 static PyType_Slot slots[] = {{Py_tp_dealloc, held_free}, {Py_tp_traverse, held_visit}, {Py_tp_clear, held_clear},
                               {Py_tp_getset, fields},     {Py_tp_methods, methods},     {0, NULL}};
 
-/* Whether a match that is made at once is as one that a call makes. */
-static int is_as_called(void) {
+/* Whether a match that is made at once is as one that a call makes. From CPython 3.14 on a tuple has more than its size and its items. */
+static int is_as_called(State *state) {
     static const dado_match sample = {1000, 2000, 3};
     PyObject *made, *called;
     int same = -1;
-    at_once = 0, called = match_of(&sample, 0, NULL);
-    at_once = 1, made = match_of(&sample, 0, NULL);
+    state->at_once = 0, called = match_of(state, &sample, 0, NULL);
+    state->at_once = 1, made = match_of(state, &sample, 0, NULL);
     if (called != NULL && made != NULL) same = PyObject_RichCompareBool(called, made, Py_EQ);
     if (same == 1) same = PyObject_Hash(called) == PyObject_Hash(made);
     Py_XDECREF(called), Py_XDECREF(made);
@@ -181,33 +182,39 @@ static Py_ssize_t basic_size(PyObject *type) {
 }
 
 /* Takes the type of matches, which must have nothing that its base hasn't. */
-int take_match_type(PyObject *type) {
+int take_match_type(State *state, PyObject *type) {
+    PyTypeObject *before = state->match_type;
     int same = 0;
-    if (!PyType_Check(type) || !PyType_IsSubtype((PyTypeObject *)type, held_type) ||
-        basic_size(type) != basic_size((PyObject *)held_type)) {
+    if (!PyType_Check(type) || !PyType_IsSubtype((PyTypeObject *)type, state->held_type) ||
+        basic_size(type) != basic_size((PyObject *)state->held_type)) {
         if (!PyErr_Occurred()) PyErr_SetString(PyExc_TypeError, "matches are of a type that is derived from Held, and has no more fields");
         return -1;
     }
     Py_INCREF(type);
-    match_type = (PyTypeObject *)type;
-    if (items_at == sizeof(PyVarObject)) same = is_as_called();
-    at_once = same == 1;
+    state->match_type = (PyTypeObject *)type;
+    Py_XDECREF(before);
+    if (items_at == sizeof(PyVarObject)) same = is_as_called(state);
+    state->at_once = same == 1;
     return same < 0 ? -1 : 0;
 }
 
-static PyMethodDef hold_function = {"hold", hold, METH_VARARGS, "Gives a match a part of a text, and the place where that begins."};
+static PyMethodDef functions[] = {
+    {"hold", hold, METH_VARARGS, "Gives a match a part of a text, and the place where that begins."},
+    {NULL, NULL, 0, NULL},
+};
 
 int matches_ready(PyObject *module) {
     PyType_Spec spec = {"dadofennel._native.Held", 0, sizeof(PyObject *), Py_TPFLAGS_DEFAULT | Py_TPFLAGS_BASETYPE | Py_TPFLAGS_HAVE_GC, slots};
-    PyObject *bases = PyTuple_Pack(1, (PyObject *)&PyTuple_Type), *function = PyCFunction_NewEx(&hold_function, NULL, NULL);
+    PyObject *bases = PyTuple_Pack(1, (PyObject *)&PyTuple_Type);
     Py_ssize_t size = basic_size((PyObject *)&PyTuple_Type);
-    if (bases == NULL || function == NULL || size < 0) return -1;
+    State *state = state_of(module);
+    if (bases == NULL || size < 0) return -1;
     items_at = (size_t)size;
     spec.basicsize = (int)(items_at + sizeof(PyObject *));
-    held_type = (PyTypeObject *)PyType_FromSpecWithBases(&spec, bases);
-    tuple_new = PyObject_GetAttrString((PyObject *)&PyTuple_Type, "__new__");
+    state->held_type = (PyTypeObject *)PyType_FromSpecWithBases(&spec, bases);
+    state->tuple_new = PyObject_GetAttrString((PyObject *)&PyTuple_Type, "__new__");
     Py_DECREF(bases);
-    if (held_type == NULL || tuple_new == NULL || PyModule_AddObject(module, "hold", function) < 0) return -1;
-    Py_INCREF(held_type);
-    return PyModule_AddObject(module, "Held", (PyObject *)held_type);
+    if (state->held_type == NULL || state->tuple_new == NULL || PyModule_AddFunctions(module, functions) < 0) return -1;
+    Py_INCREF(state->held_type);
+    return PyModule_AddObject(module, "Held", (PyObject *)state->held_type);
 }

@@ -1,18 +1,81 @@
 /* The module, what it raises, and the arguments of its calls. */
 #include "native.h"
 
-PyObject *error_type;
 int visits_type;
 
-int refuse(dado_status status) {
-    PyObject *given;
-    if (status == DADO_NO_MEMORY) {
-        PyErr_SetString(PyExc_MemoryError, dado_error_text(status));
-        return -1;
+/* ---- What a module has ---- */
+
+State *state_of(PyObject *module) { return (State *)PyModule_GetState(module); }
+
+State *state_held(State *it) {
+    Py_INCREF(it->module);
+    return it;
+}
+
+void state_let_go(State *it) {
+    if (it != NULL) Py_DECREF(it->module);
+}
+
+static int state_visit(PyObject *module, visitproc visit, void *arg) {
+    State *it = state_of(module);
+    if (it == NULL) return 0; /* it isn't made yet */
+#define FIELD(type, name) Py_VISIT(it->name);
+    STATE_FIELDS(FIELD)
+#undef FIELD
+    return 0;
+}
+
+/* Lets go of what is of Python, by which alone a module may be held by what it holds. */
+static int state_clear(PyObject *module) {
+    State *it = state_of(module);
+    if (it == NULL) return 0;
+    Py_CLEAR(it->match_type);
+    Py_CLEAR(it->error_type);
+    Py_CLEAR(it->set_function);
+    return 0;
+}
+
+static void state_free(void *module) {
+    State *it = state_of((PyObject *)module);
+    if (it == NULL) return;
+#define FIELD(type, name) Py_CLEAR(it->name);
+    STATE_FIELDS(FIELD)
+#undef FIELD
+}
+
+PyTypeObject *type_made(PyObject *module, PyType_Spec *spec, const char *name) {
+    PyObject *type = PyType_FromSpec(spec);
+    if (type == NULL || name == NULL) return (PyTypeObject *)type;
+    Py_INCREF(type);
+    if (PyModule_AddObject(module, name, type) == 0) return (PyTypeObject *)type;
+    Py_DECREF(type), Py_DECREF(type);
+    return NULL;
+}
+
+int is_freed_by(PyObject *it, destructor free_it) {
+    PyTypeObject *type = Py_TYPE(it);
+    while (type != NULL && (PyType_GetFlags(type) & Py_TPFLAGS_HEAPTYPE) != 0) {
+        if ((destructor)PyType_GetSlot(type, Py_tp_dealloc) == free_it) return 1;
+        type = (PyTypeObject *)PyType_GetSlot(type, Py_tp_base);
     }
+    return 0;
+}
+
+/* ---- What it raises ---- */
+
+int no_memory(void) {
+    PyErr_SetString(PyExc_MemoryError, dado_error_text(DADO_NO_MEMORY));
+    return -1;
+}
+
+int refuse(const State *state, dado_status status) {
+    PyObject *given, *type = state->error_type == NULL ? PyExc_RuntimeError : state->error_type;
+    if (status == DADO_NO_MEMORY) return no_memory();
+    Py_INCREF(type); /* its `__init__` is of Python, and may do anything */
     given = PyLong_FromUnsignedLong(status);
-    if (given != NULL) PyErr_SetObject(error_type, given);
+    if (given != NULL) PyErr_SetObject(type, given);
     Py_XDECREF(given);
+    Py_DECREF(type);
     return -1;
 }
 
@@ -23,6 +86,8 @@ int wrong_type(const char *name, PyObject *it, const char *wanted) {
     Py_XDECREF(type);
     return -1;
 }
+
+/* ---- Arguments ---- */
 
 int is_true(PyObject *it) {
     if (it == NULL || it == Py_False) return 0;
@@ -76,15 +141,17 @@ int arguments_of(const Signature *it, PyObject *const *given, Py_ssize_t count, 
     return check_count(it, count, out);
 }
 
+/* ---- The module ---- */
+
 /* Takes the types that the calls make: `Match` and `Error`. */
 static PyObject *use(PyObject *module, PyObject *types) {
-    PyObject *match, *error;
-    (void)module;
-    if (!PyArg_ParseTuple(types, "OO", &match, &error)) return NULL;
-    if (take_match_type(match) < 0) return NULL;
+    PyObject *match, *error, *before;
+    State *state = state_of(module);
+    if (!PyArg_ParseTuple(types, "OO", &match, &error) || take_match_type(state, match) < 0) return NULL;
     Py_INCREF(error);
-    Py_XDECREF(error_type);
-    error_type = error;
+    before = state->error_type;
+    state->error_type = error;
+    Py_XDECREF(before);
     Py_RETURN_NONE;
 }
 
@@ -132,11 +199,6 @@ static PyMethodDef functions[] = {
     {NULL, NULL, 0, NULL},
 };
 
-static struct PyModuleDef definition = {
-    PyModuleDef_HEAD_INIT, "dadofennel._native", "The library for C: see dadofennel.h for what its calls do.", -1, functions,
-    NULL, NULL, NULL, NULL,
-};
-
 static const struct {
     const char *name;
     long value;
@@ -170,6 +232,7 @@ static int add_words(PyObject *module, const char *name, const char *const *word
 static int add_all(PyObject *module) {
     PyObject *version = PySys_GetObject("hexversion");
     size_t i;
+    state_of(module)->module = module;
     visits_type = version != NULL && PyLong_AsLong(version) >= 0x03090000;
     for (i = 0; i < sizeof constants / sizeof constants[0]; i++)
         if (PyModule_AddIntConstant(module, constants[i].name, constants[i].value) < 0) return -1;
@@ -181,15 +244,18 @@ static int add_all(PyObject *module) {
     return maskers_ready(module);
 }
 
+/* Each import makes a module of its own. What all of them share, the fields of a `str` and what tests set, is kept by the one lock of their
+ * interpreters: an interpreter with a lock of its own refuses a module that doesn't say that it is for those. */
+static PyModuleDef_Slot module_slots[] = {{Py_mod_exec, add_all}, {0, NULL}};
+static struct PyModuleDef definition = {
+    PyModuleDef_HEAD_INIT, "dadofennel._native", "The library for C: see dadofennel.h for what its calls do.", sizeof(State), functions,
+    module_slots, state_visit, state_clear, state_free,
+};
+
 /* The one symbol that the module shows. The headers before 3.9 don't say so. */
 #ifdef __GNUC__
 __attribute__((visibility("default")))
 #endif
 PyMODINIT_FUNC PyInit__native(void);
 
-/* What the module keeps is kept once for all interpreters of a process, so it can't be loaded into one with a lock of its own. */
-PyMODINIT_FUNC PyInit__native(void) {
-    PyObject *module = PyModule_Create(&definition);
-    if (module != NULL && add_all(module) < 0) Py_CLEAR(module);
-    return module;
-}
+PyMODINIT_FUNC PyInit__native(void) { return PyModuleDef_Init(&definition); }

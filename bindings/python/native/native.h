@@ -1,5 +1,5 @@
 /* The extension module `dadofennel._native`: what its files share. All of it runs with the interpreter's lock, but for the calls of the
- * library over long texts. */
+ * library over long texts. What isn't in the state of a module is the same in all interpreters of a process, which share that lock. */
 #ifndef DADOFENNEL_NATIVE_H
 #define DADOFENNEL_NATIVE_H
 
@@ -17,15 +17,49 @@ enum {
 
 /* ---- module.c ---- */
 
-/* `dadofennel.Error`; it is there once `use` was called. */
-extern PyObject *error_type;
+/* What a module has, of which each interpreter has one of its own, and more where it was imported again. An object that needs it holds the
+ * module. The first three are of Python, and may be NULL: before they were set, and once the collector has let go of the module. */
+#define STATE_FIELDS(FIELD)                                                                                                             \
+    FIELD(PyTypeObject, match_type)                                                                                                     \
+    FIELD(PyObject, error_type)                                                                                                         \
+    FIELD(PyObject, set_function) /* sets another string: of dadofennel.ahocorasick */                                                  \
+    FIELD(PyTypeObject, held_type)                                                                                                      \
+    FIELD(PyTypeObject, owner_type)                                                                                                     \
+    FIELD(PyTypeObject, core_type)                                                                                                      \
+    FIELD(PyTypeObject, found_type)                                                                                                     \
+    FIELD(PyTypeObject, walk_type)                                                                                                      \
+    FIELD(PyTypeObject, batches_type)                                                                                                   \
+    FIELD(PyTypeObject, change_type)                                                                                                    \
+    FIELD(PyTypeObject, pairs_type)                                                                                                     \
+    FIELD(PyTypeObject, pieces_type)                                                                                                    \
+    FIELD(PyTypeObject, masker_type)                                                                                                    \
+    FIELD(PyObject, tuple_new) /* `tuple.__new__` */                                                                                    \
+    FIELD(PyObject, nothing)   /* the iterator of no match, which all searches share that find none */
+
+typedef struct {
+    PyObject *module;             /* borrowed */
+    int at_once;                  /* whether the memory of a match may be set at once */
+#define FIELD(type, name) type *name;
+    STATE_FIELDS(FIELD)
+#undef FIELD
+} State;
+
+State *state_of(PyObject *module);
+/* Holds the module of a state, and lets go of it. */
+State *state_held(State *it);
+void state_let_go(State *it);
+/* Makes a type of the module, which has it by its name, if that isn't NULL. NULL with an exception. */
+PyTypeObject *type_made(PyObject *module, PyType_Spec *spec, const char *name);
+/* Whether an object is of a type of `PyType_FromSpec` that is freed so, or of one that is derived from it. */
+int is_freed_by(PyObject *it, destructor free_it);
 /* Whether a type of `PyType_FromSpec` that others are derived from has to visit the type of its instances: from 3.9 on. */
 extern int visits_type;
 
 /* Raises a `TypeError` which says what an argument is, and what it has to be; -1. */
 int wrong_type(const char *name, PyObject *it, const char *wanted);
-/* Raises what a status says, and returns -1. */
-int refuse(dado_status status);
+/* Raises what a status says, and returns -1; so does the other where memory ran out. */
+int refuse(const State *state, dado_status status);
+int no_memory(void);
 /* The arguments of a call, by their names. Those that weren't given are NULL; the first `needed` must be. */
 typedef struct {
     const char *call;
@@ -38,13 +72,10 @@ int is_true(PyObject *it);
 
 /* ---- match.c ---- */
 
-/* `dadofennel.Match`; it is there once `use` was called. */
-extern PyTypeObject *match_type;
-
 int matches_ready(PyObject *module);
-int take_match_type(PyObject *type);
+int take_match_type(State *state, PyObject *type);
 /* A new `Match`; `shift` is added to its places. It holds the text, which may be NULL. */
-PyObject *match_of(const dado_match *it, size_t shift, PyObject *text);
+PyObject *match_of(const State *state, const dado_match *it, size_t shift, PyObject *text);
 /* Whether a text is a `str`, `bytes` or `bytearray` itself, which refers to nothing. */
 int is_plain(PyObject *text);
 
@@ -53,6 +84,7 @@ int is_plain(PyObject *text);
 /* An automaton of the library. It is freed with this object, and each call with it holds the object. */
 typedef struct {
     PyObject_HEAD
+    State *state;                 /* held */
     dado_automaton *handle;
 } Owner;
 
@@ -71,8 +103,10 @@ typedef struct {
     size_t longest, count, distinct; /* the longest pattern, in characters; how many there are, and how many unlike ones */
 } Core;
 
-extern PyTypeObject *owner_type, *core_type;
+/* The state of a core that was begun. */
+#define STATE(core) ((core)->plain->state)
 int owners_ready(PyObject *module);
+int is_core(PyObject *it);
 /* Whether it was built for searches that are anchored so; for all occurrences; for whole words. -1 with the error, if not. */
 int serves(const Core *core, int anchored);
 int serves_listing(const Core *core);
@@ -160,7 +194,7 @@ dado_status some(const dado_automaton *ac, Going *it, const Haystack *text, dado
 PyObject *walk_new(Haystack *text, PyObject *source, const uint8_t *near, const Going *going, const dado_match *found, size_t count,
                    int is_over, int as_lists);
 /* An iterator over some matches of a text that is plain. */
-PyObject *found_new(const dado_match *found, size_t count, size_t shift, PyObject *source);
+PyObject *found_new(State *state, const dado_match *found, size_t count, size_t shift, PyObject *source);
 /* The patterns, starts and ends of some matches, as three lists. */
 PyObject *lists_of(const dado_match *found, size_t count, size_t shift);
 

@@ -3,13 +3,13 @@
 
 #include <stdlib.h>
 
-PyTypeObject *owner_type, *core_type;
-
 static void owner_free(PyObject *self) {
     PyTypeObject *type = Py_TYPE(self);
+    State *state = ((Owner *)self)->state;
     dado_free(&((Owner *)self)->handle);
     PyObject_Free(self);
     Py_DECREF(type);
+    state_let_go(state);
 }
 
 static PyType_Slot owner_slots[] = {{Py_tp_dealloc, owner_free}, {0, NULL}};
@@ -52,17 +52,17 @@ static dado_bytes *slices_of(PyObject *patterns, size_t count) {
 }
 
 /* Builds, and gives the status, the owner, and what is known of a fault. */
-static PyObject *built(PyObject *patterns, const dado_settings *settings) {
+static PyObject *built(State *state, PyObject *patterns, const dado_settings *settings) {
     Py_ssize_t count = PyTuple_Size(patterns);
     dado_bytes *slices = count < 0 ? NULL : slices_of(patterns, (size_t)count);
-    Owner *owner = slices == NULL ? NULL : PyObject_New(Owner, owner_type);
+    Owner *owner = slices == NULL ? NULL : PyObject_New(Owner, state->owner_type);
     dado_fault fault = {0, 0};
     dado_status status;
     if (owner == NULL) {
         free(slices);
         return NULL;
     }
-    owner->handle = NULL;
+    owner->state = state_held(state), owner->handle = NULL;
     Py_BEGIN_ALLOW_THREADS
     status = dado_build(slices, (size_t)count, settings, &owner->handle, &fault);
     Py_END_ALLOW_THREADS
@@ -84,7 +84,6 @@ static PyObject *build(PyObject *module, PyObject *given) {
     int fold, prefilter, byte_classes;
     PyObject *depth, *memory;
     dado_pair *pairs;
-    (void)module;
     if (!PyArg_ParseTuple(given, "O!IIIpppOOS", &PyTuple_Type, &patterns, &kind, &start_kind, &engine, &fold, &prefilter, &byte_classes,
                           &depth, &memory, &raw))
         return NULL;
@@ -94,7 +93,7 @@ static PyObject *build(PyObject *module, PyObject *given) {
     settings.kind = kind, settings.start_kind = start_kind, settings.engine = engine;
     settings.fold = (uint32_t)fold, settings.prefilter = (uint32_t)prefilter, settings.byte_classes = (uint32_t)byte_classes;
     settings.pairs = pairs;
-    result = built(patterns, &settings);
+    result = built(state_of(module), patterns, &settings);
     free(pairs);
     return result;
 }
@@ -111,6 +110,8 @@ static void core_free(PyObject *self) {
     free_memory(self);
     Py_DECREF(type);
 }
+
+int is_core(PyObject *it) { return is_freed_by(it, core_free); }
 
 /* Takes the codes of characters: the table, the code of all others, and whether Latin-1 is its own code. */
 static int take_codes(Core *core, PyObject *codes) {
@@ -142,9 +143,12 @@ static PyObject *core_begin(PyObject *self, PyObject *given) {
         PyErr_SetString(PyExc_TypeError, "it was begun before");
         return NULL;
     }
-    if (!PyArg_ParseTuple(given, "O!iIIpnnnO", owner_type, &plain, &core->text, &kind, &start_kind, &core->any_empty, &longest, &count,
-                          &distinct, &codes))
+    if (!PyArg_ParseTuple(given, "OiIIpnnnO", &plain, &core->text, &kind, &start_kind, &core->any_empty, &longest, &count, &distinct, &codes))
         return NULL;
+    if (!is_freed_by(plain, owner_free)) {
+        wrong_type("plain", plain, "an automaton of the library");
+        return NULL;
+    }
     core->kind = kind, core->start_kind = start_kind;
     core->longest = (size_t)longest, core->count = (size_t)count, core->distinct = (size_t)distinct;
     Py_INCREF(plain);
@@ -197,17 +201,17 @@ static PyType_Slot core_slots[] = {{Py_tp_dealloc, core_free}, {Py_tp_methods, c
 static PyType_Spec core_spec = {"dadofennel._native.Core", sizeof(Core), 0, Py_TPFLAGS_DEFAULT | Py_TPFLAGS_BASETYPE, core_slots};
 
 int serves(const Core *core, int anchored) {
-    if (anchored && core->start_kind == DADO_UNANCHORED) return refuse(DADO_NOT_ANCHORED);
-    if (!anchored && core->start_kind == DADO_ANCHORED) return refuse(DADO_NOT_UNANCHORED);
+    if (anchored && core->start_kind == DADO_UNANCHORED) return refuse(STATE(core), DADO_NOT_ANCHORED);
+    if (!anchored && core->start_kind == DADO_ANCHORED) return refuse(STATE(core), DADO_NOT_UNANCHORED);
     return 0;
 }
 
-int serves_listing(const Core *core) { return core->kind != DADO_STANDARD ? refuse(DADO_NOT_STANDARD) : serves(core, 0); }
+int serves_listing(const Core *core) { return core->kind != DADO_STANDARD ? refuse(STATE(core), DADO_NOT_STANDARD) : serves(core, 0); }
 
 int serves_words(const Core *core) {
     if (serves(core, 0) < 0) return -1;
-    if (core->kind != DADO_STANDARD) return refuse(DADO_NOT_STANDARD);
-    return core->any_empty ? refuse(DADO_EMPTY_PATTERN) : 0;
+    if (core->kind != DADO_STANDARD) return refuse(STATE(core), DADO_NOT_STANDARD);
+    return core->any_empty ? refuse(STATE(core), DADO_EMPTY_PATTERN) : 0;
 }
 
 /* Python's part of a core makes it: one thread does, and others wait. */
@@ -216,7 +220,7 @@ Owner *coded_of(Core *core) {
     if (core->coded != NULL) return core->coded;
     made = PyObject_CallMethod((PyObject *)core, "by_codes", NULL);
     if (made == NULL) return NULL;
-    if (!PyObject_TypeCheck(made, owner_type)) {
+    if (!is_freed_by(made, owner_free)) {
         PyErr_SetString(PyExc_TypeError, "by_codes gave no automaton");
         Py_DECREF(made);
         return NULL;
@@ -228,15 +232,14 @@ Owner *coded_of(Core *core) {
 
 /* ---- The module's part ---- */
 
-static PyMethodDef build_function = {"build", build, METH_VARARGS,
-                                     "Builds an automaton: gives the status, its owner, and the count and pattern of a fault."};
+static PyMethodDef functions[] = {
+    {"build", build, METH_VARARGS, "Builds an automaton: gives the status, its owner, and the count and pattern of a fault."},
+    {NULL, NULL, 0, NULL},
+};
 
 int owners_ready(PyObject *module) {
-    PyObject *function = PyCFunction_NewEx(&build_function, NULL, NULL);
-    owner_type = (PyTypeObject *)PyType_FromSpec(&owner_spec);
-    core_type = (PyTypeObject *)PyType_FromSpec(&core_spec);
-    if (function == NULL || owner_type == NULL || core_type == NULL) return -1;
-    Py_INCREF(owner_type), Py_INCREF(core_type);
-    if (PyModule_AddObject(module, "build", function) < 0 || PyModule_AddObject(module, "Owner", (PyObject *)owner_type) < 0) return -1;
-    return PyModule_AddObject(module, "Core", (PyObject *)core_type);
+    State *state = state_of(module);
+    state->owner_type = type_made(module, &owner_spec, "Owner");
+    state->core_type = type_made(module, &core_spec, "Core");
+    return state->owner_type == NULL || state->core_type == NULL ? -1 : PyModule_AddFunctions(module, functions);
 }

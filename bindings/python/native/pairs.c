@@ -14,16 +14,13 @@ typedef struct {
 /* Pairs of the place of a match's last character, and the value of its word. Once there is `after`, that gives the pairs. */
 typedef struct {
     PyObject_VAR_HEAD
+    State *state;                 /* held */
     Change *change;
     PyObject *values, *given, *after;
     Py_ssize_t next, count;
     int has_ended;                /* whether it was asked for more than there are */
     dado_match at[1];
 } Pairs;
-
-static PyTypeObject *change_type, *pairs_type;
-/* What sets another string: of dadofennel.ahocorasick. */
-static PyObject *set_function;
 
 static PyObject *change_end(PyObject *self, PyObject *none) {
     (void)none;
@@ -96,14 +93,22 @@ static PyObject *pairs_go_on(PyObject *self, PyObject *after) {
 /* Goes on with another string: Python's part does it, by a search of its own. */
 static PyObject *pairs_set(PyObject *self, PyObject *args, PyObject *named) {
     static char *names[] = {"string", "reset", NULL};
-    PyObject *string, *reset = Py_False;
+    PyObject *string, *reset = Py_False, *set = ((Pairs *)self)->state->set_function, *done;
     if (!PyArg_ParseTupleAndKeywords(args, named, "O|O:set", names, &string, &reset)) return NULL;
-    return PyObject_CallFunctionObjArgs(set_function, self, string, reset, NULL);
+    if (set == NULL) {
+        PyErr_SetString(PyExc_RuntimeError, "the module has nothing that sets a string");
+        return NULL;
+    }
+    Py_INCREF(set);
+    done = PyObject_CallFunctionObjArgs(set, self, string, reset, NULL);
+    Py_DECREF(set);
+    return done;
 }
 
 static int pairs_visit(PyObject *self, visitproc visit, void *arg) {
     Pairs *it = (Pairs *)self;
     Py_VISIT(Py_TYPE(self));
+    Py_VISIT(it->state->module);
     Py_VISIT(it->values);
     Py_VISIT(it->given);
     Py_VISIT(it->after);
@@ -120,12 +125,14 @@ static int pairs_clear(PyObject *self) {
 
 static void pairs_free(PyObject *self) {
     PyTypeObject *type = Py_TYPE(self);
+    State *state = ((Pairs *)self)->state;
     PyObject_GC_UnTrack(self);
     pairs_clear(self);
     Py_CLEAR(((Pairs *)self)->values);
     Py_CLEAR(((Pairs *)self)->change);
     PyObject_GC_Del(self);
     Py_DECREF(type);
+    state_let_go(state);
 }
 
 static PyMethodDef pairs_methods[] = {
@@ -147,9 +154,11 @@ static PyType_Spec pairs_spec = {"dadofennel._native.Pairs", offsetof(Pairs, at)
 enum { MOST = 256 };
 
 static PyObject *pairs_of(Change *change, PyObject *values, PyObject *given, const Haystack *text, const dado_match *found, size_t count) {
-    Pairs *made = PyObject_GC_NewVar(Pairs, pairs_type, (Py_ssize_t)count);
+    State *state = STATE(text->core);
+    Pairs *made = PyObject_GC_NewVar(Pairs, state->pairs_type, (Py_ssize_t)count);
     size_t i;
     if (made == NULL) return NULL;
+    made->state = state_held(state);
     Py_INCREF(change), Py_INCREF(values), Py_INCREF(given);
     made->change = change, made->values = values, made->given = given, made->after = NULL;
     made->next = 0, made->count = (Py_ssize_t)count, made->has_ended = 0;
@@ -170,8 +179,8 @@ static PyObject *pairs(PyObject *module, PyObject *const *args, Py_ssize_t count
     PyObject *made = NULL;
     int listed;
     dado_status status = DADO_NONE;
-    (void)module;
-    if (count != 8 || !PyObject_TypeCheck(args[0], core_type) || Py_TYPE(args[1]) != change_type || !PyList_Check(args[2])) {
+    const State *state = state_of(module);
+    if (count != 8 || !PyObject_TypeCheck(args[0], state->core_type) || Py_TYPE(args[1]) != state->change_type || !PyList_Check(args[2])) {
         PyErr_SetString(PyExc_TypeError, "pairs are of a core, a change, values, what was given, a text, two bounds and a truth value");
         return NULL;
     }
@@ -183,7 +192,7 @@ static PyObject *pairs(PyObject *module, PyObject *const *args, Py_ssize_t count
     if (owner != NULL) status = some(owner->handle, &going, &text, found, MOST, &written);
     if (owner != NULL && status <= DADO_NONE && text.is_counted)
         status = dado_in_characters(text.at, text.len, &text.counted, found, &written);
-    if (status > DADO_NONE) refuse(status);
+    if (status > DADO_NONE) refuse(state, status);
     else if (owner != NULL && written < MOST) made = pairs_of((Change *)args[1], args[2], args[3], &text, found, written);
     else if (!PyErr_Occurred()) made = Py_None, Py_INCREF(made);
     release(&text);
@@ -192,10 +201,10 @@ static PyObject *pairs(PyObject *module, PyObject *const *args, Py_ssize_t count
 
 /* Takes the function that sets another string. */
 static PyObject *use_set(PyObject *module, PyObject *function) {
-    PyObject *before = set_function;
-    (void)module;
+    State *state = state_of(module);
+    PyObject *before = state->set_function;
     Py_INCREF(function);
-    set_function = function;
+    state->set_function = function;
     Py_XDECREF(before);
     Py_RETURN_NONE;
 }
@@ -203,19 +212,12 @@ static PyObject *use_set(PyObject *module, PyObject *function) {
 static PyMethodDef functions[] = {
     {"pairs", QUICK(pairs), METH_FASTCALL, "The pairs of a short text, or None."},
     {"use_set", use_set, METH_O, "Takes the function that sets another string."},
+    {NULL, NULL, 0, NULL},
 };
 
 int pairs_ready(PyObject *module) {
-    size_t i;
-    change_type = (PyTypeObject *)PyType_FromSpec(&change_spec);
-    pairs_type = (PyTypeObject *)PyType_FromSpec(&pairs_spec);
-    if (change_type == NULL || pairs_type == NULL) return -1;
-    Py_INCREF(change_type), Py_INCREF(pairs_type);
-    if (PyModule_AddObject(module, "Change", (PyObject *)change_type) < 0) return -1;
-    if (PyModule_AddObject(module, "Pairs", (PyObject *)pairs_type) < 0) return -1;
-    for (i = 0; i < sizeof functions / sizeof functions[0]; i++) {
-        PyObject *function = PyCFunction_NewEx(&functions[i], NULL, NULL);
-        if (function == NULL || PyModule_AddObject(module, functions[i].ml_name, function) < 0) return -1;
-    }
-    return 0;
+    State *state = state_of(module);
+    state->change_type = type_made(module, &change_spec, "Change");
+    state->pairs_type = type_made(module, &pairs_spec, "Pairs");
+    return state->change_type == NULL || state->pairs_type == NULL ? -1 : PyModule_AddFunctions(module, functions);
 }

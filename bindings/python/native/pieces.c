@@ -8,16 +8,23 @@ enum { ROOM = 256 };
 
 typedef struct {
     PyObject_HEAD
+    State *state;                 /* held */
     dado_stream *handle;
 } Pieces;
 
-static PyTypeObject *pieces_type;
-
 static void pieces_free(PyObject *self) {
     PyTypeObject *type = Py_TYPE(self);
+    State *state = ((Pieces *)self)->state;
     dado_stream_free(&((Pieces *)self)->handle);
     PyObject_Free(self);
     Py_DECREF(type);
+    state_let_go(state);
+}
+
+/* Raises what a status says; NULL. */
+static PyObject *pieces_refuse(PyObject *self, dado_status status) {
+    refuse(((Pieces *)self)->state, status);
+    return NULL;
 }
 
 static dado_status make(const dado_automaton *ac, int words, unsigned long number, dado_stream **made) {
@@ -31,16 +38,16 @@ static PyObject *stream(PyObject *module, PyObject *args) {
     Pieces *made;
     dado_status status;
     unsigned long number = 0;
-    (void)module;
-    if (!PyArg_ParseTuple(args, "O!O", owner_type, &owner, &kind)) return NULL;
+    State *state = state_of(module);
+    if (!PyArg_ParseTuple(args, "O!O", state->owner_type, &owner, &kind)) return NULL;
     if (kind != Py_None && (number = PyLong_AsUnsignedLong(kind)) == (unsigned long)-1 && PyErr_Occurred()) return NULL;
-    made = PyObject_New(Pieces, pieces_type);
+    made = PyObject_New(Pieces, state->pieces_type);
     if (made == NULL) return NULL;
-    made->handle = NULL;
+    made->state = state_held(state), made->handle = NULL;
     status = make(((Owner *)owner)->handle, kind != Py_None, number, &made->handle);
     if (status == DADO_OK) return (PyObject *)made;
     Py_DECREF(made);
-    refuse(status);
+    refuse(state, status);
     return NULL;
 }
 
@@ -56,9 +63,7 @@ static PyObject *pieces_push(PyObject *self, PyObject *args) {
     length = (size_t)(lent.len - at);
     UNLOCKED(length, status = dado_stream_push(&((Pieces *)self)->handle, length ? (const uint8_t *)lent.buf + at : NULL, length, &taken));
     PyBuffer_Release(&lent);
-    if (status == DADO_OK) return PyLong_FromSize_t(taken);
-    refuse(status);
-    return NULL;
+    return status == DADO_OK ? PyLong_FromSize_t(taken) : pieces_refuse(self, status);
 }
 
 /* The next matches that are decided. -1 with an exception. */
@@ -67,13 +72,13 @@ static int next_some(PyObject *self, dado_match *room, size_t *count) {
     Py_BEGIN_ALLOW_THREADS
     status = dado_stream_some(&((Pieces *)self)->handle, room, ROOM, count);
     Py_END_ALLOW_THREADS
-    return status > DADO_NONE ? refuse(status) : 0;
+    return status > DADO_NONE ? refuse(((Pieces *)self)->state, status) : 0;
 }
 
-static int append_all(PyObject *list, const dado_match *room, size_t count) {
+static int append_all(PyObject *self, PyObject *list, const dado_match *room, size_t count) {
     size_t i;
     for (i = 0; i < count; i++) {
-        PyObject *match = match_of(&room[i], 0, NULL);
+        PyObject *match = match_of(((Pieces *)self)->state, &room[i], 0, NULL);
         int done = match == NULL ? -1 : PyList_Append(list, match);
         Py_XDECREF(match);
         if (done < 0) return -1;
@@ -88,7 +93,7 @@ static PyObject *pieces_matches(PyObject *self, PyObject *none) {
     size_t count = ROOM;
     (void)none;
     while (list != NULL && count == ROOM)
-        if (next_some(self, room, &count) < 0 || append_all(list, room, count) < 0) Py_CLEAR(list);
+        if (next_some(self, room, &count) < 0 || append_all(self, list, room, count) < 0) Py_CLEAR(list);
     return list;
 }
 
@@ -106,16 +111,14 @@ static PyObject *pieces_view(PyObject *self, PyObject *none) {
     dado_status status = dado_stream_view(&((Pieces *)self)->handle, &held);
     (void)none;
     if (status == DADO_OK) return Py_BuildValue("NN", PyLong_FromSize_t(held.from + held.len), PyLong_FromSize_t(held.cut));
-    refuse(status);
-    return NULL;
+    return pieces_refuse(self, status);
 }
 
 static PyObject *pieces_finish(PyObject *self, PyObject *none) {
     dado_status status = dado_stream_finish(&((Pieces *)self)->handle);
     (void)none;
     if (status == DADO_OK) Py_RETURN_NONE;
-    refuse(status);
-    return NULL;
+    return pieces_refuse(self, status);
 }
 
 static PyMethodDef methods[] = {
@@ -130,11 +133,14 @@ static PyMethodDef methods[] = {
 static PyType_Slot slots[] = {{Py_tp_dealloc, pieces_free}, {Py_tp_methods, methods}, {0, NULL}};
 static PyType_Spec spec = {"dadofennel._native.Pieces", sizeof(Pieces), 0, Py_TPFLAGS_DEFAULT, slots};
 
-static PyMethodDef stream_function = {"stream", stream, METH_VARARGS, "Begins a stream of an owner: of matches, or of words."};
+static PyMethodDef functions[] = {
+    {"stream", stream, METH_VARARGS, "Begins a stream of an owner: of matches, or of words."},
+    {NULL, NULL, 0, NULL},
+};
 
 int pieces_ready(PyObject *module) {
-    PyObject *function = PyCFunction_NewEx(&stream_function, NULL, NULL);
-    pieces_type = (PyTypeObject *)PyType_FromSpec(&spec);
-    if (function == NULL || pieces_type == NULL || PyModule_AddObject(module, "stream", function) < 0) return -1;
+    State *state = state_of(module);
+    state->pieces_type = type_made(module, &spec, NULL);
+    if (state->pieces_type == NULL || PyModule_AddFunctions(module, functions) < 0) return -1;
     return PyModule_AddIntConstant(module, "ROOM", ROOM) < 0 ? -1 : PyModule_AddIntConstant(module, "ALL_WORDS", ALL_WORDS);
 }

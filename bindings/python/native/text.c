@@ -165,7 +165,7 @@ int copy_codes(const Core *core, PyObject *text, const Characters *of, size_t st
     if (of->width != 0) {
         const uint8_t *from = of->at + start * of->width;
         UNLOCKED(len, status = dado_narrow(from, of->width, len, core->codes, core->code_count, core->other, to));
-        return status == DADO_OK ? 0 : refuse(status);
+        return status == DADO_OK ? 0 : refuse(STATE(core), status);
     }
     part = PyUnicode_Substring(text, (Py_ssize_t)start, (Py_ssize_t)(start + len));
     if (part == NULL) return -1;
@@ -174,7 +174,7 @@ int copy_codes(const Core *core, PyObject *text, const Characters *of, size_t st
     if (units == NULL) return -1;
     status = dado_narrow(units, 4, len, core->codes, core->code_count, core->other, to);
     PyMem_Free(units);
-    return status == DADO_OK ? 0 : refuse(status);
+    return status == DADO_OK ? 0 : refuse(STATE(core), status);
 }
 
 PyObject *utf8_of(PyObject *text) { return PyUnicode_AsEncodedString(text, "utf-8", "surrogatepass"); }
@@ -224,7 +224,7 @@ static int by_codes(Haystack *out, PyObject *text, const Characters *of, size_t 
     if (how == PARTS && !core->any_empty && out->len > most) out->len = most, out->text = text, out->stop = high;
     if (out->len > SHORT || near == NULL) {
         near = out->copy = malloc(out->len + 1);
-        if (near == NULL) return refuse(DADO_NO_MEMORY);
+        if (near == NULL) return no_memory();
     }
     out->at = near;
     return copy_codes(core, text, of, low, out->len, near);
@@ -294,7 +294,7 @@ int haystack_of(Haystack *out, Core *core, PyObject *text, PyObject *start, PyOb
 int keep_copy(Haystack *it, const uint8_t *near) {
     if (near == NULL || it->at != near) return 0;
     it->copy = malloc(it->len + 1);
-    if (it->copy == NULL) return refuse(DADO_NO_MEMORY);
+    if (it->copy == NULL) return no_memory();
     memcpy(it->copy, near, it->len);
     it->at = it->copy;
     return 0;

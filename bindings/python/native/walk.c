@@ -34,23 +34,21 @@ dado_status some(const dado_automaton *ac, Going *it, const Haystack *text, dado
 
 typedef struct {
     PyObject_VAR_HEAD
+    State *state;                 /* held; NULL where there is no match */
     PyObject *source;
     size_t next, count, shift;
     dado_match at[1];
 } Found;
 
-static PyTypeObject *found_type;
-/* The iterator of no match, which all searches share that find none. */
-static PyObject *nothing;
-
-PyObject *found_new(const dado_match *found, size_t count, size_t shift, PyObject *source) {
+PyObject *found_new(State *state, const dado_match *found, size_t count, size_t shift, PyObject *source) {
     Found *made;
-    if (count == 0 && nothing != NULL) {
-        Py_INCREF(nothing);
-        return nothing;
+    if (count == 0 && state->nothing != NULL) {
+        Py_INCREF(state->nothing);
+        return state->nothing;
     }
-    made = PyObject_NewVar(Found, found_type, (Py_ssize_t)count);
+    made = PyObject_NewVar(Found, state->found_type, (Py_ssize_t)count);
     if (made == NULL) return NULL;
+    made->state = count == 0 ? NULL : state_held(state);
     Py_XINCREF(source);
     made->source = source, made->next = 0, made->count = count, made->shift = shift;
     memcpy(made->at, found, count * sizeof *found);
@@ -59,14 +57,16 @@ PyObject *found_new(const dado_match *found, size_t count, size_t shift, PyObjec
 
 static PyObject *found_next(PyObject *self) {
     Found *it = (Found *)self;
-    return it->next < it->count ? match_of(&it->at[it->next++], it->shift, it->source) : NULL;
+    return it->next < it->count ? match_of(it->state, &it->at[it->next++], it->shift, it->source) : NULL;
 }
 
 static void found_free(PyObject *self) {
     PyTypeObject *type = Py_TYPE(self);
+    State *state = ((Found *)self)->state;
     Py_XDECREF(((Found *)self)->source);
     PyObject_Free(self);
     Py_DECREF(type);
+    state_let_go(state);
 }
 
 static PyType_Slot found_slots[] = {
@@ -88,8 +88,6 @@ typedef struct {
     int part_ends, is_over;       /* whether all of this part was given; whether all of the text was */
     PyThread_type_lock lock;      /* is held while a batch is found, and never while Python's code may run */
 } Walk;
-
-static PyTypeObject *walk_type, *batches_type;
 
 /* How many of these matches no other part can change. */
 static size_t decided(const Walk *it, size_t count) {
@@ -135,7 +133,7 @@ static int make_room(Walk *it) {
     dado_match *room;
     if (it->least <= it->size) return 0;
     room = realloc(it->room, it->least * sizeof *room);
-    if (room == NULL) return refuse(DADO_NO_MEMORY);
+    if (room == NULL) return no_memory();
     it->room = room, it->size = it->least;
     return 0;
 }
@@ -148,12 +146,12 @@ static int find_batch(Walk *it) {
         dado_status status;
         if (owner == NULL || (it->part_ends && go_on(it) < 0) || make_room(it) < 0) return -1;
         UNLOCKED(it->text.len, status = some(owner->handle, &it->going, &it->text, it->room, it->least, &found));
-        if (status > DADO_NONE) return refuse(status);
+        if (status > DADO_NONE) return refuse(STATE(it->core), status);
         kept = decided(it, found);
         settle(it, found, kept);
         if (it->text.is_counted) {
             status = dado_in_characters(it->text.at, it->text.len, &it->text.counted, it->room, &kept);
-            if (status != DADO_OK) return refuse(status);
+            if (status != DADO_OK) return refuse(STATE(it->core), status);
         }
         it->next = 0, it->count = kept;
     }
@@ -200,12 +198,13 @@ static int goes_on(Walk *it) {
 static PyObject *walk_next(PyObject *self) {
     Walk *it = (Walk *)self;
     PyObject *source, *made;
+    Core *core;
     dado_match next;
     if (!goes_on(it)) return NULL;
-    next = it->room[it->next++], source = it->source;
-    Py_INCREF(source); /* another thread may let go of it while the match is made */
-    made = match_of(&next, it->shift, source);
-    Py_DECREF(source);
+    next = it->room[it->next++], source = it->source, core = it->core;
+    Py_INCREF(source), Py_INCREF(core); /* another thread may let go of them while the match is made */
+    made = match_of(STATE(core), &next, it->shift, source);
+    Py_DECREF(source), Py_DECREF(core);
     return made;
 }
 
@@ -239,7 +238,7 @@ static PyObject *batches_next(PyObject *self) {
     first = it->next, count = it->count;
     taken = malloc((count - first) * sizeof *taken);
     if (taken == NULL) {
-        refuse(DADO_NO_MEMORY);
+        no_memory();
         return NULL;
     }
     memcpy(taken, it->room + first, (count - first) * sizeof *taken);
@@ -282,7 +281,8 @@ static PyType_Spec batches_spec = {"dadofennel._native.Batches", sizeof(Walk), 0
 
 PyObject *walk_new(Haystack *text, PyObject *source, const uint8_t *near, const Going *going, const dado_match *found, size_t count,
                    int is_over, int as_lists) {
-    Walk *made = PyObject_GC_New(Walk, as_lists ? batches_type : walk_type);
+    const State *state = STATE(text->core);
+    Walk *made = PyObject_GC_New(Walk, as_lists ? state->batches_type : state->walk_type);
     if (made == NULL) {
         release(text);
         return NULL;
@@ -295,7 +295,7 @@ PyObject *walk_new(Haystack *text, PyObject *source, const uint8_t *near, const 
     made->room = malloc(made->size * sizeof *made->room);
     made->lock = PyThread_allocate_lock();
     if (made->room == NULL || made->lock == NULL || keep_copy(&made->text, near) < 0) {
-        if (!PyErr_Occurred()) refuse(DADO_NO_MEMORY);
+        if (!PyErr_Occurred()) no_memory();
         Py_DECREF(made);
         return NULL;
     }
@@ -306,11 +306,11 @@ PyObject *walk_new(Haystack *text, PyObject *source, const uint8_t *near, const 
 }
 
 int walks_ready(PyObject *module) {
-    (void)module;
-    found_type = (PyTypeObject *)PyType_FromSpec(&found_spec);
-    walk_type = (PyTypeObject *)PyType_FromSpec(&walk_spec);
-    batches_type = (PyTypeObject *)PyType_FromSpec(&batches_spec);
-    if (found_type == NULL || walk_type == NULL || batches_type == NULL) return -1;
-    nothing = found_new(NULL, 0, 0, NULL);
-    return nothing == NULL ? -1 : 0;
+    State *state = state_of(module);
+    state->found_type = type_made(module, &found_spec, NULL);
+    state->walk_type = type_made(module, &walk_spec, NULL);
+    state->batches_type = type_made(module, &batches_spec, NULL);
+    if (state->found_type == NULL || state->walk_type == NULL || state->batches_type == NULL) return -1;
+    state->nothing = found_new(state, NULL, 0, 0, NULL);
+    return state->nothing == NULL ? -1 : 0;
 }

@@ -31,8 +31,7 @@ class Built(native.Core):
         plain = self._automaton([encoded(it) if self.text else it for it in self.patterns])
         self._coded: Once[native.Owner] = Once(plain if codes is None or codes.are_ascii else None)
         self.begin(
-            plain, -1 if self.text is None else int(self.text), native.KINDS.index(self.kind), native.START_KINDS.index(self.start_kind),
-            self.any_empty, self.longest, len(self.patterns), len(set(self.patterns)),
+            plain, -1 if self.text is None else int(self.text), self.longest, len(set(self.patterns)),
             None if codes is None else (codes.table, codes.other, codes.are_ascii, codes.are_latin),
         )
 
@@ -57,7 +56,7 @@ class Built(native.Core):
             raise MemoryError(native.error_text(status))
         if status != native.OK:
             raise BuildError(status, _fault_text(status, count, pattern))
-        return owner
+        return cast(native.Owner, owner)
 
     def one_each(self, replacements: Any) -> List[Any]:
         """A replacement for each pattern."""

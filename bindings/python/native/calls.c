@@ -180,29 +180,32 @@ static PyObject *overlapping_words(PyObject *self, PyObject *const *args, Py_ssi
 /* For the names of pyahocorasick, and for streams of patterns of which one is empty: all occurrences, or all matches, as batches of
  * three lists; and the matches of a text that follows one. */
 static PyObject *batches(PyObject *module, PyObject *args) {
-    PyObject *core, *text, *start, *end, *made = NULL;
+    PyObject *given, *text, *start, *end;
     Asked asked = {MATCHES, 0, 0, 0, 1};
     int listed;
-    if (!PyArg_ParseTuple(args, "O!OOOp", state_of(module)->core_type, &core, &text, &start, &end, &listed)) return NULL;
+    Core *core;
+    if (!PyArg_ParseTuple(args, "OOOOp", &given, &text, &start, &end, &listed) || (core = core_given(module, given)) == NULL) return NULL;
     if (listed) asked.way = OCCURRENCES;
-    if ((listed ? serves_listing((Core *)core) : serves((Core *)core, 0)) == 0) made = matches_in((Core *)core, text, start, end, &asked);
-    return made;
+    return (listed ? serves_listing(core) : serves(core, 0)) < 0 ? NULL : matches_in(core, text, start, end, &asked);
 }
 
 static PyObject *matches_after(PyObject *module, PyObject *args) {
-    PyObject *core, *text;
+    PyObject *given, *text;
     Asked asked = {MATCHES, 0, 0, 0, 0};
-    if (!PyArg_ParseTuple(args, "O!Op", state_of(module)->core_type, &core, &text, &asked.again) || serves((Core *)core, 0) < 0) return NULL;
-    return matches_in((Core *)core, text, NULL, NULL, &asked);
+    Core *core;
+    if (!PyArg_ParseTuple(args, "OOp", &given, &text, &asked.again) || (core = core_given(module, given)) == NULL) return NULL;
+    return serves(core, 0) < 0 ? NULL : matches_in(core, text, NULL, NULL, &asked);
 }
 
 static PyObject *words_in(PyObject *module, PyObject *args) {
-    PyObject *core, *text, *word;
+    PyObject *given, *text, *word;
     Asked asked = {WORDS, 0, 0, 0, 0};
     int kind;
-    if (!PyArg_ParseTuple(args, "O!OO", state_of(module)->core_type, &core, &text, &word) || (kind = kind_of(word)) < 0) return NULL;
+    Core *core;
+    if (!PyArg_ParseTuple(args, "OOO", &given, &text, &word) || (core = core_given(module, given)) == NULL) return NULL;
+    if ((kind = kind_of(word)) < 0 || serves_words(core) < 0) return NULL;
     asked.kind = (uint32_t)kind;
-    return serves_words((Core *)core) < 0 ? NULL : matches_in((Core *)core, text, NULL, NULL, &asked);
+    return matches_in(core, text, NULL, NULL, &asked);
 }
 
 /* ---- Many texts ---- */

@@ -82,11 +82,12 @@ static int is_one_each(const Core *core, PyObject *texts) {
 
 /* The values of a dictionary in the patterns' order, if its keys are just the patterns; else nothing. */
 static PyObject *values_of(const Core *core, PyObject *dict) {
-    PyObject *patterns, *values;
+    PyObject *patterns, *values = NULL;
     size_t i;
     if (PyDict_Size(dict) != (Py_ssize_t)core->distinct) return NULL;
     patterns = PyObject_GetAttrString((PyObject *)core, "patterns");
-    values = patterns == NULL ? NULL : PyTuple_New((Py_ssize_t)core->count);
+    if (patterns != NULL && PyTuple_Check(patterns) && PyTuple_Size(patterns) == (Py_ssize_t)core->count)
+        values = PyTuple_New((Py_ssize_t)core->count);
     for (i = 0; values != NULL && i < core->count; i++) {
         PyObject *value = PyDict_GetItemWithError(dict, PyTuple_GetItem(patterns, (Py_ssize_t)i));
         Py_XINCREF(value);
@@ -128,7 +129,9 @@ static int all_of(Slices *it, Core *core, PyObject *replacements, int is_long) {
 }
 
 /* The replacements as a tuple, for Python. */
-PyObject *core_texts(PyObject *self, PyObject *replacements) { return texts_of((Core *)self, replacements, 1); }
+PyObject *core_texts(PyObject *self, PyObject *replacements) {
+    return is_begun((Core *)self) ? texts_of((Core *)self, replacements, 1) : NULL;
+}
 
 /* Takes the replacements. After it no code of Python runs before a short text is searched. */
 static int slices_of(Slices *it, Core *core, PyObject *replacements, int is_long) {
@@ -249,6 +252,9 @@ static int byte_of(Core *core, PyObject *star) {
     return value;
 }
 
+/* The most bytes that a character has in UTF-8. */
+enum { CHARACTER = 4 };
+
 /* The star for a text, as UTF-8: how many bytes, or -1 with an exception. */
 static int star_of(Core *core, PyObject *star, char *out) {
     PyObject *raw, *one;
@@ -258,7 +264,10 @@ static int star_of(Core *core, PyObject *star, char *out) {
     if (star == NULL || star == Py_None) return 1;
     one = PyObject_CallMethod((PyObject *)core, "star_of", "OO", star, Py_True);
     raw = one == NULL ? NULL : utf8_of(one);
-    if (raw != NULL && PyBytes_AsStringAndSize(raw, &at, &length) == 0) memcpy(out, at, (size_t)length);
+    if (raw != NULL && PyBytes_AsStringAndSize(raw, &at, &length) == 0) {
+        if (length <= CHARACTER) memcpy(out, at, (size_t)length);
+        else PyErr_SetString(PyExc_ValueError, "the star has several characters"), length = -1;
+    }
     Py_XDECREF(one), Py_XDECREF(raw);
     return at == NULL ? -1 : (int)length;
 }
@@ -297,7 +306,7 @@ PyObject *starred(PyObject *module, PyObject *args) {
 }
 
 static PyObject *masked_text(Core *core, PyObject *source, PyObject *star_given, int words) {
-    char star[8];
+    char star[CHARACTER];
     int width = star_of(core, star_given, star), plain;
     Haystack text;
     PyObject *made = NULL;

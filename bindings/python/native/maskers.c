@@ -1,5 +1,5 @@
 /* A masker of the library: bytes are pushed to it, and it gives them masked. `dadofennel._masks` sees to it that one thread at a time is
- * in it. */
+ * in it; a second one is refused. */
 #include "native.h"
 
 #include <stddef.h>
@@ -8,6 +8,7 @@ typedef struct {
     PyObject_HEAD
     State *state;                 /* held */
     dado_masker *handle;
+    int is_busy;                  /* a thread is in it */
 } Masker;
 
 static void masker_free(PyObject *self) {
@@ -21,16 +22,17 @@ static void masker_free(PyObject *self) {
 
 /* Begins a masker of a core, which masks with a byte. */
 static PyObject *masker(PyObject *module, PyObject *args) {
-    PyObject *core;
+    PyObject *given;
     unsigned char byte;
+    Core *core;
     Masker *made;
     dado_status status;
     State *state = state_of(module);
-    if (!PyArg_ParseTuple(args, "O!b", state->core_type, &core, &byte)) return NULL;
+    if (!PyArg_ParseTuple(args, "Ob", &given, &byte) || (core = core_given(module, given)) == NULL) return NULL;
     made = PyObject_New(Masker, state->masker_type);
     if (made == NULL) return NULL;
-    made->state = state_held(state), made->handle = NULL;
-    status = dado_masker_new(((Core *)core)->plain->handle, byte, &made->handle);
+    made->state = state_held(state), made->handle = NULL, made->is_busy = 0;
+    status = dado_masker_new(core->plain->handle, byte, &made->handle);
     if (status == DADO_OK) return (PyObject *)made;
     Py_DECREF(made);
     refuse(state, status);
@@ -62,23 +64,38 @@ static int push_all(Masker *it, const uint8_t *at, size_t len, PyObject *list) {
     return 0;
 }
 
+/* A list, if no other thread is in it; else NULL with an exception. */
+static PyObject *list_of(const Masker *it) {
+    if (!it->is_busy) return PyList_New(0);
+    PyErr_SetString(PyExc_RuntimeError, "another thread is in the masker");
+    return NULL;
+}
+
 /* The bytes that are ready after a piece was pushed, as a list. */
 static PyObject *masker_push(PyObject *self, PyObject *piece) {
+    Masker *it = (Masker *)self;
     Py_buffer lent;
     PyObject *list;
     if (PyObject_GetBuffer(piece, &lent, PyBUF_SIMPLE) < 0) return NULL;
-    list = PyList_New(0);
-    if (list != NULL && push_all((Masker *)self, lent.buf, (size_t)lent.len, list) < 0) Py_CLEAR(list);
+    list = list_of(it);
+    if (list != NULL) {
+        it->is_busy = 1;
+        if (push_all(it, lent.buf, (size_t)lent.len, list) < 0) Py_CLEAR(list);
+        it->is_busy = 0;
+    }
     PyBuffer_Release(&lent);
     return list;
 }
 
 static PyObject *masker_finish(PyObject *self, PyObject *none) {
-    dado_status status = dado_masker_finish(&((Masker *)self)->handle);
-    PyObject *list = PyList_New(0);
+    Masker *it = (Masker *)self;
+    PyObject *list = list_of(it);
+    dado_status status;
     (void)none;
-    if (status != DADO_OK) refuse(((Masker *)self)->state, status);
-    if (list != NULL && (status != DADO_OK || add_ready((Masker *)self, list) < 0)) Py_CLEAR(list);
+    if (list == NULL) return NULL;
+    status = dado_masker_finish(&it->handle);
+    if (status != DADO_OK) refuse(it->state, status);
+    if (status != DADO_OK || add_ready(it, list) < 0) Py_CLEAR(list);
     return list;
 }
 
@@ -87,7 +104,7 @@ static PyMethodDef methods[] = {
     {"finish", masker_finish, METH_NOARGS, "Ends the text, and gives the bytes that are left, as a list."},
     {NULL, NULL, 0, NULL},
 };
-static PyType_Slot slots[] = {{Py_tp_dealloc, masker_free}, {Py_tp_methods, methods}, {0, NULL}};
+static PyType_Slot slots[] = {{Py_tp_new, not_by_hand}, {Py_tp_dealloc, masker_free}, {Py_tp_methods, methods}, {0, NULL}};
 static PyType_Spec spec = {"dadofennel._native.Masker", sizeof(Masker), 0, Py_TPFLAGS_DEFAULT, slots};
 
 static PyMethodDef functions[] = {

@@ -78,7 +78,9 @@ static PyObject *piece_of(PyObject *text, Py_ssize_t start, Py_ssize_t end) {
     if (PyUnicode_Check(text)) return PyUnicode_Substring(text, start, end);
     if (PyObject_GetBuffer(text, &lent, PyBUF_SIMPLE) < 0) return NULL;
     if (end > lent.len) end = lent.len; /* it was made shorter since */
+    if (end < 0) end = 0;               /* a match that was made by hand has any places */
     if (start > end) start = end;
+    if (start < 0) start = 0;
     piece = PyBytes_FromStringAndSize((const char *)lent.buf + start, end - start);
     PyBuffer_Release(&lent);
     return piece;
@@ -95,7 +97,8 @@ static PyObject *held_text(PyObject *self, void *unused) {
     }
     if (PyTuple_CheckExact(text)) from = PyLong_AsSsize_t(PyTuple_GetItem(text, 1)), text = PyTuple_GetItem(text, 0);
     start = PyLong_AsSsize_t(items_of(self)[1]), end = PyLong_AsSsize_t(items_of(self)[2]);
-    return PyErr_Occurred() ? NULL : piece_of(text, start - from, end - from);
+    if (PyErr_Occurred()) return NULL;
+    return piece_of(text, (Py_ssize_t)((size_t)start - (size_t)from), (Py_ssize_t)((size_t)end - (size_t)from));
 }
 
 static PyObject *held_group(PyObject *self, PyObject *args) {

@@ -52,6 +52,12 @@ PyTypeObject *type_made(PyObject *module, PyType_Spec *spec, const char *name) {
     return NULL;
 }
 
+PyObject *not_by_hand(PyTypeObject *type, PyObject *args, PyObject *named) {
+    (void)args, (void)named;
+    PyErr_Format(PyExc_TypeError, "%S is made by calls of dadofennel alone", (PyObject *)type);
+    return NULL;
+}
+
 int is_freed_by(PyObject *it, destructor free_it) {
     PyTypeObject *type = Py_TYPE(it);
     while (type != NULL && (PyType_GetFlags(type) & Py_TPFLAGS_HEAPTYPE) != 0) {
@@ -82,7 +88,7 @@ int refuse(const State *state, dado_status status) {
 int wrong_type(const char *name, PyObject *it, const char *wanted) {
     PyObject *type = PyObject_GetAttrString((PyObject *)Py_TYPE(it), "__name__");
     if (it == Py_None) PyErr_Format(PyExc_TypeError, "%s is None, and not %s", name, wanted);
-    else if (type != NULL) PyErr_Format(PyExc_TypeError, "%s is of type %U, and not %s", name, type, wanted);
+    else if (type != NULL) PyErr_Format(PyExc_TypeError, "%s is of type %S, and not %s", name, type, wanted); /* `__name__` may be anything */
     Py_XDECREF(type);
     return -1;
 }

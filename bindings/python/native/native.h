@@ -50,6 +50,9 @@ State *state_held(State *it);
 void state_let_go(State *it);
 /* Makes a type of the module, which has it by its name, if that isn't NULL. NULL with an exception. */
 PyTypeObject *type_made(PyObject *module, PyType_Spec *spec, const char *name);
+/* What `new` is of a type whose objects are made by calls of this module alone, since they need what a caller of the type hasn't got: it
+ * raises a `TypeError`. Types that have another one, or that others are derived from, look at each entry whether all is there. */
+PyObject *not_by_hand(PyTypeObject *type, PyObject *args, PyObject *named);
 /* Whether an object is of a type of `PyType_FromSpec` that is freed so, or of one that is derived from it. */
 int is_freed_by(PyObject *it, destructor free_it);
 /* Whether a type of `PyType_FromSpec` that others are derived from has to visit the type of its instances: from 3.9 on. */
@@ -91,7 +94,8 @@ typedef struct {
 /* What an automaton of Python is made of, as far as searches ask. It never changes, but for `coded`, which is made when it is needed. */
 typedef struct {
     PyObject_HEAD
-    Owner *plain, *coded;         /* for the bytes of a text; for the codes of its characters, NULL before the first such search */
+    Owner *plain, *coded;         /* for the bytes of a text, NULL before it is begun; for the codes of its characters, NULL before the
+                                     first such search */
     PyObject *table;              /* the codes of characters, as bytes; NULL where a text beyond ASCII is searched as UTF-8 */
     const uint8_t *codes;
     size_t code_count;
@@ -107,6 +111,9 @@ typedef struct {
 #define STATE(core) ((core)->plain->state)
 int owners_ready(PyObject *module);
 int is_core(PyObject *it);
+/* Whether a core was begun, or else 0 with an exception; and the core of an argument, which was, or else NULL with one. */
+int is_begun(const Core *core);
+Core *core_given(PyObject *module, PyObject *it);
 /* Whether it was built for searches that are anchored so; for all occurrences; for whole words. -1 with the error, if not. */
 int serves(const Core *core, int anchored);
 int serves_listing(const Core *core);

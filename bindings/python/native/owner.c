@@ -12,7 +12,7 @@ static void owner_free(PyObject *self) {
     state_let_go(state);
 }
 
-static PyType_Slot owner_slots[] = {{Py_tp_dealloc, owner_free}, {0, NULL}};
+static PyType_Slot owner_slots[] = {{Py_tp_new, not_by_hand}, {Py_tp_dealloc, owner_free}, {0, NULL}};
 static PyType_Spec owner_spec = {"dadofennel._native.Owner", sizeof(Owner), 0, Py_TPFLAGS_DEFAULT, owner_slots};
 
 /* ---- Building ---- */
@@ -51,7 +51,7 @@ static dado_bytes *slices_of(PyObject *patterns, size_t count) {
     return slices;
 }
 
-/* Builds, and gives the status, the owner, and what is known of a fault. */
+/* Builds, and gives the status, the owner, or None, and what is known of a fault. */
 static PyObject *built(State *state, PyObject *patterns, const dado_settings *settings) {
     Py_ssize_t count = PyTuple_Size(patterns);
     dado_bytes *slices = count < 0 ? NULL : slices_of(patterns, (size_t)count);
@@ -67,7 +67,9 @@ static PyObject *built(State *state, PyObject *patterns, const dado_settings *se
     status = dado_build(slices, (size_t)count, settings, &owner->handle, &fault);
     Py_END_ALLOW_THREADS
     free(slices);
-    return Py_BuildValue("INKI", (unsigned)status, (PyObject *)owner, (unsigned long long)fault.count, (unsigned)fault.pattern);
+    if (status == DADO_OK) return Py_BuildValue("INII", (unsigned)status, (PyObject *)owner, 0, 0);
+    Py_DECREF(owner);
+    return Py_BuildValue("IOKI", (unsigned)status, Py_None, (unsigned long long)fault.count, (unsigned)fault.pattern);
 }
 
 /* Takes a size, if there is one. */
@@ -133,38 +135,62 @@ static int take_codes(Core *core, PyObject *codes) {
     return 0;
 }
 
+/* Takes an automaton, and what it says of itself; and what it can't say: whether the patterns are `str`, how many characters the longest
+ * has, and how many of them are unlike. */
+static int take_plain(Core *core, PyObject *plain, int text, Py_ssize_t longest, Py_ssize_t distinct) {
+    const dado_automaton *ac = ((Owner *)plain)->handle;
+    size_t count = dado_pattern_count(ac), most = dado_longest(ac);
+    if (text < -1 || text > 1 || longest < 0 || (size_t)longest > most || (longest == 0) != (most == 0) || distinct < 0 ||
+        (size_t)distinct > count) {
+        PyErr_SetString(PyExc_ValueError, "the automaton has no such patterns");
+        return -1;
+    }
+    core->text = text, core->longest = (size_t)longest, core->count = count, core->distinct = (size_t)distinct;
+    core->kind = dado_kind(ac), core->start_kind = dado_start_kind(ac), core->any_empty = dado_shortest(ac) == 0;
+    Py_INCREF(plain);
+    core->plain = (Owner *)plain;
+    return 0;
+}
+
 /* Sets what searches ask for, once. */
 static PyObject *core_begin(PyObject *self, PyObject *given) {
     Core *core = (Core *)self;
     PyObject *plain, *codes;
-    unsigned kind, start_kind;
-    Py_ssize_t longest, count, distinct;
+    int text;
+    Py_ssize_t longest, distinct;
     if (core->plain != NULL) {
         PyErr_SetString(PyExc_TypeError, "it was begun before");
         return NULL;
     }
-    if (!PyArg_ParseTuple(given, "OiIIpnnnO", &plain, &core->text, &kind, &start_kind, &core->any_empty, &longest, &count, &distinct, &codes))
-        return NULL;
+    if (!PyArg_ParseTuple(given, "OinnO", &plain, &text, &longest, &distinct, &codes)) return NULL;
     if (!is_freed_by(plain, owner_free)) {
         wrong_type("plain", plain, "an automaton of the library");
         return NULL;
     }
-    core->kind = kind, core->start_kind = start_kind;
-    core->longest = (size_t)longest, core->count = (size_t)count, core->distinct = (size_t)distinct;
-    Py_INCREF(plain);
-    core->plain = (Owner *)plain;
-    if (take_codes(core, codes) < 0) return NULL;
+    if (take_plain(core, plain, text, longest, distinct) < 0 || take_codes(core, codes) < 0) return NULL;
     Py_RETURN_NONE;
+}
+
+int is_begun(const Core *core) {
+    if (core->plain != NULL) return 1;
+    PyErr_SetString(PyExc_TypeError, "the core was not begun");
+    return 0;
+}
+
+Core *core_given(PyObject *module, PyObject *it) {
+    if (PyObject_TypeCheck(it, state_of(module)->core_type)) return is_begun((Core *)it) ? (Core *)it : NULL;
+    wrong_type("core", it, "the core of an automaton");
+    return NULL;
 }
 
 static PyObject *core_engine(PyObject *self, PyObject *none) {
     (void)none;
-    return PyLong_FromUnsignedLong(dado_engine(((Core *)self)->plain->handle));
+    return is_begun((Core *)self) ? PyLong_FromUnsignedLong(dado_engine(((Core *)self)->plain->handle)) : NULL;
 }
 
 static PyObject *core_memory(PyObject *self, PyObject *none) {
     (void)none;
-    return PyLong_FromSize_t(dado_memory(((Core *)self)->plain->handle));
+    return is_begun((Core *)self) ? PyLong_FromSize_t(dado_memory(((Core *)self)->plain->handle)) : NULL;
 }
 
 static PyObject *core_coded(PyObject *self, PyObject *text) {
@@ -183,7 +209,7 @@ static PyObject *core_coded(PyObject *self, PyObject *text) {
 
 static PyObject *core_serves(PyObject *self, PyObject *anchored) {
     int is_anchored = is_true(anchored);
-    if (is_anchored < 0 || serves((Core *)self, is_anchored) < 0) return NULL;
+    if (is_anchored < 0 || !is_begun((Core *)self) || serves((Core *)self, is_anchored) < 0) return NULL;
     Py_RETURN_NONE;
 }
 

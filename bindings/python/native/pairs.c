@@ -45,11 +45,21 @@ static int is_valid(const Pairs *it) {
     return 0;
 }
 
+/* The next pair of what gives them now. Its method is called, so that one which leads back to these pairs is a `RecursionError`. It is held,
+ * since the call may put another one in its place. */
+static PyObject *next_after(const Pairs *it) {
+    PyObject *after = it->after, *pair;
+    Py_INCREF(after);
+    pair = PyObject_CallMethod(after, "__next__", NULL);
+    Py_DECREF(after);
+    return pair;
+}
+
 static PyObject *pairs_next(PyObject *self) {
     Pairs *it = (Pairs *)self;
     PyObject *value, *place, *pair;
     const dado_match *found;
-    if (it->after != NULL) return PyIter_Next(it->after);
+    if (it->after != NULL) return next_after(it);
     if (!is_valid(it)) return NULL;
     if (it->next == it->count) {
         it->has_ended = 1;
@@ -84,6 +94,10 @@ static PyObject *pairs_state(PyObject *self, PyObject *none) {
 
 static PyObject *pairs_go_on(PyObject *self, PyObject *after) {
     PyObject *before = ((Pairs *)self)->after;
+    if (Py_TYPE(after) == Py_TYPE(self)) {
+        wrong_type("after", after, "another search");
+        return NULL;
+    }
     Py_INCREF(after);
     ((Pairs *)self)->after = after;
     Py_XDECREF(before);
@@ -142,9 +156,9 @@ static PyMethodDef pairs_methods[] = {
      "set($self, string, reset=False)\n--\n\nGoes on with another string, as if it followed what was searched so far."},
     {NULL, NULL, 0, NULL},
 };
-static PyType_Slot pairs_slots[] = {{Py_tp_dealloc, pairs_free}, {Py_tp_traverse, pairs_visit}, {Py_tp_clear, pairs_clear},
-                                    {Py_tp_iter, pairs_iter},    {Py_tp_iternext, pairs_next},  {Py_tp_methods, pairs_methods},
-                                    {0, NULL}};
+static PyType_Slot pairs_slots[] = {{Py_tp_new, not_by_hand},       {Py_tp_dealloc, pairs_free}, {Py_tp_traverse, pairs_visit},
+                                    {Py_tp_clear, pairs_clear},     {Py_tp_iter, pairs_iter},    {Py_tp_iternext, pairs_next},
+                                    {Py_tp_methods, pairs_methods}, {0, NULL}};
 static PyType_Spec pairs_spec = {"dadofennel._native.Pairs", offsetof(Pairs, at), sizeof(dado_match),
                                  Py_TPFLAGS_DEFAULT | Py_TPFLAGS_HAVE_GC, pairs_slots};
 
@@ -180,11 +194,12 @@ static PyObject *pairs(PyObject *module, PyObject *const *args, Py_ssize_t count
     int listed;
     dado_status status = DADO_NONE;
     const State *state = state_of(module);
-    if (count != 8 || !PyObject_TypeCheck(args[0], state->core_type) || Py_TYPE(args[1]) != state->change_type || !PyList_Check(args[2])) {
+    if (count != 8 || Py_TYPE(args[1]) != state->change_type || !PyList_Check(args[2])) {
         PyErr_SetString(PyExc_TypeError, "pairs are of a core, a change, values, what was given, a text, two bounds and a truth value");
         return NULL;
     }
-    core = (Core *)args[0], listed = args[7] == Py_True;
+    core = core_given(module, args[0]), listed = args[7] == Py_True;
+    if (core == NULL) return NULL;
     if ((listed ? serves_listing(core) : serves(core, 0)) < 0) return NULL;
     if (haystack_of(&text, core, args[4], args[5], args[6], PARTS, near) < 0) return NULL;
     begin(&going, listed ? OCCURRENCES : MATCHES, 0, &text, 0, 0);

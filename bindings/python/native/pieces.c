@@ -1,4 +1,4 @@
-/* A stream of the library. `dadofennel._stream` sees to it that one thread at a time is in it. */
+/* A stream of the library. `dadofennel._stream` sees to it that one thread at a time is in it; a second one is refused. */
 #include "native.h"
 
 #include <stdlib.h>
@@ -10,6 +10,7 @@ typedef struct {
     PyObject_HEAD
     State *state;                 /* held */
     dado_stream *handle;
+    int is_busy;                  /* a thread is in it */
 } Pieces;
 
 static void pieces_free(PyObject *self) {
@@ -43,12 +44,19 @@ static PyObject *stream(PyObject *module, PyObject *args) {
     if (kind != Py_None && (number = PyLong_AsUnsignedLong(kind)) == (unsigned long)-1 && PyErr_Occurred()) return NULL;
     made = PyObject_New(Pieces, state->pieces_type);
     if (made == NULL) return NULL;
-    made->state = state_held(state), made->handle = NULL;
+    made->state = state_held(state), made->handle = NULL, made->is_busy = 0;
     status = make(((Owner *)owner)->handle, kind != Py_None, number, &made->handle);
     if (status == DADO_OK) return (PyObject *)made;
     Py_DECREF(made);
     refuse(state, status);
     return NULL;
+}
+
+/* Whether no other thread is in it; else that is raised. */
+static int is_free(const Pieces *it) {
+    if (!it->is_busy) return 1;
+    PyErr_SetString(PyExc_RuntimeError, "another thread is in the stream");
+    return 0;
 }
 
 /* Takes the first bytes of a piece, from a place in it on, and says how many. */
@@ -58,10 +66,17 @@ static PyObject *pieces_push(PyObject *self, PyObject *args) {
     Py_buffer lent;
     size_t taken = 0, length;
     dado_status status = DADO_OK;
+    Pieces *it = (Pieces *)self;
     if (!PyArg_ParseTuple(args, "On", &piece, &at) || PyObject_GetBuffer(piece, &lent, PyBUF_SIMPLE) < 0) return NULL;
+    if (!is_free(it)) {
+        PyBuffer_Release(&lent);
+        return NULL;
+    }
     if (at < 0 || at > lent.len) at = lent.len;
     length = (size_t)(lent.len - at);
-    UNLOCKED(length, status = dado_stream_push(&((Pieces *)self)->handle, length ? (const uint8_t *)lent.buf + at : NULL, length, &taken));
+    it->is_busy = 1;
+    UNLOCKED(length, status = dado_stream_push(&it->handle, length ? (const uint8_t *)lent.buf + at : NULL, length, &taken));
+    it->is_busy = 0;
     PyBuffer_Release(&lent);
     return status == DADO_OK ? PyLong_FromSize_t(taken) : pieces_refuse(self, status);
 }
@@ -69,10 +84,14 @@ static PyObject *pieces_push(PyObject *self, PyObject *args) {
 /* The next matches that are decided. -1 with an exception. */
 static int next_some(PyObject *self, dado_match *room, size_t *count) {
     dado_status status;
+    Pieces *it = (Pieces *)self;
+    if (!is_free(it)) return -1;
+    it->is_busy = 1;
     Py_BEGIN_ALLOW_THREADS
-    status = dado_stream_some(&((Pieces *)self)->handle, room, ROOM, count);
+    status = dado_stream_some(&it->handle, room, ROOM, count);
     Py_END_ALLOW_THREADS
-    return status > DADO_NONE ? refuse(((Pieces *)self)->state, status) : 0;
+    it->is_busy = 0;
+    return status > DADO_NONE ? refuse(it->state, status) : 0;
 }
 
 static int append_all(PyObject *self, PyObject *list, const dado_match *room, size_t count) {
@@ -108,15 +127,19 @@ static PyObject *pieces_batch(PyObject *self, PyObject *none) {
 /* The place after all that was pushed, and that up to which everything is decided. */
 static PyObject *pieces_view(PyObject *self, PyObject *none) {
     dado_held held;
-    dado_status status = dado_stream_view(&((Pieces *)self)->handle, &held);
+    dado_status status;
     (void)none;
+    if (!is_free((Pieces *)self)) return NULL;
+    status = dado_stream_view(&((Pieces *)self)->handle, &held);
     if (status == DADO_OK) return Py_BuildValue("NN", PyLong_FromSize_t(held.from + held.len), PyLong_FromSize_t(held.cut));
     return pieces_refuse(self, status);
 }
 
 static PyObject *pieces_finish(PyObject *self, PyObject *none) {
-    dado_status status = dado_stream_finish(&((Pieces *)self)->handle);
+    dado_status status;
     (void)none;
+    if (!is_free((Pieces *)self)) return NULL;
+    status = dado_stream_finish(&((Pieces *)self)->handle);
     if (status == DADO_OK) Py_RETURN_NONE;
     return pieces_refuse(self, status);
 }
@@ -130,7 +153,7 @@ static PyMethodDef methods[] = {
     {NULL, NULL, 0, NULL},
 };
 
-static PyType_Slot slots[] = {{Py_tp_dealloc, pieces_free}, {Py_tp_methods, methods}, {0, NULL}};
+static PyType_Slot slots[] = {{Py_tp_new, not_by_hand}, {Py_tp_dealloc, pieces_free}, {Py_tp_methods, methods}, {0, NULL}};
 static PyType_Spec spec = {"dadofennel._native.Pieces", sizeof(Pieces), 0, Py_TPFLAGS_DEFAULT, slots};
 
 static PyMethodDef functions[] = {

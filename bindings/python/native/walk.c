@@ -69,8 +69,11 @@ static void found_free(PyObject *self) {
     state_let_go(state);
 }
 
-static PyType_Slot found_slots[] = {
-    {Py_tp_dealloc, found_free}, {Py_tp_iter, PyObject_SelfIter}, {Py_tp_iternext, found_next}, {0, NULL}};
+static PyType_Slot found_slots[] = {{Py_tp_new, not_by_hand},
+                                    {Py_tp_dealloc, found_free},
+                                    {Py_tp_iter, PyObject_SelfIter},
+                                    {Py_tp_iternext, found_next},
+                                    {0, NULL}};
 static PyType_Spec found_spec = {"dadofennel._native.Found", offsetof(Found, at), sizeof(dado_match), Py_TPFLAGS_DEFAULT, found_slots};
 
 /* ---- Matches of a long text ---- */
@@ -272,10 +275,12 @@ static void walk_free(PyObject *self) {
     Py_DECREF(type);
 }
 
-static PyType_Slot walk_slots[] = {{Py_tp_dealloc, walk_free}, {Py_tp_traverse, walk_visit},   {Py_tp_clear, walk_clear},
-                                   {Py_tp_iter, PyObject_SelfIter}, {Py_tp_iternext, walk_next}, {0, NULL}};
-static PyType_Slot batches_slots[] = {{Py_tp_dealloc, walk_free}, {Py_tp_traverse, walk_visit},      {Py_tp_clear, walk_clear},
-                                      {Py_tp_iter, PyObject_SelfIter}, {Py_tp_iternext, batches_next}, {0, NULL}};
+static PyType_Slot walk_slots[] = {{Py_tp_new, not_by_hand},  {Py_tp_dealloc, walk_free},      {Py_tp_traverse, walk_visit},
+                                   {Py_tp_clear, walk_clear}, {Py_tp_iter, PyObject_SelfIter}, {Py_tp_iternext, walk_next},
+                                   {0, NULL}};
+static PyType_Slot batches_slots[] = {{Py_tp_new, not_by_hand},  {Py_tp_dealloc, walk_free},      {Py_tp_traverse, walk_visit},
+                                      {Py_tp_clear, walk_clear}, {Py_tp_iter, PyObject_SelfIter}, {Py_tp_iternext, batches_next},
+                                      {0, NULL}};
 static PyType_Spec walk_spec = {"dadofennel._native.Walk", sizeof(Walk), 0, Py_TPFLAGS_DEFAULT | Py_TPFLAGS_HAVE_GC, walk_slots};
 static PyType_Spec batches_spec = {"dadofennel._native.Batches", sizeof(Walk), 0, Py_TPFLAGS_DEFAULT | Py_TPFLAGS_HAVE_GC, batches_slots};
 

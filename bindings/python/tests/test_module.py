@@ -1,6 +1,7 @@
 """The extension module: a package that is imported again, interpreters beside the first, and types that are made by hand."""
 import gc
 import importlib
+import subprocess
 import sys
 import typing
 import unittest
@@ -121,6 +122,110 @@ class Users(unittest.TestCase):
                 other.run("assert list(ac.finditer('hehe')) == [(0, 0, 2), (0, 2, 4)]")
             gc.collect()
             self.check(dadofennel)
+
+
+TYPES = """
+import copy, itertools, dadofennel, dadofennel.ahocorasick
+from dadofennel import _native as native
+
+short, long = "a é", "a " * 9000
+automaton, words = dadofennel.Automaton(["a", "é"]), dadofennel.ahocorasick.Automaton()
+words.add_word("a", 1)
+words.make_automaton()
+core, made = automaton._built, {}
+
+def one_of_each():
+    return [
+        automaton.finditer("a"), automaton.finditer(long), native.batches(core, "a", None, None, True), words.iter("a"), native.Change(),
+        automaton.stream()._pieces, automaton.masker()._masks._masker, core, core.by_codes(), automaton, automaton.find("a"),
+    ]
+
+for it in one_of_each():
+    for type_ in type(it).__mro__:
+        if type_.__module__ == "dadofennel._native":
+            made[type_.__name__] = type_
+assert sorted(made) == sorted(
+    ["Found", "Walk", "Batches", "Pairs", "Change", "Pieces", "Masker", "Core", "Owner", "Searches", "Held"]), sorted(made)
+assert {it for it in vars(native).values() if isinstance(it, type) and it.__module__ == native.__name__} <= set(made.values())
+
+Unnamed = type("Meta", (type,), {"__name__": 5})("Unnamed", (), {})
+some = [None, Unnamed(), 0, 1, -1, 2**63, "a", b"a", short, long, [], (), {}, ["a"], {"a": "b", "é": ""}, iter(()), (b"a", 1, True, True)]
+
+def called(of, *given):
+    "Calls it, and takes what any call may raise."
+    try:
+        return of(*given)
+    except SystemError:
+        raise
+    except Exception as error:
+        return None
+
+def tried(it):
+    "Calls each method of an object, and each function of the module with it."
+    cores = [it, native.Core(), core]
+    for name in dir(type(it)):
+        if name in ("__class__", "__init_subclass__", "__subclasshook__", "__sizeof__", "__reduce__", "__reduce_ex__", "__dir__"):
+            continue
+        method = called(getattr, it, name)
+        if callable(method):
+            called(method)
+            for one in some + cores:
+                called(method, one)
+            for pair in itertools.product(some[:10], repeat=2):
+                called(method, *pair)
+    for of in [repr, iter, next, copy.copy, copy.deepcopy, hash, len, list]:
+        called(of, it)
+    for one in cores + some:
+        for given in [(one,), (one, 0), (one, None), (one, "a", False), (one, "a", "standard"), (one, "a", None, None, True),
+                      (one, native.Change(), [], (), "a", 0, 1, True), (one, it, [], (), "a", 0, 1, True), (one, it, 0), (it, one, -5)]:
+            for name in ["masker", "stream", "hold", "batches", "matches_after", "words_in", "pairs", "width_of", "error_text", "starred"]:
+                made = called(getattr(native, name), *given)
+                if made is not None and not isinstance(made, (str, int)):
+                    called(lambda: list(itertools.islice(made, 20)))
+
+alone = ["Found", "Walk", "Batches", "Pairs", "Pieces", "Masker", "Owner"]
+for name in made:
+    for new in [made[name], lambda type_=made[name]: type_.__new__(type_), lambda type_=made[name]: object.__new__(type_),
+                lambda type_=made[name]: type("Derived", (type_,), {})()]:
+        try:
+            it = new()
+        except TypeError:
+            continue
+        assert name not in alone, name
+        tried(it)
+        for owner in [core.by_codes(), native.build((), 0, 0, 0, False, True, True, None, None, b"")[1]]:
+            for sizes in [(1, 1, 1), (1, 0, 0), (1, 2**40, 2), (0, 1, -1), (5, 1, 1), (-1, 0, 0), (1, 1, 2)]:
+                if name == "Core":
+                    it = new()
+                    called(setattr, it, "patterns", ())
+                    called(it.begin, owner, *sizes, (b"a", 1, True, False))
+                    tried(it)
+for it in one_of_each():
+    tried(it)
+failed = native.build((b"a",), 9, 0, 0, False, True, True, None, None, b"")
+assert failed[0] != native.OK and failed[1] is None
+Evil = type("Evil", (native.Core,), {"star_of": lambda *_: "a" * 99, "patterns": (), "by_codes": lambda *_: 0, "one_each": lambda *_: ()})
+evil, other = Evil(), dadofennel.Automaton(["a"])
+evil.begin(dadofennel.Automaton(["a", "é"])._built.by_codes(), 1, 1, 2, None)
+other._built = evil
+for call in [lambda: other.replace("a", {"a": "b", "é": "c"}), lambda: other.mask("a", "+"), lambda: other.replace("a", {1, 2}),
+             lambda: evil.texts({"a": "b", "é": "c"}), lambda: other.finditer("é" * 9000), lambda: other.find("é")]:
+    called(call)
+pairs = words.iter("a")
+assert called(pairs.go_on, pairs) is None and next(pairs) == (0, 1)
+pairs.go_on(map(next, itertools.repeat(pairs)))
+try:
+    next(pairs)
+except RecursionError:
+    print("done")
+"""
+
+
+class ByHand(unittest.TestCase):
+    def test_each_type(self):
+        """Each type of the module, made by hand if it can be, and each of its methods: an exception is raised, or nothing is."""
+        done = subprocess.run([sys.executable, "-X", "faulthandler", "-c", TYPES], stdout=subprocess.PIPE, stderr=subprocess.PIPE, timeout=300)
+        self.assertEqual((done.returncode, done.stderr.decode(), done.stdout), (0, "", b"done\n"))
 
 
 if __name__ == "__main__":

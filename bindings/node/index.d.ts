@@ -134,16 +134,13 @@ export class Automaton<P extends string | Uint8Array = string> {
   /** All occurrences, overlapping ones too: `findAll` with `overlapping`. */
   overlapping(text: TextOf<P>, options?: Search): Match[];
 
-  /**
-   * What `findAll` and `findAllFlat` return, found on another thread. Until the promise is settled, bytes must not be written to,
-   * resized or transferred. A string is copied by the call.
-   */
+  /** What `findAll` and `findAllFlat` return, found on another thread. The text is copied by the call, so bytes may change after it. */
   findAllAsync(text: TextOf<P>, options?: Search): Promise<Match[]>;
   findAllFlatAsync(text: TextOf<P>, options?: Search): Promise<Uint32Array | Float64Array>;
 
   /** The text with each match replaced. A function is given the match. Bytes make a new Buffer. */
   replace(text: TextOf<P>, replacements: TextPerPattern<P> | ((match: Match) => TextOf<P>), options?: Words): ChangedOf<P>;
-  /** The same, on another thread. A function is called on this one. What `findAllAsync` says of bytes holds here. */
+  /** The same, on another thread. A function is called on this one. The text is copied by the call. */
   replaceAsync(text: TextOf<P>, replacements: TextPerPattern<P> | ((match: Match) => TextOf<P>), options?: Words): Promise<ChangedOf<P>>;
   /** Reads replacements, so that many calls of `replace` needn't. */
   replacements(given: TextPerPattern<P>): Replacements<P>;

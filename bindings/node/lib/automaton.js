@@ -120,7 +120,8 @@ class Automaton {
   async replaceAsync(text, replacements, options) {
     const how = wordsOf(options) | latinOf(text);
     if (typeof replacements === 'function') {
-      return spliced(text, matchesOf(await native.allLater(this.#searcher, text, how)), replacements);
+      const held = text instanceof Uint8Array ? Uint8Array.prototype.slice.call(text) : text;
+      return spliced(held, matchesOf(await native.allLater(this.#searcher, held, how)), replacements);
     }
     return native.replaceLater(this.#searcher, text, how, replacementsOf(this.#patterns, this.#isText, replacements).native);
   }

@@ -8,6 +8,10 @@ const { Buffer } = require('node:buffer');
 const ROOM = 256;
 const HEAD = 16;
 
+// What arrays are made of is taken here, so that a program which sets these names later changes nothing.
+const { ArrayBuffer, Float64Array, Uint32Array } = globalThis;
+const { allocUnsafe } = Buffer;
+
 const room = new ArrayBuffer(HEAD + ROOM * 3 * 8);
 const ints = new Uint32Array(room);
 const doubles = new Float64Array(room);
@@ -22,10 +26,10 @@ function load() {
   }
 }
 
-/** Makes the arrays that the addon fills, so that out of memory is an exception. */
+/** Makes the arrays that the addon fills, so that out of memory is an exception. The addon looks at what it gets. */
 function allocate(type, count) {
   switch (type) {
-    case 0: return Buffer.allocUnsafe(count);
+    case 0: return allocUnsafe(count);
     case 1: return new Uint32Array(count);
     default: return new Float64Array(count);
   }
@@ -48,10 +52,12 @@ function matchesOf(result) {
   return ints[1] === 0 ? objects(ints, HEAD / 4, result) : objects(doubles, HEAD / 8, result);
 }
 
-/** The matches of a result in a row, three numbers each. */
+/** The matches of a result in a row, three numbers each. No method of an array is called, which could be given the room. */
 function flatOf(result) {
   if (typeof result !== 'number') return result;
-  return ints[1] === 0 ? ints.slice(HEAD / 4, HEAD / 4 + 3 * result) : doubles.slice(HEAD / 8, HEAD / 8 + 3 * result);
+  const [from, at, flat] = ints[1] === 0 ? [ints, HEAD / 4, new Uint32Array(3 * result)] : [doubles, HEAD / 8, new Float64Array(3 * result)];
+  for (let i = 0; i < 3 * result; i++) flat[i] = from[at + i];
+  return flat;
 }
 
 /** The first match of a result, or null. */

@@ -5,6 +5,8 @@
 const { badArgument, badSetting } = require('./errors');
 const { KINDS, START_KINDS, ENGINES, numberOf } = require('./options');
 
+const { Float64Array, Uint8Array } = globalThis; // a program may set these names later
+
 const DEFAULTS = Object.freeze({
   kind: 'standard',
   startKind: 'unanchored',

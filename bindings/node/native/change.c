@@ -272,12 +272,15 @@ static napi_value mask_latin(napi_env env, const Searcher *of, Text *text, uint3
     return status == DADO_OK ? latin_value(env, text->own, text->len) : refuse(env, status);
 }
 
-static napi_value mask_bytes(napi_env env, const Searcher *of, Text *text, uint32_t how, uint8_t star) {
+/* The bytes are asked for again after JavaScript has made the array. */
+static napi_value mask_bytes(napi_env env, const Searcher *of, napi_value value, Text *text, uint32_t how, uint8_t star) {
     void *to = NULL;
+    Text now;
     dado_status status;
     napi_value buffer = array_new(env, ARRAY_BYTES, text->len, &to);
-    if (buffer == NULL) return NULL;
-    if (text->len != 0) memcpy(to, text->at, text->len);
+    if (buffer == NULL || text_read(env, of, value, 0, NULL, &now) < 0) return NULL;
+    if (now.len != text->len) return refuse(env, DADO_BAD_ARGUMENT);
+    if (now.len != 0) memcpy(to, now.at, now.len);
     status = mask(of, to, text->len, how, star);
     return status == DADO_OK ? buffer : refuse(env, status);
 }
@@ -297,7 +300,7 @@ napi_value call_mask(napi_env env, napi_callback_info info) {
     switch (text.form) {
     case FORM_UNITS: value = mask_units(env, of, &text, how, (char16_t)star); break;
     case FORM_LATIN: value = mask_latin(env, of, &text, how, (uint8_t)star); break;
-    default: value = mask_bytes(env, of, &text, how, (uint8_t)star); break;
+    default: value = mask_bytes(env, of, given[1], &text, how, (uint8_t)star); break;
     }
     text_let_go(&text);
     return value;

@@ -2,12 +2,13 @@
 #include "native.h"
 
 #include <stdlib.h>
+#include <string.h>
 
-/* A call: it holds all that it reads, until its promise is settled. */
+/* A call: it holds all that it reads, until its promise is settled. Bytes are copied as strings are: nothing of Node keeps a buffer from being
+ * written to, resized, or handed to another thread. */
 typedef struct {
     napi_async_work work;
     napi_deferred deferred;
-    napi_ref bytes;               /* the text, if it is bytes */
     Searcher *of;
     Replacements *by;             /* NULL for a search */
     Text text;
@@ -29,7 +30,6 @@ static void run(napi_env env, void *data) {
 
 static void job_let_go(napi_env env, Job *it) {
     if (it->work != NULL) (void)napi_delete_async_work(env, it->work);
-    if (it->bytes != NULL) (void)napi_delete_reference(env, it->bytes);
     text_let_go(&it->text);
     flat_let_go(&it->flat);
     changed_let_go(&it->changed);
@@ -54,10 +54,9 @@ static void settle(napi_env env, napi_status ran, void *data) {
 }
 
 /* Begins the call. The promise is what JavaScript is given. */
-static napi_value queued(napi_env env, Job *it, napi_value text) {
+static napi_value queued(napi_env env, Job *it) {
     napi_value name, promise;
-    if ((it->text.form == FORM_BYTES && napi_create_reference(env, text, 1, &it->bytes) != napi_ok) ||
-        napi_create_string_utf8(env, "dadofennel", NAPI_AUTO_LENGTH, &name) != napi_ok ||
+    if (napi_create_string_utf8(env, "dadofennel", NAPI_AUTO_LENGTH, &name) != napi_ok ||
         napi_create_async_work(env, NULL, name, run, settle, it, &it->work) != napi_ok ||
         napi_create_promise(env, &it->deferred, &promise) != napi_ok || napi_queue_async_work(env, it->work) != napi_ok) {
         failed(env);
@@ -65,6 +64,16 @@ static napi_value queued(napi_env env, Job *it, napi_value text) {
         return NULL;
     }
     return promise;
+}
+
+/* Copies the bytes of a text, which a string is read into anyway. */
+static int keep(Text *it) {
+    if (it->form != FORM_BYTES) return 0;
+    it->own = malloc(it->len + 1);
+    if (it->own == NULL) return -1;
+    if (it->len != 0) memcpy(it->own, it->at, it->len);
+    it->at = it->own;
+    return 0;
 }
 
 static Job *job_of(napi_env env, Searcher *of, Replacements *by, napi_value text, uint32_t how) {
@@ -75,6 +84,11 @@ static Job *job_of(napi_env env, Searcher *of, Replacements *by, napi_value text
     }
     if (text_read(env, of, text, how, NULL, &it->text) < 0) {
         free(it);
+        return NULL;
+    }
+    if (keep(&it->text) < 0) {
+        free(it);
+        refuse(env, DADO_NO_MEMORY);
         return NULL;
     }
     it->of = searcher_shared(of), it->by = by == NULL ? NULL : replacements_shared(by), it->how = how;
@@ -93,7 +107,7 @@ napi_value later_all(napi_env env, napi_callback_info info) {
     it = of == NULL ? NULL : job_of(env, of, NULL, given[1], how_of(env, given[2]));
     if (it == NULL) return NULL;
     if (count == 5) span_of(env, &it->text, given[3], given[4]);
-    return queued(env, it, given[1]);
+    return queued(env, it);
 }
 
 /* replaceLater(searcher, text, how, replacements): a promise of the text. */
@@ -106,5 +120,5 @@ napi_value later_replace(napi_env env, napi_callback_info info) {
     of = object_of(env, given[0], SEARCHER);
     by = of == NULL ? NULL : object_of(env, given[3], REPLACEMENTS);
     it = by == NULL ? NULL : job_of(env, of, by, given[1], how_to_replace(of, by, how_of(env, given[2])));
-    return it == NULL ? NULL : queued(env, it, given[1]);
+    return it == NULL ? NULL : queued(env, it);
 }

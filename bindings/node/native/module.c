@@ -134,8 +134,10 @@ napi_value handed_over(napi_env env, void *object, napi_finalize finalize) {
     return failed(env);
 }
 
-/* JavaScript makes the array, so that out of memory is an exception; Node's own call would end the process. */
+/* JavaScript makes the array, so that out of memory is an exception; Node's own call would end the process. What it makes is no more trusted
+ * than an argument: a program may have put anything in the place of what makes arrays. */
 napi_value array_new(napi_env env, int type, size_t count, void **at) {
+    static const napi_typedarray_type types[] = {napi_uint8_array, napi_uint32_array, napi_float64_array};
     Instance *instance = instance_of(env);
     napi_value arguments[2], function, receiver, array;
     size_t length = 0;
@@ -146,7 +148,7 @@ napi_value array_new(napi_env env, int type, size_t count, void **at) {
         napi_call_function(env, receiver, function, 2, arguments, &array) != napi_ok ||
         napi_get_typedarray_info(env, array, &held, &length, at, NULL, NULL) != napi_ok)
         return failed(env);
-    return length == count ? array : refuse_argument(env, "an array has another length than was asked for");
+    return held == types[type] && length == count ? array : refuse_argument(env, "an array is of another type or length than was asked for");
 }
 
 napi_value buffer_of(napi_env env, const void *at, size_t len) {

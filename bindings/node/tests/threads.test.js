@@ -82,6 +82,26 @@ test('what is let go is freed', async () => {
   assert.ok(grown < 40 * size, `${grown} bytes more after 200 automata of ${size}`);
 });
 
+test('bytes that are written to, resized or handed on while they are searched', async () => {
+  const of = new Automaton([Buffer.from('b')]);
+  const size = 1 << 22;
+  const filled = (buffer) => new Uint8Array(buffer).fill(0x61, 0, size - 1).fill(0x62, size - 1);
+  const handedOn = ({ buffer }) => new Uint8Array(structuredClone(buffer, { transfer: [buffer] })).fill(0x62);
+  const ways = [[new ArrayBuffer(size), (text) => text.fill(0x62)], [new ArrayBuffer(size), handedOn]];
+  const growing = new ArrayBuffer(size, { maxByteLength: 2 * size });
+  if (growing.resizable) ways.push([growing, ({ buffer }) => buffer.resize(0)]);
+  for (const [buffer, change] of ways) {
+    const busy = Array.from({ length: 8 }, () => of.findAllAsync(filled(new ArrayBuffer(size)))); // so the pool has work before
+    const text = filled(buffer);
+    const calls = [of.findAllFlatAsync(text), of.replaceAsync(text, [Buffer.from('c')]), of.replaceAsync(text, () => Buffer.from('c'))];
+    change(text);
+    const [flat, replaced, byFunction] = await Promise.all(calls);
+    assert.deepStrictEqual(flat, Uint32Array.of(0, size - 1, size));
+    for (const made of [replaced, byFunction]) assert.deepStrictEqual([made.length, made.indexOf('c')], [size, size - 1]);
+    await Promise.all(busy);
+  }
+});
+
 /** A worker that runs this function. */
 const worker = (run) => new Worker(`(${run})(require(${JSON.stringify(require.resolve('dadofennel'))}), require('node:worker_threads').parentPort)`, { eval: true });
 

@@ -46,12 +46,18 @@ export interface Settings {
   rowMemory?: number;
 }
 
-/** Which matches a replacement or a stream takes. */
+/** Which matches a replacement takes. No call takes another option than those of its type: one that it doesn't have is a TypeError. */
 export interface Words {
   /** Whole words alone: occurrences with no letter, digit, `_` or unit beyond ASCII beside them. It needs the standard kind. */
   words?: boolean;
   /** The kind by which whole words are taken one after another: `'standard'`, if it isn't given. Only with `words`. */
   kind?: Kind;
+}
+
+/** Which matches a stream takes. */
+export interface Pieces extends Words {
+  /** All whole words, in the order of end, start and number. Only with `words`. */
+  overlapping?: boolean;
 }
 
 /** Which matches a search takes, and where. */
@@ -95,7 +101,7 @@ export interface Stream<P> {
   push(piece: TextOf<P>): Match[];
   /** Ends the text, and returns the matches that are left. */
   finish(): Match[];
-  /** The place up to which all is decided: no match that is still to come begins before it. */
+  /** The place up to which all is decided: no match that is still to come begins before it; of all whole words, none ends before it. */
   readonly cut: number;
 }
 
@@ -154,17 +160,17 @@ export class Automaton<P extends string | Uint8Array = string> {
   maskInPlace(bytes: Uint8Array, star?: string | number, options?: Pick<Words, 'words'>): void;
 
   /** Begins a text that comes in pieces. No pattern may be empty. */
-  stream(options?: Words): Stream<P>;
+  stream(options?: Pieces): Stream<P>;
   /**
    * The matches of what a readable stream or another iterable has, each as soon as it is decided. For patterns of strings, chunks of
    * bytes are decoded as UTF-8, and places are UTF-16 units.
    */
-  findStream(source: Iterable<string | Uint8Array> | AsyncIterable<string | Uint8Array>, options?: Words): AsyncGenerator<Match, void, void>;
+  findStream(source: Iterable<string | Uint8Array> | AsyncIterable<string | Uint8Array>, options?: Pieces): AsyncGenerator<Match, void, void>;
   /**
    * A Transform of bytes that replaces each match. For patterns of strings the bytes are UTF-8. A function is given matches with places
    * in bytes. At most as many bytes as the longest pattern has are kept back between two chunks.
    */
   replaceStream(replacements: TextPerPattern<P> | ((match: Match) => TextOf<P>), options?: Words): Transform;
-  /** A Transform of bytes that masks each byte of each occurrence. It needs the standard kind. */
-  maskStream(star?: string | number): Transform;
+  /** A Transform of bytes that masks each byte of each occurrence, or of each whole word. It needs the standard kind. */
+  maskStream(star?: string | number, options?: Pick<Words, 'words'>): Transform;
 }

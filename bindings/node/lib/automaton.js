@@ -3,7 +3,7 @@
 const { Buffer } = require('node:buffer');
 const { badArgument, badSetting } = require('./errors');
 const { native, matchesOf, flatOf, firstOf } = require('./native');
-const { ENGINES, SHORT, asked, latinOf, lengthOf, wordsOf } = require('./options');
+const { ENGINES, SHORT, asked, changeOf, latinOf, lengthOf, maskOf, streamOf } = require('./options');
 const { replacementsOf, spliced, utf8Of } = require('./replacements');
 const { settingsOf, numbersOf, patternsOf } = require('./settings');
 const { Stream, found, masking, replacing, splicing } = require('./streams');
@@ -105,10 +105,8 @@ class Automaton {
   }
 
   replace(text, replacements, options) {
-    const how = wordsOf(options);
-    if (typeof replacements === 'function') {
-      return spliced(text, this.matches(text, options && { words: options.words, kind: options.kind }), replacements);
-    }
+    const how = changeOf(options);
+    if (typeof replacements === 'function') return spliced(text, this.matches(text, options), replacements);
     const by = replacementsOf(this.#patterns, this.#isText, replacements);
     const found = lengthOf(text) > SHORT
       ? native.replace(this.#searcher, text, how | latinOf(text), by.native)
@@ -118,7 +116,7 @@ class Automaton {
   }
 
   async replaceAsync(text, replacements, options) {
-    const how = wordsOf(options) | latinOf(text);
+    const how = changeOf(options) | latinOf(text);
     if (typeof replacements === 'function') {
       const held = text instanceof Uint8Array ? Uint8Array.prototype.slice.call(text) : text;
       return spliced(held, matchesOf(await native.allLater(this.#searcher, held, how)), replacements);
@@ -127,15 +125,15 @@ class Automaton {
   }
 
   mask(text, star = '*', options) {
-    return native.mask(this.#searcher, text, wordsOf(options) | latinOf(text), starOf(star, typeof text === 'string'));
+    return native.mask(this.#searcher, text, maskOf(options) | latinOf(text), starOf(star, typeof text === 'string'));
   }
 
   maskInPlace(bytes, star = '*', options) {
-    native.maskInPlace(this.#searcher, bytes, wordsOf(options), starOf(star, false));
+    native.maskInPlace(this.#searcher, bytes, maskOf(options), starOf(star, false));
   }
 
   stream(options) {
-    return new Stream(this.#searcher, wordsOf(options));
+    return new Stream(this.#searcher, streamOf(options));
   }
 
   findStream(source, options) {
@@ -143,7 +141,7 @@ class Automaton {
   }
 
   replaceStream(replacements, options) {
-    const how = wordsOf(options);
+    const how = changeOf(options);
     const searcher = this.#ofBytes();
     if (typeof replacements === 'function') {
       const of = this.#isText ? (match) => utf8Of(replacements(match)) : replacements;
@@ -155,8 +153,8 @@ class Automaton {
     return splicing(searcher, how, (match) => list[match.pattern]);
   }
 
-  maskStream(star = '*') {
-    return masking(this.#ofBytes(), starOf(star, false));
+  maskStream(star = '*', options) {
+    return masking(this.#ofBytes(), maskOf(options), starOf(star, false));
   }
 
   /** What searches bytes: for patterns of strings, their UTF-8. */

@@ -43,6 +43,19 @@ function place(name, value, least, most) {
   return value;
 }
 
+/** The options that each call takes; one that it doesn't take is refused. */
+const OF_SEARCHES = ['words', 'kind', 'overlapping', 'anchored', 'earliest', 'start', 'end'];
+const OF_CHANGES = ['words', 'kind'];
+const OF_MASKS = ['words'];
+const OF_STREAMS = ['words', 'kind', 'overlapping'];
+
+function refuseOthers(options, taken) {
+  if (options === null || typeof options !== 'object') throw badArgument('the options are no object');
+  for (const name of Object.keys(options)) {
+    if (!taken.includes(name) && options[name] !== undefined) throw badArgument(`this call has no option ${name}; it takes ${taken.join(', ')}`);
+  }
+}
+
 /** The way of a call, and the kind of its words. */
 function wayOf({ words = false, kind, overlapping = false }) {
   if (kind !== undefined && (!words || overlapping)) {
@@ -54,7 +67,7 @@ function wayOf({ words = false, kind, overlapping = false }) {
 
 /** How a text is searched, without its span. */
 function howOf(text, options) {
-  if (options === null || typeof options !== 'object') throw badArgument('the options are no object');
+  refuseOthers(options, OF_SEARCHES);
   const { words, overlapping, anchored, earliest, start, end } = options;
   if (words && (start !== undefined || end !== undefined)) throw badArgument('whole words are those of the whole text');
   if ((words || overlapping) && (anchored || earliest)) throw badArgument('anchored and earliest are for matches one after another');
@@ -73,10 +86,19 @@ function asked(call, searcher, text, options) {
 }
 
 /** The way of a replacement, a mask or a stream, which are of the whole text. */
-function wordsOf(options) {
+function ofWhole(options, taken) {
   if (options === undefined) return 0;
-  if (options === null || typeof options !== 'object') throw badArgument('the options are no object');
-  return wayOf({ words: options.words, kind: options.kind });
+  refuseOthers(options, taken);
+  return wayOf(options);
 }
 
-module.exports = { KINDS, START_KINDS, ENGINES, SHORT, asked, latinOf, lengthOf, numberOf, wordsOf };
+const changeOf = (options) => ofWhole(options, OF_CHANGES);
+const maskOf = (options) => ofWhole(options, OF_MASKS);
+
+function streamOf(options) {
+  const how = ofWhole(options, OF_STREAMS);
+  if (how === OCCURRENCES) throw badArgument('a stream takes overlapping for whole words alone');
+  return how;
+}
+
+module.exports = { KINDS, START_KINDS, ENGINES, SHORT, asked, changeOf, latinOf, lengthOf, maskOf, numberOf, streamOf };

@@ -67,8 +67,8 @@ function replacing(searcher, replacements) {
   return new Changed((chunk) => native.replacerPush(replacer, chunk), () => native.replacerFinish(replacer));
 }
 
-function masking(searcher, star) {
-  const masker = native.masker(searcher, star);
+function masking(searcher, how, star) {
+  const masker = native.masker(searcher, how, star);
   return new Changed((chunk) => native.maskerPush(masker, chunk), () => native.maskerFinish(masker));
 }
 

@@ -80,6 +80,7 @@ typedef struct {
     uint8_t other, marker;        /* the code of all units that the table lacks; a byte that no text is written with */
     uint8_t *codes;
     size_t code_count;
+    size_t *widths;               /* how many units each pattern has, where units have several bytes */
     uint32_t kind;
     size_t memory;
 } Searcher;

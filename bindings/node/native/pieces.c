@@ -23,10 +23,19 @@ static void pieces_finalize(napi_env env, void *data, void *hint) {
     free(it);
 }
 
-/* pieces(searcher, how): of matches, or of whole words under a kind. */
+/* A stream of what is asked for. There is none of all occurrences. */
+static dado_status stream_of(const dado_automaton *ac, uint32_t how, dado_stream **stream) {
+    switch (how & WAY) {
+    case MATCHES: return dado_stream_new(ac, stream);
+    case WORDS: return dado_word_stream_new(ac, (how & KIND) >> KIND_SHIFT, stream);
+    case ALL_WORDS: return dado_all_words_stream_new(ac, stream);
+    default: return DADO_BAD_ARGUMENT;
+    }
+}
+
+/* pieces(searcher, how): of matches, of whole words under a kind, or of all whole words. */
 napi_value pieces_new(napi_env env, napi_callback_info info) {
     napi_value given[2];
-    uint32_t how;
     Searcher *of;
     Pieces *it;
     dado_status status;
@@ -35,8 +44,7 @@ napi_value pieces_new(napi_env env, napi_callback_info info) {
     if (of == NULL) return NULL;
     it = calloc(1, sizeof *it);
     if (it == NULL) return refuse(env, DADO_NO_MEMORY);
-    how = how_of(env, given[1]);
-    status = how & WORDS ? dado_word_stream_new(of->handle, (how & KIND) >> KIND_SHIFT, &it->stream) : dado_stream_new(of->handle, &it->stream);
+    status = stream_of(of->handle, how_of(env, given[1]), &it->stream);
     if (status != DADO_OK) {
         free(it);
         return refuse(env, status);
@@ -62,15 +70,15 @@ static void count_to(Pieces *it, const dado_held *held, size_t place) {
 /* The place up to which all is decided: of a finished text, its end. */
 static size_t decided_to(const Pieces *it, const dado_held *held) { return it->is_finished ? held->from + held->len : held->cut; }
 
-/* Turns the places of matches from bytes to units. No pattern is empty, so each match is of whole units. */
+/* Turns the places of matches from bytes to units. They end after what was counted; but one of all whole words may begin before what the
+ * stream still holds, so each has as many units as its pattern. */
 static dado_status in_units(Pieces *it, dado_match *found, size_t count) {
     dado_held held;
     dado_status status = dado_stream_view(&it->stream, &held);
     size_t i;
     for (i = 0; status == DADO_OK && i < count; i++) {
-        size_t within = units_in(held.at + (found[i].start - held.from), found[i].end - found[i].start);
         count_to(it, &held, found[i].end);
-        found[i].end = it->counted.characters, found[i].start = found[i].end - within;
+        found[i].end = it->counted.characters, found[i].start = found[i].end - it->of->widths[found[i].pattern];
     }
     return status;
 }
@@ -177,14 +185,15 @@ static void changer_finalize(napi_env env, void *data, void *hint) {
     free(it);
 }
 
-static napi_value changer_new(napi_env env, Tag tag, const Searcher *of, Replacements *by, uint8_t star) {
+static Changer *changer_new(napi_env env, Tag tag) {
     Changer *it = calloc(1, sizeof *it);
-    dado_status status;
-    if (it == NULL) return refuse(env, DADO_NO_MEMORY);
-    it->tag = tag;
-    status = tag == REPLACER ? dado_replacer_new(of->handle, &it->replacer) : dado_masker_new(of->handle, star, &it->masker);
-    if (status == DADO_OK && by != NULL && by->count != dado_pattern_count(of->handle)) status = DADO_WRONG_COUNT;
-    if (status == DADO_OK && by != NULL) it->by = replacements_shared(by);
+    if (it == NULL) refuse(env, DADO_NO_MEMORY);
+    else it->tag = tag;
+    return it;
+}
+
+/* Hands over what was begun, or frees it. */
+static napi_value changer_begun(napi_env env, Changer *it, dado_status status) {
     if (status == DADO_OK) return handed_over(env, it, changer_finalize);
     changer_finalize(env, it, NULL);
     return refuse(env, status);
@@ -269,20 +278,34 @@ napi_value replacer_new(napi_env env, napi_callback_info info) {
     napi_value given[2];
     const Searcher *of;
     Replacements *by;
+    Changer *it;
+    dado_status status;
     if (arguments_of(env, info, given, 2, NULL) < 0) return NULL;
     of = object_of(env, given[0], SEARCHER);
     by = of == NULL ? NULL : object_of(env, given[1], REPLACEMENTS);
     if (by == NULL) return NULL;
-    return by->is_text && by->count != 0 ? refuse(env, DADO_BAD_ARGUMENT) : changer_new(env, REPLACER, of, by, 0);
+    if (by->is_text && by->count != 0) return refuse(env, DADO_BAD_ARGUMENT);
+    it = changer_new(env, REPLACER);
+    if (it == NULL) return NULL;
+    status = dado_replacer_new(of->handle, &it->replacer);
+    if (status == DADO_OK && by->count != dado_pattern_count(of->handle)) status = DADO_WRONG_COUNT;
+    if (status == DADO_OK) it->by = replacements_shared(by);
+    return changer_begun(env, it, status);
 }
 
-/* masker(searcher, byte) */
+/* masker(searcher, how, byte): of all occurrences, or of all whole words. */
 napi_value masker_new(napi_env env, napi_callback_info info) {
-    napi_value given[2];
+    napi_value given[3];
     const Searcher *of;
-    if (arguments_of(env, info, given, 2, NULL) < 0) return NULL;
+    Changer *it;
+    uint8_t star;
+    if (arguments_of(env, info, given, 3, NULL) < 0) return NULL;
     of = object_of(env, given[0], SEARCHER);
-    return of == NULL ? NULL : changer_new(env, MASKER, of, NULL, (uint8_t)how_of(env, given[1]));
+    it = of == NULL ? NULL : changer_new(env, MASKER);
+    if (it == NULL) return NULL;
+    star = (uint8_t)how_of(env, given[2]);
+    return changer_begun(env, it, how_of(env, given[1]) & WORDS ? dado_word_masker_new(of->handle, star, &it->masker)
+                                                                : dado_masker_new(of->handle, star, &it->masker));
 }
 
 napi_value replacer_push(napi_env env, napi_callback_info info) { return push(env, info, REPLACER); }

@@ -135,6 +135,16 @@ static dado_status choose_codes(Searcher *it, const Patterns *of) {
     return DADO_OK;
 }
 
+/* How many units each pattern has. */
+static dado_status measure(Searcher *it, const Patterns *of) {
+    size_t i;
+    if (!it->is_wide) return DADO_OK;
+    it->widths = malloc((of->count + 1) * sizeof *it->widths);
+    if (it->widths == NULL) return DADO_NO_MEMORY;
+    for (i = 0; i < of->count; i++) it->widths[i] = of->ends[i] - (i == 0 ? 0 : of->ends[i - 1]);
+    return DADO_OK;
+}
+
 /* The bytes of each pattern, as a text is written. */
 static dado_status code_patterns(const Searcher *it, Patterns *of) {
     size_t i, start = 0, at = 0;
@@ -167,6 +177,7 @@ void searcher_released(Searcher *it) {
     if (--it->refs != 0) return;
     dado_free(&it->handle);
     free(it->codes);
+    free(it->widths);
     free(it);
 }
 
@@ -215,6 +226,7 @@ static napi_value build(napi_env env, Searcher *it, Patterns *patterns, const da
     dado_fault fault = {0, 0};
     int64_t now;
     dado_status status = it->is_text ? choose_codes(it, patterns) : DADO_OK;
+    if (status == DADO_OK) status = measure(it, patterns);
     if (status == DADO_OK) status = code_patterns(it, patterns);
     if (status == DADO_OK) status = dado_build(patterns->each, patterns->count, settings, &it->handle, &fault);
     if (status != DADO_OK) {
@@ -222,7 +234,8 @@ static napi_value build(napi_env env, Searcher *it, Patterns *patterns, const da
         return refuse_build(env, status, &fault);
     }
     it->kind = settings->kind;
-    it->memory = dado_memory(it->handle) + (it->codes == NULL ? 0 : it->code_count);
+    it->memory = dado_memory(it->handle) + (it->codes == NULL ? 0 : it->code_count) +
+                 (it->widths == NULL ? 0 : patterns->count * sizeof *it->widths);
     (void)napi_adjust_external_memory(env, (int64_t)it->memory, &now);
     return handed_over(env, it, searcher_finalize);
 }

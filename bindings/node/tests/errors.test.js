@@ -113,6 +113,44 @@ test('spans and options', () => {
   refuses(() => ac.replace('a', 'b', 7), TypeError, 'DADO_BAD_ARGUMENT');
 });
 
+const TAKEN = {
+  words: ['find', 'isMatch', 'findAll', 'findAllFlat', 'matches', 'overlapping', 'replace', 'mask', 'maskInPlace', 'stream', 'findStream', 'replaceStream', 'maskStream'],
+  kind: ['find', 'isMatch', 'findAll', 'findAllFlat', 'matches', 'replace', 'stream', 'findStream', 'replaceStream'],
+  overlapping: ['find', 'isMatch', 'findAll', 'findAllFlat', 'matches', 'overlapping', 'stream', 'findStream'],
+  anchored: ['find', 'isMatch', 'findAll', 'findAllFlat', 'matches'],
+  earliest: ['find', 'isMatch', 'findAll', 'findAllFlat', 'matches'],
+  start: ['find', 'isMatch', 'findAll', 'findAllFlat', 'matches', 'overlapping'],
+  end: ['find', 'isMatch', 'findAll', 'findAllFlat', 'matches', 'overlapping'],
+  word: [],
+};
+const VALUES = { kind: 'standard', start: 0, end: 1 };
+
+test('each call takes its own options, and refuses all others', async () => {
+  const ac = new Automaton(['a'], { startKind: 'both' });
+  const calls = {
+    find: (it) => ac.find('a', it), isMatch: (it) => ac.isMatch('a', it), findAll: (it) => ac.findAll('a', it),
+    findAllFlat: (it) => ac.findAllFlat('a', it), matches: (it) => ac.matches('a', it), overlapping: (it) => ac.overlapping('a', it),
+    replace: (it) => ac.replace('a', 'b', it), mask: (it) => ac.mask('a', '*', it), stream: (it) => ac.stream(it),
+    maskInPlace: (it) => new Automaton([Buffer.from('a')]).maskInPlace(Buffer.from('a'), '*', it),
+    findStream: (it) => ac.findStream(['a'], it), replaceStream: (it) => ac.replaceStream('b', it), maskStream: (it) => ac.maskStream('*', it),
+  };
+  for (const [option, taken] of Object.entries(TAKEN)) {
+    const given = { [option]: VALUES[option] ?? true };
+    if (option === 'kind') given.words = true;
+    for (const [name, call] of Object.entries(calls)) {
+      const isStream = name === 'stream' || name === 'findStream';
+      const options = isStream && option === 'overlapping' ? { ...given, words: true } : given;
+      if (taken.includes(name)) call(options);
+      else refuses(() => call(options), TypeError, 'DADO_BAD_ARGUMENT');
+      call({ [option]: undefined });
+    }
+  }
+  refuses(() => ac.stream({ overlapping: true }), TypeError, 'DADO_BAD_ARGUMENT');
+  refuses(() => ac.stream({ words: true, overlapping: true, kind: 'standard' }), TypeError, 'DADO_BAD_ARGUMENT');
+  await assert.rejects(ac.replaceAsync('a', 'b', { start: 0 }), refused(TypeError, 'DADO_BAD_ARGUMENT'));
+  await assert.rejects(ac.findAllAsync('a', { word: true }), refused(TypeError, 'DADO_BAD_ARGUMENT'));
+});
+
 test('replacements', () => {
   const ac = new Automaton(['a', 'b']);
   refuses(() => ac.replace('a', ['x']), RangeError, 'DADO_WRONG_COUNT');

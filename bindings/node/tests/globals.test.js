@@ -55,5 +55,5 @@ test('replaced after the package was loaded, they change nothing', () => {
 test('replaced before it, they are an error at worst', () => {
   const smaller = results('globalThis.Uint32Array = Uint8Array', '');
   assert.strictEqual(smaller[0], 'DADO_BAD_ARGUMENT');
-  for (const it of REPLACED.slice(1)) results(it, '');
+  for (const it of REPLACED.slice(1, 4)) results(it, '');
 });

@@ -56,6 +56,32 @@ test('whole words in pieces', () => {
   assert.deepStrictEqual(triples(found.concat(stream.finish())), [[0, 0, 3], [1, 12, 20]]);
 });
 
+test('all whole words in pieces, wherever the text is cut', () => {
+  const text = 'new york new yorker \u4e00 new york';
+  for (const more of [[], FAR]) {
+    const ac = new Automaton(['new', 'york', 'new york', ...more]);
+    const wanted = ac.overlapping(text, { words: true });
+    assert.strictEqual(wanted.length, more.length === 0 ? 7 : 8);
+    for (let one = 0; one <= text.length; one++) {
+      const stream = ac.stream({ words: true, overlapping: true });
+      const found = [text.slice(0, one), text.slice(one)].flatMap((piece) => stream.push(piece));
+      assert.deepStrictEqual(found.concat(stream.finish()), wanted);
+      const single = ac.stream({ words: true, overlapping: true });
+      assert.deepStrictEqual([...text].flatMap((unit) => single.push(unit)).concat(single.finish()), wanted);
+    }
+  }
+});
+
+test('a long word in pieces, with units of several bytes', () => {
+  const long = `${'\u4e00'.repeat(30000)} ${'a'.repeat(70000)}`;
+  const ac = new Automaton([long, 'a'.repeat(70000), ...FAR.slice(1)]);
+  const text = `${long} ${FAR[7]} ${long}`;
+  const stream = ac.stream({ words: true, overlapping: true });
+  const found = [];
+  for (let at = 0; at < text.length; at += 997) found.push(...stream.push(text.slice(at, at + 997)));
+  assert.deepStrictEqual(found.concat(stream.finish()), ac.overlapping(text, { words: true }));
+});
+
 test('more matches in one piece than there is room for', () => {
   const stream = new Automaton(['a']).stream();
   assert.strictEqual(stream.push('ab'.repeat(50000)).length, 50000);
@@ -123,6 +149,16 @@ test('a Transform that masks', async () => {
     assert.strictEqual((await through(ac.maskStream(), [bytes.subarray(0, at), bytes.subarray(at)])).toString(), 'login *******, **');
   }
   assert.strictEqual((await through(ac.maskStream('#'), ['hunter2'])).toString(), '#######');
+});
+
+test('a Transform that masks whole words', async () => {
+  const bytes = Buffer.from('renewal new, new\u00e9 new');
+  for (const of of [new Automaton(['new']), new Automaton([Buffer.from('new')])]) {
+    for (let at = 0; at <= bytes.length; at++) {
+      const made = await through(of.maskStream('*', { words: true }), [bytes.subarray(0, at), bytes.subarray(at)]);
+      assert.strictEqual(made.toString(), 'renewal ***, new\u00e9 ***');
+    }
+  }
 });
 
 test('the matches of a readable stream', async () => {

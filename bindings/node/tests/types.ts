@@ -16,7 +16,8 @@ const last: Match[] = ofText.stream().push('a fox');
 const ofBytes = new Automaton([Uint8Array.of(1, 2)], { pairs: [[1, 2]] });
 const made: Buffer = ofBytes.replace(Buffer.from('a'), [Uint8Array.of(3)]);
 ofBytes.maskInPlace(made, 0x2a);
-ofBytes.replaceStream(Uint8Array.of(3)).pipe(ofBytes.maskStream());
+ofBytes.replaceStream(Uint8Array.of(3)).pipe(ofBytes.maskStream('*', { words: true }));
+ofText.stream({ words: true, overlapping: true });
 
 async function all(source: AsyncIterable<Uint8Array>): Promise<number> {
   let sum = 0;
@@ -30,6 +31,8 @@ ofText.find(Buffer.from('fox'));
 ofBytes.find('fox');
 // @ts-expect-error there is no such kind
 new Automaton(['fox'], { kind: 'longest' });
+// @ts-expect-error a mask has no kind
+ofText.mask('a fox', '*', { words: true, kind: 'standard' });
 // @ts-expect-error there is no such setting
 new Automaton(['fox'], { caseless: true });
 // @ts-expect-error replacements of another type

@@ -18,8 +18,16 @@ void replacements_released(Replacements *it) {
 }
 
 static void replacements_finalize(napi_env env, void *data, void *hint) {
-    (void)env, (void)hint;
-    replacements_released(data);
+    Replacements *it = data;
+    (void)hint;
+    told(env, &it->memory, 0);
+    replacements_released(it);
+}
+
+/* How many bytes they take. */
+static size_t replacements_size(const Replacements *it) {
+    size_t used = it->count == 0 ? 0 : it->ends[it->count - 1];
+    return it->count * (sizeof *it->bytes + sizeof *it->ends) + used * (it->is_text ? sizeof *it->units : 0) + (it->arena == NULL ? 0 : used);
 }
 
 /* Adds the units, or the bytes, of one replacement to what was read: `used` of them, and where they end. */
@@ -102,7 +110,10 @@ napi_value replacements_new(napi_env env, napi_callback_info info) {
         }
         status = point(it);
     }
-    if (status == DADO_OK) return handed_over(env, it, replacements_finalize);
+    if (status == DADO_OK) {
+        told(env, &it->memory, replacements_size(it));
+        return handed_over(env, it, replacements_finalize);
+    }
     replacements_released(it);
     return refuse(env, status);
 }

@@ -151,6 +151,11 @@ napi_value array_new(napi_env env, int type, size_t count, void **at) {
     return held == types[type] && length == count ? array : refuse_argument(env, "an array is of another type or length than was asked for");
 }
 
+void told(napi_env env, int64_t *held, size_t now) {
+    int64_t all;
+    if (napi_adjust_external_memory(env, (int64_t)now - *held, &all) == napi_ok) *held = (int64_t)now;
+}
+
 napi_value buffer_of(napi_env env, const void *at, size_t len) {
     void *to = NULL;
     napi_value buffer = array_new(env, ARRAY_BYTES, len, &to);

@@ -56,6 +56,8 @@ void *object_of(napi_env env, napi_value value, Tag tag);
 napi_value handed_over(napi_env env, void *object, napi_finalize finalize);
 /* A new array of so many items, and where they lie. NULL with an exception. */
 napi_value array_new(napi_env env, int type, size_t count, void **at);
+/* Tells V8 of memory that an object holds, beside what it held before, so that it collects what is let go in time. */
+void told(napi_env env, int64_t *held, size_t now);
 /* A copy of bytes, as a Buffer. */
 napi_value buffer_of(napi_env env, const void *at, size_t len);
 napi_value number_value(napi_env env, double number);
@@ -164,6 +166,7 @@ napi_value walk_end(napi_env env, napi_callback_info info);
 typedef struct {
     Tag tag;
     size_t refs, count;
+    int64_t memory;               /* as V8 was told */
     int is_text, is_latin;
     dado_bytes *bytes;
     char16_t *units;

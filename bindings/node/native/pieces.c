@@ -4,21 +4,35 @@
 #include <stdlib.h>
 #include <string.h>
 
+/* How much memory one of them takes, as the header says it. V8 is told, since an object of JavaScript is small that holds so much. And since
+ * Node frees what V8 has collected in a later turn of its loop, the memory is freed once the text was finished. */
+static size_t size_of_one(const dado_automaton *ac) {
+    size_t longest = dado_longest(ac), least = (size_t)64 << 10;
+    return longest < least / 8 ? least : 8 * (longest + 1);
+}
+
 /* ---- Streams ---- */
 
 typedef struct {
     Tag tag;
     Searcher *of;
     dado_stream *stream;
+    int64_t memory;               /* as V8 was told */
     size_t pushed;                /* bytes */
+    size_t end;                   /* of a finished text, in bytes */
     int is_finished;
     dado_counted counted;         /* of units that have several bytes */
 } Pieces;
 
+static void pieces_let_go(napi_env env, Pieces *it) {
+    dado_stream_free(&it->stream);
+    told(env, &it->memory, 0);
+}
+
 static void pieces_finalize(napi_env env, void *data, void *hint) {
     Pieces *it = data;
-    (void)env, (void)hint;
-    dado_stream_free(&it->stream);
+    (void)hint;
+    pieces_let_go(env, it);
     if (it->of != NULL) searcher_released(it->of);
     free(it);
 }
@@ -50,6 +64,7 @@ napi_value pieces_new(napi_env env, napi_callback_info info) {
         return refuse(env, status);
     }
     it->tag = PIECES, it->of = searcher_shared(of);
+    told(env, &it->memory, size_of_one(of->handle));
     return handed_over(env, it, pieces_finalize);
 }
 
@@ -120,7 +135,7 @@ napi_value pieces_push(napi_env env, napi_callback_info info) {
     if (arguments_of(env, info, given, 2, NULL) < 0) return NULL;
     it = object_of(env, given[0], PIECES);
     if (it == NULL || text_read(env, it->of, given[1], 0, &near, &text) < 0) return NULL;
-    status = text_code(it->of, &text, 0, &near);
+    status = it->is_finished ? (dado_status)DADO_FINISHED : text_code(it->of, &text, 0, &near);
     it->pushed += status == DADO_OK ? text.size : 0;
     flat_begin(&flat, instance_of(env)->out, it->pushed > UINT32_MAX);
     do {
@@ -136,14 +151,18 @@ napi_value pieces_finish(napi_env env, napi_callback_info info) {
     napi_value given[1];
     Flat flat;
     Pieces *it;
+    dado_held held;
     dado_status status;
     if (arguments_of(env, info, given, 1, NULL) < 0) return NULL;
     it = object_of(env, given[0], PIECES);
     if (it == NULL) return NULL;
     flat_begin(&flat, instance_of(env)->out, it->pushed > UINT32_MAX);
+    if (it->stream == NULL) return answer(env, DADO_OK, &flat);
     status = dado_stream_finish(&it->stream);
     it->is_finished = status == DADO_OK;
     if (status == DADO_OK) status = decided(it, &flat);
+    if (status == DADO_OK) status = dado_stream_view(&it->stream, &held);
+    if (status == DADO_OK) it->end = held.from + held.len, pieces_let_go(env, it);
     return answer(env, status, &flat);
 }
 
@@ -156,19 +175,22 @@ napi_value pieces_cut(napi_env env, napi_callback_info info) {
     if (arguments_of(env, info, given, 1, NULL) < 0) return NULL;
     it = object_of(env, given[0], PIECES);
     if (it == NULL) return NULL;
+    if (it->of->is_wide) return number_value(env, (double)it->counted.characters);
+    if (it->stream == NULL) return number_value(env, (double)it->end);
     status = dado_stream_view(&it->stream, &held);
-    if (status != DADO_OK) return refuse(env, status);
-    return number_value(env, (double)(it->of->is_wide ? it->counted.characters : decided_to(it, &held)));
+    return status == DADO_OK ? number_value(env, (double)decided_to(it, &held)) : refuse(env, status);
 }
 
 /* ---- Replacers and maskers ---- */
 
-/* Either of them, and what it has made of a piece. */
+/* Either of them. */
 typedef struct {
     Tag tag;
     dado_replacer *replacer;
     dado_masker *masker;
     Replacements *by;
+    int64_t memory;               /* as V8 was told */
+    int is_finished;
 } Changer;
 
 typedef struct {
@@ -176,13 +198,18 @@ typedef struct {
     size_t len, room;
 } Made;
 
-static void changer_finalize(napi_env env, void *data, void *hint) {
-    Changer *it = data;
-    (void)env, (void)hint;
+static void changer_let_go(napi_env env, Changer *it) {
     dado_replacer_free(&it->replacer);
     dado_masker_free(&it->masker);
     if (it->by != NULL) replacements_released(it->by);
-    free(it);
+    it->by = NULL;
+    told(env, &it->memory, 0);
+}
+
+static void changer_finalize(napi_env env, void *data, void *hint) {
+    (void)hint;
+    changer_let_go(env, data);
+    free(data);
 }
 
 static Changer *changer_new(napi_env env, Tag tag) {
@@ -192,11 +219,14 @@ static Changer *changer_new(napi_env env, Tag tag) {
     return it;
 }
 
-/* Hands over what was begun, or frees it. */
-static napi_value changer_begun(napi_env env, Changer *it, dado_status status) {
-    if (status == DADO_OK) return handed_over(env, it, changer_finalize);
-    changer_finalize(env, it, NULL);
-    return refuse(env, status);
+/* Hands over what was begun, and takes so much memory; or frees it. */
+static napi_value changer_begun(napi_env env, Changer *it, dado_status status, size_t memory) {
+    if (status != DADO_OK) {
+        changer_finalize(env, it, NULL);
+        return refuse(env, status);
+    }
+    told(env, &it->memory, memory);
+    return handed_over(env, it, changer_finalize);
 }
 
 static dado_status append(Made *it, dado_bytes slice) {
@@ -230,7 +260,7 @@ static dado_status ready(Changer *it, Made *out) {
 
 static dado_status pushed(Changer *it, const Text *text, Made *out) {
     size_t at = 0, taken = 0;
-    dado_status status = DADO_OK;
+    dado_status status = it->is_finished ? DADO_FINISHED : DADO_OK;
     while (status == DADO_OK && at < text->len) {
         const uint8_t *from = (const uint8_t *)text->at + at;
         status = it->tag == MASKER ? dado_masker_push(&it->masker, from, text->len - at, &taken)
@@ -268,8 +298,10 @@ static napi_value finish(napi_env env, napi_callback_info info, Tag tag) {
     if (arguments_of(env, info, given, 1, NULL) < 0) return NULL;
     it = object_of(env, given[0], tag);
     if (it == NULL) return NULL;
+    if (it->is_finished) return made_value(env, DADO_OK, &made);
     status = tag == MASKER ? dado_masker_finish(&it->masker) : dado_replacer_finish(&it->replacer);
     if (status == DADO_OK) status = ready(it, &made);
+    if (status == DADO_OK) it->is_finished = 1, changer_let_go(env, it);
     return made_value(env, status, &made);
 }
 
@@ -290,7 +322,7 @@ napi_value replacer_new(napi_env env, napi_callback_info info) {
     status = dado_replacer_new(of->handle, &it->replacer);
     if (status == DADO_OK && by->count != dado_pattern_count(of->handle)) status = DADO_WRONG_COUNT;
     if (status == DADO_OK) it->by = replacements_shared(by);
-    return changer_begun(env, it, status);
+    return changer_begun(env, it, status, size_of_one(of->handle));
 }
 
 /* masker(searcher, how, byte): of all occurrences, or of all whole words. */
@@ -299,13 +331,15 @@ napi_value masker_new(napi_env env, napi_callback_info info) {
     const Searcher *of;
     Changer *it;
     uint8_t star;
+    int words;
+    dado_status status;
     if (arguments_of(env, info, given, 3, NULL) < 0) return NULL;
     of = object_of(env, given[0], SEARCHER);
     it = of == NULL ? NULL : changer_new(env, MASKER);
     if (it == NULL) return NULL;
-    star = (uint8_t)how_of(env, given[2]);
-    return changer_begun(env, it, how_of(env, given[1]) & WORDS ? dado_word_masker_new(of->handle, star, &it->masker)
-                                                                : dado_masker_new(of->handle, star, &it->masker));
+    words = (how_of(env, given[1]) & WORDS) != 0, star = (uint8_t)how_of(env, given[2]);
+    status = words ? dado_word_masker_new(of->handle, star, &it->masker) : dado_masker_new(of->handle, star, &it->masker);
+    return changer_begun(env, it, status, (words ? 2 : 1) * size_of_one(of->handle));
 }
 
 napi_value replacer_push(napi_env env, napi_callback_info info) { return push(env, info, REPLACER); }

@@ -183,9 +183,9 @@ void searcher_released(Searcher *it) {
 
 static void searcher_finalize(napi_env env, void *data, void *hint) {
     Searcher *it = data;
-    int64_t now;
+    int64_t held = (int64_t)it->memory;
     (void)hint;
-    (void)napi_adjust_external_memory(env, -(int64_t)it->memory, &now);
+    told(env, &held, 0);
     searcher_released(it);
 }
 
@@ -224,7 +224,7 @@ static napi_value refuse_build(napi_env env, dado_status status, const dado_faul
 
 static napi_value build(napi_env env, Searcher *it, Patterns *patterns, const dado_settings *settings) {
     dado_fault fault = {0, 0};
-    int64_t now;
+    int64_t held = 0;
     dado_status status = it->is_text ? choose_codes(it, patterns) : DADO_OK;
     if (status == DADO_OK) status = measure(it, patterns);
     if (status == DADO_OK) status = code_patterns(it, patterns);
@@ -236,7 +236,7 @@ static napi_value build(napi_env env, Searcher *it, Patterns *patterns, const da
     it->kind = settings->kind;
     it->memory = dado_memory(it->handle) + (it->codes == NULL ? 0 : it->code_count) +
                  (it->widths == NULL ? 0 : patterns->count * sizeof *it->widths);
-    (void)napi_adjust_external_memory(env, (int64_t)it->memory, &now);
+    told(env, &held, it->memory);
     return handed_over(env, it, searcher_finalize);
 }
 

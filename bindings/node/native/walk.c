@@ -207,15 +207,14 @@ typedef struct {
     Text text;
     Going going;
     int over;
-    int64_t memory;               /* of the copy of a string */
+    int64_t memory;               /* of the copy of a string, as V8 was told */
 } Walk;
 
 static void walk_let_go(napi_env env, Walk *it) {
-    int64_t now;
     text_let_go(&it->text);
     if (it->of != NULL) searcher_released(it->of);
-    (void)napi_adjust_external_memory(env, -it->memory, &now);
-    it->of = NULL, it->memory = 0, it->over = 1;
+    told(env, &it->memory, 0);
+    it->of = NULL, it->over = 1;
 }
 
 static void walk_finalize(napi_env env, void *data, void *hint) {
@@ -226,16 +225,14 @@ static void walk_finalize(napi_env env, void *data, void *hint) {
 
 static napi_value walk_of(napi_env env, Searcher *of, Text *text, uint32_t how) {
     Walk *it = calloc(1, sizeof *it);
-    int64_t now;
     if (it == NULL) {
         text_let_go(text);
         return refuse(env, DADO_NO_MEMORY);
     }
     it->tag = WALK, it->of = searcher_shared(of), it->text = *text;
     begin(&it->going, how, text);
-    it->memory = (int64_t)((text->own == NULL ? 0 : text->len * (text->form == FORM_UNITS ? 2 : 1)) +
-                           (text->own_coded == NULL ? 0 : text->size));
-    (void)napi_adjust_external_memory(env, it->memory, &now);
+    told(env, &it->memory, (text->own == NULL ? 0 : text->len * (text->form == FORM_UNITS ? 2 : 1)) +
+                               (text->own_coded == NULL ? 0 : text->size));
     return handed_over(env, it, walk_finalize);
 }
 

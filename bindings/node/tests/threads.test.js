@@ -102,6 +102,38 @@ test('bytes that are written to, resized or handed on while they are searched', 
   }
 });
 
+/** How many bytes more the process has, at most, while something is done again and again. */
+async function most(again, rests) {
+  const before = process.memoryUsage().rss;
+  let held = 0;
+  for (let i = 0; i < 8000; i++) {
+    again();
+    if (rests && i % 20 === 0) await new Promise(setImmediate);
+    if (i % 500 === 0) held = Math.max(held, process.memoryUsage().rss - before);
+  }
+  return held;
+}
+
+test('what is let go unfinished is collected in time: each holds 64 KiB or more', async () => {
+  const ac = new Automaton(['needle', 'hay']);
+  const ways = [() => ac.stream().push('hay'), () => ac.maskStream().write('hay'), () => ac.replaceStream('-').write('hay')];
+  for (const again of ways) {
+    const held = await most(again, true);
+    assert.ok(held < 300e6, `${again}: ${held} bytes more`); // of 500 MB
+  }
+});
+
+test('what is finished is freed at once', async () => {
+  const ac = new Automaton(['needle', 'hay']);
+  const held = await most(() => {
+    const stream = ac.stream();
+    assert.deepStrictEqual(stream.push('a hay').concat(stream.finish(), stream.finish()), [{ pattern: 1, start: 2, end: 5 }]);
+    assert.strictEqual(stream.cut, 5);
+    assert.throws(() => stream.push('a'), { code: 'DADO_FINISHED' });
+  }, false);
+  assert.ok(held < 150e6, `${held} bytes more`); // of 500 MB
+});
+
 /** A worker that runs this function. */
 const worker = (run) => new Worker(`(${run})(require(${JSON.stringify(require.resolve('dadofennel'))}), require('node:worker_threads').parentPort)`, { eval: true });
 

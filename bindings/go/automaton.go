@@ -1,8 +1,9 @@
 package dadofennel
 
-// An Automaton is patterns that are searched for together. It never changes, so any number of goroutines may search with it.
+// An Automaton is patterns that are searched for together. It never changes, so any number of goroutines may search with it. A copy of one
+// is the same automaton: what closes one of them closes all. The zero value is a closed one.
 type Automaton struct {
-	handle   handle
+	handle   *handle
 	patterns int
 	kind     Kind
 	start    StartKind

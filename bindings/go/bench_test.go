@@ -13,7 +13,7 @@ import (
 	"syscall"
 	"testing"
 
-	. "dadofennel"
+	. "dadofennel.example/dadofennel"
 )
 
 // Texts of random words, of which a few are common, as in a language, and patterns of these words. Ours is of kind LeftmostFirst, which

@@ -11,7 +11,7 @@ import (
 	"strconv"
 	"testing"
 
-	. "dadofennel"
+	. "dadofennel.example/dadofennel"
 )
 
 // A testCase is an automaton, what it was built of, and a text.
@@ -384,7 +384,7 @@ func (c *testCase) streams() {
 	}
 	for _, kind := range []Kind{Standard, LeftmostFirst, LeftmostLongest} {
 		stream, err := c.ac.WordStream(kind)
-		scanner := c.ac.FindWordsReader(kind, &slowReader{c.pieces()})
+		scanner := c.ac.FindWordsReader(&slowReader{c.pieces()}, kind)
 		if refusal := c.error(true, true); c.refused("WordStream", refusal, err) {
 			c.want("FindWordsReader", false, scanner.Next())
 			c.refused("FindWordsReader", refusal, scanner.Err())

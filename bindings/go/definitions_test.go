@@ -4,7 +4,7 @@ import (
 	"bytes"
 	"sort"
 
-	. "dadofennel"
+	. "dadofennel.example/dadofennel"
 )
 
 // What the calls are compared with: the definitions, computed slowly, by every place and every pattern.

@@ -1,6 +1,9 @@
 package dadofennel
 
-import "fmt"
+import (
+	"errors"
+	"fmt"
+)
 
 // A Status is an error of the library. Compare one by errors.Is:
 //
@@ -52,6 +55,9 @@ const (
 	done Status = 0
 	none Status = 1
 )
+
+// ErrBadCount is of a writer, or a reader, which says that it took, or gave, more bytes than there were, or fewer than none.
+var ErrBadCount = errors.New("dadofennel: a reader or a writer counted bytes that there were not")
 
 // Error is the library's text of the status.
 func (s Status) Error() string {

@@ -5,10 +5,11 @@ import (
 	"errors"
 	"io"
 	"math"
+	"runtime"
 	"strings"
 	"testing"
 
-	. "dadofennel"
+	. "dadofennel.example/dadofennel"
 )
 
 func wantError(t *testing.T, what string, wanted, got error) {
@@ -215,6 +216,56 @@ func TestWrongCounts(t *testing.T) {
 	}
 }
 
+// A copy of an automaton is the same one, and it is freed once none is left; the zero value is closed.
+func TestCopies(t *testing.T) {
+	ac := built(t, []string{"a"})
+	other := *ac
+	equal(t, "Close", nil, other.Close())
+	_, err := ac.FindAllString("a")
+	wantError(t, "FindAll", ErrClosed, err)
+	func() {
+		defer func() { equal(t, "FindString", any(ErrClosed), recover()) }()
+		ac.FindString("a")
+	}()
+	equal(t, "Close", nil, ac.Close())
+
+	ac = built(t, []string{"a"})
+	other, ac = *ac, nil
+	for i := 0; i < 5; i++ {
+		runtime.GC()
+	}
+	m, ok := other.FindString("ba")
+	equal(t, "FindString", true, ok)
+	equal(t, "FindString", Match{0, 1, 2}, m)
+
+	var zero Automaton
+	_, err = zero.FindAllString("a")
+	wantError(t, "FindAll", ErrClosed, err)
+	_, err = zero.Stream()
+	wantError(t, "Stream", ErrClosed, err)
+	_, err = zero.NewReplacer(io.Discard, nil)
+	wantError(t, "NewReplacer", ErrClosed, err)
+	equal(t, "Close", nil, zero.Close())
+}
+
+// A copy of what takes pieces is the same one, too.
+func TestCopiesOfPieces(t *testing.T) {
+	ac := built(t, []string{"a"})
+	stream, _ := ac.Stream()
+	replacer, _ := ac.NewReplacerStrings(io.Discard, []string{"b"})
+	masker, _ := ac.NewMasker(io.Discard, '*')
+	otherStream, otherReplacer, otherMasker := *stream, *replacer, *masker
+	for _, other := range []io.Closer{&otherStream, &otherReplacer, &otherMasker} {
+		equal(t, "Close", nil, other.Close())
+	}
+	for _, to := range []io.WriteCloser{stream, replacer, masker} {
+		n, err := to.Write([]byte("a"))
+		equal(t, "Write", 0, n)
+		wantError(t, "Write", ErrFinished, err)
+		wantError(t, "Close", ErrFinished, to.Close())
+	}
+}
+
 func TestBadKinds(t *testing.T) {
 	ac := built(t, []string{"a"})
 	wantError(t, "Words", ErrBadKind, last(ac.WordsString("a", 3)))
@@ -224,7 +275,7 @@ func TestBadKinds(t *testing.T) {
 	wantError(t, "NewWordReplacer", ErrBadKind, err)
 	_, err = ac.WordStream(3)
 	wantError(t, "WordStream", ErrBadKind, err)
-	scanner := ac.FindWordsReader(3, strings.NewReader("a"))
+	scanner := ac.FindWordsReader(strings.NewReader("a"), 3)
 	equal(t, "Next", false, scanner.Next())
 	wantError(t, "FindWordsReader", ErrBadKind, scanner.Err())
 	equal(t, "Close", nil, scanner.Close())

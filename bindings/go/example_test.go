@@ -9,7 +9,7 @@ import (
 	"os"
 	"strings"
 
-	"dadofennel"
+	"dadofennel.example/dadofennel"
 )
 
 func must(ac *dadofennel.Automaton, err error) *dadofennel.Automaton {

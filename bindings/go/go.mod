@@ -1,3 +1,3 @@
-module dadofennel
+module dadofennel.example/dadofennel
 
 go 1.19

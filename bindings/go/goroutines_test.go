@@ -8,7 +8,7 @@ import (
 	"sync"
 	"testing"
 
-	. "dadofennel"
+	. "dadofennel.example/dadofennel"
 )
 
 // Many goroutines search with one automaton, each in texts of its own.

@@ -107,7 +107,7 @@ func (l *lent) free() {
 	l.list, l.count = 0, 0
 }
 
-// handle is an automaton of the library.
+// handle is an automaton of the library. It is never copied: all that use the automaton point to it, and it is freed once none does.
 type handle struct {
 	ac C.dadogo_at
 	// use is twice the number of calls that use the automaton now, and one more once it was closed. The last one frees it.
@@ -117,8 +117,11 @@ type handle struct {
 
 const closedBit = 1
 
-// enter says that a call begins to use the automaton. It returns false where that was closed. Else leave must be called.
+// enter says that a call begins to use the automaton. It returns false where that was closed, or never built. Else leave must be called.
 func (h *handle) enter() bool {
+	if h == nil {
+		return false
+	}
 	if h.use.Add(2)&closedBit == 0 {
 		return true
 	}
@@ -134,7 +137,7 @@ func (h *handle) leave() {
 
 // close lets no further call use the automaton, and frees it once no call does. A second one does nothing.
 func (h *handle) close() {
-	for {
+	for h != nil {
 		use := h.use.Load()
 		if use&closedBit != 0 {
 			return
@@ -166,8 +169,10 @@ func build[T text](patterns []T, asked *settings) (*Automaton, error) {
 	if built.status != C.DADO_OK {
 		return nil, buildError(Status(built.status), asked, uint32(built.fault.pattern), uint64(built.fault.count))
 	}
-	ac := &Automaton{
-		handle:   handle{ac: built.automaton},
+	h := &handle{ac: built.automaton}
+	runtime.SetFinalizer(h, (*handle).close)
+	return &Automaton{
+		handle:   h,
 		patterns: len(patterns),
 		kind:     asked.kind,
 		start:    asked.start,
@@ -175,9 +180,7 @@ func build[T text](patterns []T, asked *settings) (*Automaton, error) {
 		memory:   int(built.memory),
 		longest:  int(built.longest),
 		anyEmpty: built.shortest == 0,
-	}
-	runtime.SetFinalizer(ac, func(ac *Automaton) { ac.handle.close() })
-	return ac, nil
+	}, nil
 }
 
 // given is the settings as the library takes them, without the pairs.

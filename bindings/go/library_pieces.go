@@ -58,6 +58,9 @@ func (s *streamHandle) free() {
 
 // step does the act with the piece, and writes matches that are decided to the room. Where they fill it there may be more.
 func (s *streamHandle) step(first act, piece []byte, room []match) (taken, written int, status Status) {
+	if s.stream == 0 {
+		return 0, 0, ErrFinished // a copy of what has it was closed
+	}
 	step := C.dadogo_stream_step(s.stream, first, at(piece), sizeOf(piece), &room[0], C.size_t(len(room)))
 	runtime.KeepAlive(s)
 	return int(step.taken), int(step.written), Status(step.status)
@@ -112,6 +115,9 @@ func (r *replacerHandle) free() {
 }
 
 func (r *replacerHandle) step(first act, piece []byte) (int, []byte, bool, Status) {
+	if r.replacer == 0 {
+		return 0, nil, false, ErrFinished
+	}
 	step := C.dadogo_replacer_step(r.replacer, first, at(piece), sizeOf(piece), r.with.list, r.with.count, r.rest, at(r.room), sizeOf(r.room))
 	r.rest = step.rest
 	runtime.KeepAlive(r)
@@ -146,6 +152,9 @@ func (m *maskerHandle) free() {
 }
 
 func (m *maskerHandle) step(first act, piece []byte) (int, []byte, bool, Status) {
+	if m.masker == 0 {
+		return 0, nil, false, ErrFinished
+	}
 	step := C.dadogo_masker_step(m.masker, first, at(piece), sizeOf(piece), m.rest, at(m.room), sizeOf(m.room))
 	m.rest = step.rest
 	runtime.KeepAlive(m)

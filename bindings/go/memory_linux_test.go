@@ -14,7 +14,7 @@ import (
 	"testing"
 	"time"
 
-	. "dadofennel"
+	. "dadofennel.example/dadofennel"
 )
 
 // inStatus is how many kilobytes the process has: VmRSS in memory, VmSize of addresses.

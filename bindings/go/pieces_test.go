@@ -8,7 +8,7 @@ import (
 	"testing"
 	"testing/iotest"
 
-	. "dadofennel"
+	. "dadofennel.example/dadofennel"
 )
 
 // What all calls make of a text under a kind.
@@ -191,6 +191,30 @@ func TestWriterErrors(t *testing.T) {
 	_, err = replacer.WriteString("a")
 	wantError(t, "WriteString", nil, err)
 	wantError(t, "Close", errDevice, replacer.Close())
+}
+
+// A count is a writer's or a reader's of its own, whatever it was given.
+type count int
+
+func (n count) Write([]byte) (int, error) { return int(n), nil }
+func (n count) Read([]byte) (int, error)  { return int(n), nil }
+
+func TestBadCounts(t *testing.T) {
+	ac := built(t, []string{"ab"})
+	for _, n := range []count{-1, 5, 1 << 30} {
+		replacer, _ := ac.NewReplacerStrings(n, []string{"b"})
+		masker, _ := ac.NewMasker(n, '*')
+		for _, to := range []writer{replacer, masker} {
+			_, err := to.WriteString("abab")
+			wantError(t, "WriteString", ErrBadCount, err)
+			wantError(t, "Close", ErrBadCount, to.Close())
+		}
+	}
+	for _, n := range []count{-1, 1 << 30} {
+		scanner := ac.FindReader(n)
+		equal(t, "Next", false, scanner.Next())
+		wantError(t, "FindReader", ErrBadCount, scanner.Err())
+	}
 }
 
 func TestFinished(t *testing.T) {

@@ -6,7 +6,7 @@ import (
 	"strings"
 	"testing"
 
-	. "dadofennel"
+	. "dadofennel.example/dadofennel"
 )
 
 func built(t testing.TB, patterns []string, options ...Option) *Automaton {

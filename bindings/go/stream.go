@@ -149,7 +149,7 @@ func (ac *Automaton) FindReader(reader io.Reader) *Scanner {
 }
 
 // FindWordsReader gives the whole words under the kind of what the reader has: those of WordStream, as FindReader does it.
-func (ac *Automaton) FindWordsReader(kind Kind, reader io.Reader) *Scanner {
+func (ac *Automaton) FindWordsReader(reader io.Reader, kind Kind) *Scanner {
 	return newScanner(reader)(ac.WordStream(kind))
 }
 
@@ -211,7 +211,9 @@ func (s *Scanner) read() {
 			err = io.ErrNoProgress
 			break
 		}
-		n, err = s.reader.Read(s.buffer)
+		if n, err = s.reader.Read(s.buffer); n < 0 || n > len(s.buffer) {
+			n, err = 0, ErrBadCount
+		}
 	}
 	if _, fault := s.stream.Write(s.buffer[:n]); fault != nil {
 		err = fault

@@ -31,7 +31,7 @@ func newReplacer[T text](ac *Automaton, out io.Writer, replacements []T) (*Repla
 	if len(replacements) != ac.patterns {
 		return nil, ErrWrongCount
 	}
-	made, status := replacer(&ac.handle, replacements)
+	made, status := replacer(ac.handle, replacements)
 	if status != done {
 		return nil, status
 	}
@@ -75,8 +75,8 @@ func spliced(out io.Writer, made *streamHandle, status Status, replacement func(
 }
 
 // Write takes a piece of the text, and writes all that is decided. It takes all of it, or returns an error: that of the writer, which
-// ends the text, io.ErrShortWrite where that wrote less without one, ErrFinished after Close, or ErrTooManyBytes where all pieces have
-// more bytes than there are places.
+// ends the text, io.ErrShortWrite where that wrote less without one, ErrBadCount where it says that it wrote more, ErrFinished after Close,
+// or ErrTooManyBytes where all pieces have more bytes than there are places.
 func (r *Replacer) Write(piece []byte) (int, error) {
 	return r.pipe.write(piece)
 }
@@ -185,7 +185,10 @@ func (p *pipe) put(text []byte, status Status) {
 		return
 	}
 	n, err := p.out.Write(text)
-	if err == nil && n < len(text) {
+	switch {
+	case n < 0 || n > len(text):
+		err = ErrBadCount
+	case err == nil && n < len(text):
 		err = io.ErrShortWrite
 	}
 	p.err = err

@@ -12,7 +12,7 @@ import (
 	"os"
 	"strings"
 
-	"dadofennel"
+	"dadofennel.example/dadofennel"
 )
 
 var kinds = map[string]dadofennel.Kind{

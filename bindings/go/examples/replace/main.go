@@ -9,7 +9,7 @@ import (
 	"os"
 	"strings"
 
-	"dadofennel"
+	"dadofennel.example/dadofennel"
 )
 
 func main() {

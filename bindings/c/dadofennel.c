@@ -84,6 +84,14 @@ dado_settings dado_settings_default(void) {
     return settings;
 }
 
+/* Whether bytes have a place, unless there are none. */
+static int have_places(const dado_bytes *each, size_t count) {
+    size_t i;
+    for (i = 0; i < count; i++)
+        if (each[i].at == NULL && each[i].len != 0) return 0;
+    return 1;
+}
+
 /* Takes over those settings that a caller's header has. The answer is whether this library knows them all. */
 static int take(dado_settings *known, const dado_settings *settings, size_t size) {
     const unsigned char *bytes = (const unsigned char *)settings;
@@ -100,7 +108,7 @@ dado_status dado_build_sized(const dado_bytes *patterns, size_t count, const dad
     dado_raw_settings raw;
     dado_fault none = {0, 0};
     if (fault != NULL) *fault = none;
-    if (handle == NULL || (patterns == NULL && count != 0)) return DADO_BAD_ARGUMENT;
+    if (handle == NULL || (patterns == NULL && count != 0) || !have_places(patterns, count)) return DADO_BAD_ARGUMENT;
     if (settings != NULL && !take(&given, settings, size)) return DADO_BAD_ARGUMENT;
     if (given.pairs == NULL && given.pair_count != 0) return DADO_BAD_ARGUMENT;
     raw.kind = given.kind, raw.start_kind = given.start_kind, raw.engine = given.engine;

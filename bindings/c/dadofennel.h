@@ -113,7 +113,8 @@ enum {
     DADO_DFA = 3                  /* searches fastest, and takes the most memory */
 };
 
-/* A number of bytes at a place. `at` may be NULL where `len` is 0. */
+/* A number of bytes at a place. `at` may be NULL where `len` is 0, and nowhere else. A pattern of {NULL, 3} is DADO_BAD_ARGUMENT; of
+ * replacements nobody looks for that: where a match takes one of {NULL, 3}, bytes are read there, which ends the program. */
 typedef struct dado_bytes {
     const uint8_t *at;
     size_t len;
@@ -261,11 +262,11 @@ dado_status dado_settings_fill(dado_settings *settings, size_t size);
  * finds nothing. With `settings` NULL, those of dado_settings_default() are taken. The patterns are not needed after the call.
  *
  * On any status but DADO_OK, `*handle` is unchanged. What is known of the fault is written to `*fault` on every status, if that isn't
- * NULL. The statuses, in the order in which they are tested: DADO_BAD_ARGUMENT: `handle`, or an array that isn't empty, is NULL, or
- * `size` is less than that of version 1.0, or a byte after the settings that this library has isn't 0, so that a later one is asked for;
- * DADO_BAD_KIND, DADO_BAD_START_KIND, DADO_BAD_ENGINE, DADO_BAD_PAIRS. Up to here no memory is taken. Then, of the first pattern that
- * passes a limit of the library, DADO_TOO_MANY_PATTERNS, DADO_PATTERN_TOO_LONG or DADO_TOO_MANY_STATES; at last DADO_TOO_MANY_STATES,
- * where the patterns pass the limit of the engine that was named. DADO_NO_MEMORY may come in the place of these.
+ * NULL. The statuses, in the order in which they are tested: DADO_BAD_ARGUMENT: `handle`, an array that isn't empty, or the place of a
+ * pattern that isn't, is NULL, or `size` is less than that of version 1.0, or a byte after the settings that this library has isn't 0,
+ * so that a later one is asked for; DADO_BAD_KIND, DADO_BAD_START_KIND, DADO_BAD_ENGINE, DADO_BAD_PAIRS. Up to here no memory is taken.
+ * Then, of the first pattern that passes a limit of the library, DADO_TOO_MANY_PATTERNS, DADO_PATTERN_TOO_LONG or DADO_TOO_MANY_STATES;
+ * at last DADO_TOO_MANY_STATES, where the patterns pass the limit of the named engine. DADO_NO_MEMORY may come in place of these.
  *
  * Takes memory. Time and memory are in proportion to the bytes of the patterns; for a DFA times the classes of bytes, at most 256.
  * With the same `*handle`, one call at a time.

@@ -54,6 +54,7 @@ static void handles(void) {
 }
 
 static void builds(void) {
+    static const dado_bytes nowhere[] = {WORD("fox"), {NULL, 3}};
     dado_automaton *ac = NULL, *kept;
     dado_settings s = dado_settings_default();
     dado_fault fault = {1, 1};
@@ -61,6 +62,7 @@ static void builds(void) {
     size_t i;
     CHECK(dado_build(FOX, 3, NULL, NULL, NULL) == DADO_BAD_ARGUMENT);
     CHECK(dado_build(NULL, 3, NULL, &ac, NULL) == DADO_BAD_ARGUMENT);
+    CHECK(dado_build(nowhere, 2, NULL, &ac, NULL) == DADO_BAD_ARGUMENT && dado_build(nowhere, 1, NULL, &ac, NULL) == DADO_OK);
     CHECK(dado_build(FOX, 3, &s, &ac, &fault) == DADO_OK && fault.count == 0 && fault.pattern == 0);
     kept = ac;
     s.kind = 3;

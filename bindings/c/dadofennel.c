@@ -1,6 +1,7 @@
 /* The header's functions: each tests its pointers for NULL, and calls one that is proved (dadofennel_raw.h). */
 #define DADO_LIBRARY
 #include "dadofennel_raw.h"
+#include <stdlib.h>
 #include <string.h>
 
 /* ---- Which code serves. With DADO_WIDE the library holds what is proved twice, compiled for two kinds of processors: the second time
@@ -23,7 +24,6 @@ static const struct code first = {FIRST_CPU, DADO_RAW(PROVED)};
 
 #ifdef DADO_WIDE
 #include <cpuid.h>
-#include <stdlib.h>
 
 #define DECLARED(result, name, parameters) __attribute__((visibility("hidden"))) result dado_raw_wide_##name parameters;
 DADO_RAW(DECLARED)
@@ -393,43 +393,102 @@ dado_status dado_mask_words(const dado_automaton *ac, void *text, size_t len, ui
     return proved()->mask_words(ac, text, len, byte);
 }
 
+/* A masker that is proved, and what it has ready, which it drops at the next push: so there is none before that was asked for. */
+struct dado_masker {
+    dado_raw_masker *proved;
+    dado_bytes ready;
+    int is_asked_for, is_finished; /* a push is refused then, and changes nothing */
+};
+
+/* What is ready after a call. */
+static void note_ready(dado_masker *it) {
+    const uint8_t *at = (const uint8_t *)"";
+    it->ready.len = proved()->masker_ready(&it->proved, &at).len;
+    it->ready.at = at;
+    it->is_asked_for = 0;
+}
+
+/* Puts a masker that was made in the place of the caller's, or of nothing. */
+static dado_status hold_masker(dado_status status, dado_raw_masker *made, dado_masker **masker) {
+    dado_masker *it = *masker;
+    if (status != DADO_OK) return status;
+    if (it == NULL) it = malloc(sizeof *it);
+    else proved()->masker_free(&it->proved);
+    if (it == NULL) {
+        proved()->masker_free(&made);
+        return DADO_NO_MEMORY;
+    }
+    it->proved = made, it->is_finished = 0;
+    note_ready(it);
+    *masker = it;
+    return DADO_OK;
+}
+
 dado_status dado_masker_new(const dado_automaton *ac, uint8_t byte, dado_masker **masker) {
+    dado_raw_masker *made = NULL;
+    dado_status status;
     if (masker == NULL) return DADO_BAD_ARGUMENT;
     if (ac == NULL) return DADO_NO_AUTOMATON;
-    return proved()->masker_new(ac, byte, masker);
+    status = proved()->masker_new(ac, byte, &made);
+    return hold_masker(status, made, masker);
 }
 
 dado_status dado_word_masker_new(const dado_automaton *ac, uint8_t byte, dado_masker **masker) {
+    dado_raw_masker *made = NULL;
+    dado_status status;
     if (masker == NULL) return DADO_BAD_ARGUMENT;
     if (ac == NULL) return DADO_NO_AUTOMATON;
-    return proved()->word_masker_new(ac, byte, masker);
+    status = proved()->word_masker_new(ac, byte, &made);
+    return hold_masker(status, made, masker);
 }
 
 dado_status dado_masker_push(dado_masker **masker, const void *piece, size_t len, size_t *taken) {
     dado_raw_count pushed;
+    dado_masker *it;
     if (taken == NULL) return DADO_BAD_ARGUMENT;
     *taken = 0;
     if (masker == NULL || (piece == NULL && len != 0)) return DADO_BAD_ARGUMENT;
-    pushed = proved()->masker_push(masker, piece, len);
+    it = *masker;
+    if (it == NULL) return DADO_NO_MASKER;
+    if (it->ready.len != 0 && !it->is_asked_for && !it->is_finished) return DADO_OK;
+    pushed = proved()->masker_push(&it->proved, piece, len);
+    if (!it->is_finished) note_ready(it);
     *taken = pushed.count;
     return pushed.status;
 }
 
 dado_status dado_masker_ready(dado_masker **masker, dado_bytes *slice) {
-    const uint8_t *at = (const uint8_t *)"";
-    dado_raw_length ready;
     if (masker == NULL || slice == NULL) return DADO_BAD_ARGUMENT;
-    ready = proved()->masker_ready(masker, &at);
-    if (ready.status == DADO_OK) slice->at = at, slice->len = ready.len;
-    return ready.status;
+    if (*masker == NULL) return DADO_NO_MASKER;
+    (*masker)->is_asked_for = 1;
+    *slice = (*masker)->ready;
+    return DADO_OK;
 }
 
+/* What was ready and wasn't asked for lies before what gets ready now, in the same memory: all of it is ready then. */
 dado_status dado_masker_finish(dado_masker **masker) {
-    return masker == NULL ? (dado_status)DADO_BAD_ARGUMENT : proved()->masker_finish(masker);
+    dado_masker *it;
+    dado_bytes before = {NULL, 0};
+    dado_status status;
+    if (masker == NULL) return DADO_BAD_ARGUMENT;
+    it = *masker;
+    if (it == NULL) return DADO_NO_MASKER;
+    if (!it->is_asked_for) before = it->ready;
+    status = proved()->masker_finish(&it->proved);
+    note_ready(it);
+    it->is_finished = status == DADO_OK;
+    if (before.len != 0 && (it->ready.len == 0 || before.at + before.len == it->ready.at)) {
+        it->ready.at = before.at;
+        it->ready.len += before.len;
+    }
+    return status;
 }
 
 void dado_masker_free(dado_masker **masker) {
-    if (masker != NULL) proved()->masker_free(masker);
+    if (masker == NULL || *masker == NULL) return;
+    proved()->masker_free(&(*masker)->proved);
+    free(*masker);
+    *masker = NULL;
 }
 
 /* ---- Queries ---- */

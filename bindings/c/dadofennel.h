@@ -35,7 +35,7 @@
  * - Bytes that a call is given must stay the same until it returns, and what it writes to must not overlap what it reads.
  *
  * What is proved of this library, and what a caller in C must not do, is in docs/TRUST.md. Each function here tests its pointers for
- * NULL, and calls a function that is proved.
+ * NULL, and calls a function that is proved. Those of a masker also keep what is ready until it was asked for.
  */
 #ifndef DADOFENNEL_H
 #define DADOFENNEL_H
@@ -539,7 +539,8 @@ dado_status dado_all_words_stream_new(const dado_automaton *ac, dado_stream **st
 /*
  * Takes the first bytes of a piece, after all that was pushed before; how many, to `*taken`. The piece isn't needed after the call.
  * None are taken before dado_stream_some has given all matches of what was pushed before. Else at least one is, if there is one, and
- * all of them, unless the stream's memory is full: then the rest is pushed again after the next dado_stream_some.
+ * all of them, unless the stream's memory is full: then the rest is pushed again after the next dado_stream_some. So the loop is
+ * `for (at = 0; at < len; at += taken) { push piece + at; while (dado_stream_some(..) == DADO_OK) use what it gives; }`.
  *
  * DADO_OK, also if none was taken. DADO_BAD_ARGUMENT: `stream`, `taken`, or a piece that isn't empty, is NULL; DADO_NO_STREAM: `*stream`
  * is NULL; DADO_FINISHED: the stream was finished; DADO_TOO_MANY_BYTES: there are more bytes than places now, and no call gives a match
@@ -619,7 +620,8 @@ dado_status dado_replacer_new(const dado_automaton *ac, dado_replacer **replacer
 
 /*
  * Takes the first bytes of a piece, as dado_stream_push does; how many, to `*taken`. None are taken before dado_replacer_next has returned
- * DADO_NONE for what was pushed before. The slices that were given before are gone.
+ * DADO_NONE for what was pushed before. The slices that were given before are gone. So the loop is
+ * `for (at = 0; at < len; at += taken) { push piece + at; while (dado_replacer_next(..) == DADO_OK) write the slice; }`.
  *
  * DADO_OK, also if none was taken. DADO_BAD_ARGUMENT: `replacer`, `taken`, or a piece that isn't empty, is NULL; DADO_NO_REPLACER:
  * `*replacer` is NULL; DADO_FINISHED: the replacer was finished; DADO_TOO_MANY_BYTES: there are more bytes than places now, and no call
@@ -703,7 +705,7 @@ dado_status dado_mask_words(const dado_automaton *ac, void *text, size_t len, ui
  * DADO_NO_AUTOMATON; DADO_BAD_ARGUMENT: `masker` is NULL; DADO_NOT_UNANCHORED: the automaton was built for anchored searches alone;
  * DADO_NOT_STANDARD: it is of a leftmost kind; DADO_EMPTY_PATTERN: one of its patterns is empty; DADO_NO_MEMORY. It is unchanged at these.
  *
- * Takes memory: one buffer of 64 KiB, or of eight of the longest pattern if that is more.
+ * Takes memory: one buffer of 64 KiB, or of eight of the longest pattern if that is more, and a few bytes.
  */
 dado_status dado_masker_new(const dado_automaton *ac, uint8_t byte, dado_masker **masker);
 
@@ -721,12 +723,13 @@ dado_status dado_word_masker_new(const dado_automaton *ac, uint8_t byte, dado_ma
 
 /*
  * Takes the first bytes of a piece, after all that was pushed before, and masks them; how many, to `*taken`. The piece isn't needed
- * after the call. At least one is taken, if there is one, and all of them, unless the masker's memory is full: then the rest is pushed
- * again after what is ready was handed on. What was ready before is dropped.
+ * after the call. None are taken while bytes are ready that dado_masker_ready wasn't asked for. Else at least one is, if there is one, and
+ * all of them, unless the masker's memory is full. What was asked for before is gone. So the loop is
+ * `for (at = 0; at < len; at += taken) { push piece + at; dado_masker_ready(..); write the slice; }`.
  *
- * DADO_OK. DADO_BAD_ARGUMENT: `masker`, `taken`, or a piece that isn't empty, is NULL; DADO_NO_MASKER: `*masker` is NULL; DADO_FINISHED:
- * the masker was finished; DADO_TOO_MANY_BYTES: there are more bytes than places now, and nothing gets ready any more. At all but the
- * first `*taken` is 0. At all but the first and the last the masker is unchanged.
+ * DADO_OK, also if none was taken. DADO_BAD_ARGUMENT: `masker`, `taken`, or a piece that isn't empty, is NULL; DADO_NO_MASKER: `*masker` is
+ * NULL; DADO_FINISHED: the masker was finished; DADO_TOO_MANY_BYTES: there are more bytes than places now, and nothing gets ready any more.
+ * At all but the first `*taken` is 0. At all but the first and the last the masker is unchanged.
  *
  * All calls together look at no more than two states for each byte that was pushed, or at one with a DFA. A call copies each byte once,
  * and moves a seventh of all bytes at most; of whole words see dado_word_masker_new. It takes no memory.
@@ -743,8 +746,8 @@ dado_status dado_masker_push(dado_masker **masker, const void *piece, size_t len
 dado_status dado_masker_ready(dado_masker **masker, dado_bytes *slice);
 
 /*
- * Tells the masker that nothing more comes: the bytes that waited are ready, in the place of what was ready before, and each push is
- * DADO_FINISHED. After DADO_TOO_MANY_BYTES nothing is ready, and each push still returns that. After a second call nothing is ready.
+ * Tells the masker that nothing more comes: the bytes that waited are ready, after those that nobody has asked for, and each push is
+ * DADO_FINISHED. After DADO_TOO_MANY_BYTES nothing is ready, and each push returns that. A second call drops what was asked for.
  *
  * DADO_OK. DADO_BAD_ARGUMENT: `masker` is NULL; DADO_NO_MASKER: `*masker` is NULL. It takes no memory.
  */

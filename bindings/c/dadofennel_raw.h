@@ -65,6 +65,9 @@ typedef struct dado_raw_view {
     dado_status status;
 } dado_raw_view;
 
+/* What is proved of a masker drops the text that was ready at the next push. dadofennel.c has it within a dado_masker. */
+typedef struct dado_raw_masker dado_raw_masker;
+
 /* What each function returns, its name after `dado_raw_`, and its parameters. */
 #define DADO_RAW(CALL)                                                                                                                     \
     CALL(dado_raw_settings, settings_default, (void))                                                                                      \
@@ -112,12 +115,12 @@ typedef struct dado_raw_view {
     CALL(void, replacer_free, (dado_replacer **replacer))                                                                                  \
     CALL(dado_status, mask, (const dado_automaton *at, uint8_t *text, size_t len, uint8_t byte))                                           \
     CALL(dado_status, mask_words, (const dado_automaton *at, uint8_t *text, size_t len, uint8_t byte))                                     \
-    CALL(dado_status, masker_new, (const dado_automaton *at, uint8_t byte, dado_masker **masker))                                          \
-    CALL(dado_status, word_masker_new, (const dado_automaton *at, uint8_t byte, dado_masker **masker))                                     \
-    CALL(dado_raw_count, masker_push, (dado_masker **masker, const uint8_t *piece, size_t len))                                            \
-    CALL(dado_raw_length, masker_ready, (dado_masker **masker, const uint8_t **at))                                                        \
-    CALL(dado_status, masker_finish, (dado_masker **masker))                                                                               \
-    CALL(void, masker_free, (dado_masker **masker))                                                                                        \
+    CALL(dado_status, masker_new, (const dado_automaton *at, uint8_t byte, dado_raw_masker **masker))                                      \
+    CALL(dado_status, word_masker_new, (const dado_automaton *at, uint8_t byte, dado_raw_masker **masker))                                 \
+    CALL(dado_raw_count, masker_push, (dado_raw_masker **masker, const uint8_t *piece, size_t len))                                        \
+    CALL(dado_raw_length, masker_ready, (dado_raw_masker **masker, const uint8_t **at))                                                    \
+    CALL(dado_status, masker_finish, (dado_raw_masker **masker))                                                                           \
+    CALL(void, masker_free, (dado_raw_masker **masker))                                                                                    \
     CALL(dado_raw_length, pattern_len, (const dado_automaton *at, uint32_t pattern))                                                       \
     CALL(dado_raw_about, tell, (const dado_automaton *at))
 

@@ -138,8 +138,48 @@ static void statuses(void) {
     CHECK(masker == NULL);
 }
 
+/* A caller that doesn't ask for what is ready loses nothing: a push takes no byte then, and what is left at the end has all of it. */
+static void untaken(void) {
+    static const dado_bytes patterns[] = {WORD("new"), WORD("newest")};
+    static const char given[] = "a new one, renewed; newest of the new", of_all[] = "a *** one, re***ed; ****** of the ***",
+                      of_words[] = "a *** one, renewed; ****** of the ***";
+    size_t len = sizeof given - 1, at, taken = 7;
+    int words;
+    dado_automaton *ac = NULL;
+    CHECK(dado_build(patterns, 2, NULL, &ac, NULL) == DADO_OK);
+    for (words = 0; words < 2; words++) {
+        for (at = 0; at <= len; at++) {
+            dado_masker *masker = NULL;
+            dado_bytes slice = {NULL, 7};
+            size_t first = at, second = len - at;
+            made_len = 0;
+            CHECK((words ? dado_word_masker_new : dado_masker_new)(ac, '*', &masker) == DADO_OK);
+            CHECK(dado_masker_push(&masker, given, first, &taken) == DADO_OK && taken == first);
+            CHECK(dado_masker_push(&masker, given + at, second, &taken) == DADO_OK);
+            if (taken == 0 && second != 0) {
+                /* an empty push and a second one take nothing either */
+                CHECK(dado_masker_push(&masker, NULL, 0, &taken) == DADO_OK && taken == 0);
+                CHECK(dado_masker_push(&masker, given + at, second, &taken) == DADO_OK && taken == 0);
+                CHECK(dado_masker_ready(&masker, &slice) == DADO_OK && slice.len != 0);
+                put(slice.at, slice.len);
+                CHECK(dado_masker_push(&masker, given + at, second, &taken) == DADO_OK);
+            }
+            CHECK(taken == second);
+            CHECK(dado_masker_finish(&masker) == DADO_OK && dado_masker_finish(&masker) == DADO_OK);
+            CHECK(dado_masker_push(&masker, given, 1, &taken) == DADO_FINISHED && taken == 0);
+            CHECK(dado_masker_ready(&masker, &slice) == DADO_OK);
+            put(slice.at, slice.len);
+            CHECK(made_len == len && memcmp(made, words ? of_words : of_all, len) == 0);
+            CHECK(dado_masker_finish(&masker) == DADO_OK && dado_masker_ready(&masker, &slice) == DADO_OK && slice.len == 0);
+            dado_masker_free(&masker);
+        }
+    }
+    dado_free(&ac);
+}
+
 int main(void) {
     statuses();
+    untaken();
     rows();
     texts();
     return done("maskers");

@@ -48,6 +48,6 @@ WRAPPED(dado_status, dado_raw_replace_words,
         (const dado_automaton *at, uint32_t kind, const uint8_t *haystack, size_t len, const dado_bytes *replacements, size_t count,
          void **owner),
         at, (at, kind, haystack, len, replacements, count, owner))
-WRAPPED(dado_status, dado_raw_masker_new, (const dado_automaton *at, uint8_t byte, dado_masker **masker), at, (at, byte, masker))
-WRAPPED(dado_raw_count, dado_raw_masker_push, (dado_masker **masker, const uint8_t *piece, size_t len), *masker, (masker, piece, len))
-WRAPPED(dado_raw_length, dado_raw_masker_ready, (dado_masker **masker, const uint8_t **at), *masker, (masker, at))
+WRAPPED(dado_status, dado_raw_masker_new, (const dado_automaton *at, uint8_t byte, dado_raw_masker **masker), at, (at, byte, masker))
+WRAPPED(dado_raw_count, dado_raw_masker_push, (dado_raw_masker **masker, const uint8_t *piece, size_t len), *masker, (masker, piece, len))
+WRAPPED(dado_raw_length, dado_raw_masker_ready, (dado_raw_masker **masker, const uint8_t **at), *masker, (masker, at))

@@ -36,7 +36,7 @@ def found(asked, left_out):
             yield {"memory": "peak", "the library for C": "library"}.get(name, name), path
         else:
             left_out[name] = why
-        if path and "library" in name and serving(path) == WIDE:
+        if path and "library" in name and serving(path) == WIDE != serving(path, OLDER):
             yield "wide", path
     for name, program in (("ripgrep", "rg"), ("grep", "grep"), ("valgrind", "valgrind")):
         path = shutil.which(program)
@@ -75,7 +75,7 @@ def library(folder, prefix):
     """The path of the program over the library for C under a prefix, where it is installed first if none is given; or why there is none."""
     if not prefix:
         prefix = f"{folder}/prefix"
-        if subprocess.run([f"{ROOT}/bindings/c/build", prefix], stdout=sys.stderr).returncode:
+        if subprocess.run([f"{ROOT}/bindings/c/build", "--for-tests", prefix], stdout=sys.stderr).returncode:
             return None, "bindings/c/build failed"
     return over_library(folder, prefix)
 
@@ -84,9 +84,14 @@ def over_library(folder, prefix):
     return compiled(folder, "library", f"-I{prefix}/include", f"{prefix}/lib/libdadofennel.a", anew=True)
 
 
-def serving(program):
+OLDER = {"DADOFENNEL_CPU": "x86-64-v2"}
+"""Asks for the code for older processors, of a library that was built for tests."""
+
+
+def serving(program, asked=None):
     """For which processors the code is that serves in the library for C."""
-    return subprocess.run([program, "cpu"], stdout=subprocess.PIPE, check=True).stdout.decode().strip()
+    done = subprocess.run([program, "cpu"], stdout=subprocess.PIPE, check=True, env={**os.environ, **(asked or {})})
+    return done.stdout.decode().strip()
 
 
 def peer(version):

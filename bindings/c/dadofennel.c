@@ -46,9 +46,18 @@ static int has_v3(void) {
 /* The code that serves, once it is chosen. Threads that make their first calls at the same moment all take the first choice. */
 static const struct code *serving;
 
-static const struct code *choose(void) {
+/* Whether the first code has to serve whatever the processor is: the tests of a library that was built for them ask for it. */
+#ifdef DADO_FOR_TESTS
+static int is_asked_for_first(void) {
     const char *asked = getenv("DADOFENNEL_CPU");
-    const struct code *chosen = has_v3() && (asked == NULL || strcmp(asked, FIRST_CPU) != 0) ? &wide : &first;
+    return asked != NULL && strcmp(asked, FIRST_CPU) == 0;
+}
+#else
+static int is_asked_for_first(void) { return 0; }
+#endif
+
+static const struct code *choose(void) {
+    const struct code *chosen = has_v3() && !is_asked_for_first() ? &wide : &first;
     const struct code *none = NULL;
     return __atomic_compare_exchange_n(&serving, &none, chosen, 0, __ATOMIC_ACQ_REL, __ATOMIC_ACQUIRE) ? chosen : none;
 }

@@ -794,7 +794,7 @@ const char *dado_version(void);
  * vectors of 32 bytes; "generic" where the library has one code for all of its machine. The first call of the library chooses by the
  * processor, for all threads and for good. Both codes have the same proof, and give the same results.
  *
- * For tests alone: with x86-64-v2 in the environment's variable DADOFENNEL_CPU, before the first call, the first serves on every processor.
+ * Where the library was built for tests, the first serves on every processor with x86-64-v2 in the environment's variable DADOFENNEL_CPU.
  */
 const char *dado_cpu(void);
 

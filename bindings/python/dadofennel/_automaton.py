@@ -174,7 +174,7 @@ class Automaton(native.Searches[AnyStr], Generic[AnyStr]):
         _stream.mask(self.masker(star), self._built, reader, writer)
 
     def mask_words_stream(self, reader: Any, writer: Any, star: Any = None) -> None:
-        """The same of the whole words alone, as by `mask_words`. Raises what `mask_words` does, and `BlockingIOError`."""
+        """The same of the whole words alone, as by `mask_words`. Raises what `mask_stream` does."""
         _stream.mask(self.word_masker(star), self._built, reader, writer)
 
     def masker(self, star: Any = None) -> "Masker[AnyStr]":
@@ -183,16 +183,14 @@ class Automaton(native.Searches[AnyStr], Generic[AnyStr]):
         The star is that of `mask`. Raises `Error` for an automaton of a leftmost kind, for one that was built for anchored searches alone,
         and where a pattern is empty.
         """
-        return _masks.begun(self._built, star, None)
+        return _masks.begun(self._built, star, False)
 
     def word_masker(self, star: Any = None) -> "Masker[AnyStr]":
         """Begins a text that comes in pieces, as `masker` does, of which the whole words are masked, as by `mask_words`.
 
-        Raises what `mask_words` does.
+        Raises what `masker` does.
         """
-        held: Automaton[AnyStr] = Automaton.__new__(Automaton)  # `__init__` may be called again on this one
-        held._built = self._built
-        return _masks.begun(self._built, star, held.mask_words)
+        return _masks.begun(self._built, star, True)
 
     def stream(self) -> "_stream.Stream[AnyStr]":
         """Begins a text that comes in pieces: `push` takes one, and `finish` ends the text; each returns matches.

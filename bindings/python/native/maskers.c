@@ -20,19 +20,20 @@ static void masker_free(PyObject *self) {
     state_let_go(state);
 }
 
-/* Begins a masker of a core, which masks with a byte. */
+/* Begins a masker of a core, which masks every occurrence, or whole words, with a byte. */
 static PyObject *masker(PyObject *module, PyObject *args) {
     PyObject *given;
     unsigned char byte;
+    int words;
     Core *core;
     Masker *made;
     dado_status status;
     State *state = state_of(module);
-    if (!PyArg_ParseTuple(args, "Ob", &given, &byte) || (core = core_given(module, given)) == NULL) return NULL;
+    if (!PyArg_ParseTuple(args, "Obp", &given, &byte, &words) || (core = core_given(module, given)) == NULL) return NULL;
     made = PyObject_New(Masker, state->masker_type);
     if (made == NULL) return NULL;
     made->state = state_held(state), made->handle = NULL, made->is_busy = 0;
-    status = dado_masker_new(core->plain->handle, byte, &made->handle);
+    status = (words ? dado_word_masker_new : dado_masker_new)(core->plain->handle, byte, &made->handle);
     if (status == DADO_OK) return (PyObject *)made;
     Py_DECREF(made);
     refuse(state, status);
@@ -108,7 +109,7 @@ static PyType_Slot slots[] = {{Py_tp_new, not_by_hand}, {Py_tp_dealloc, masker_f
 static PyType_Spec spec = {"dadofennel._native.Masker", sizeof(Masker), 0, Py_TPFLAGS_DEFAULT, slots};
 
 static PyMethodDef functions[] = {
-    {"masker", masker, METH_VARARGS, "Begins a masker of a core, which masks with a byte."},
+    {"masker", masker, METH_VARARGS, "Begins a masker of a core, which masks every occurrence, or whole words, with a byte."},
     {"starred", starred, METH_VARARGS, "A text with stars, of its UTF-8 and of that with COVERED where it is masked."},
     {NULL, NULL, 0, NULL},
 };

@@ -66,7 +66,7 @@ class Random(unittest.TestCase):
     def compare(self, rng, patterns, text, star, whole, masker, stream):
         wanted = masked(patterns, text, star, whole)
         made, at, what = text[:0], 0, (patterns, text, star, whole)
-        longest = max(map(len, patterns)) if whole else max(len(raw(it)) for it in patterns)
+        longest = max(len(raw(it)) for it in patterns)
         while at < len(text):
             low, at = at, min(len(text), at + rng.choice([0, 1, 2, 7]))
             made += masker.push(text[low:at])
@@ -105,7 +105,7 @@ class Callers(unittest.TestCase):
     def test_what_is_refused(self):
         leftmost, anchored, empty = Automaton(["a"], "leftmost-first"), Automaton(["a"], start_kind="anchored"), Automaton(["a", ""])
         for call in (leftmost.masker, leftmost.word_masker, anchored.masker, anchored.word_masker, empty.masker,
-                     lambda: leftmost.mask_stream(io.StringIO("a"), io.StringIO())):
+                     empty.word_masker, lambda: leftmost.mask_stream(io.StringIO("a"), io.StringIO())):
             self.assertRaises(Error, call)
         for begun in (Automaton(["a"]).masker, Automaton(["a"]).word_masker):
             masker = begun()

@@ -176,7 +176,7 @@ def tried(it):
     for of in [repr, iter, next, copy.copy, copy.deepcopy, hash, len, list]:
         called(of, it)
     for one in cores + some:
-        for given in [(one,), (one, 0), (one, None), (one, "a", False), (one, "a", "standard"), (one, "a", None, None, True),
+        for given in [(one,), (one, 0), (one, 0, True), (one, None), (one, "a", False), (one, "a", "standard"), (one, "a", None, None, True),
                       (one, native.Change(), [], (), "a", 0, 1, True), (one, it, [], (), "a", 0, 1, True), (one, it, 0), (it, one, -5)]:
             for name in ["masker", "stream", "hold", "batches", "matches_after", "words_in", "pairs", "width_of", "error_text", "starred"]:
                 made = called(getattr(native, name), *given)

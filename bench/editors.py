@@ -88,11 +88,11 @@ def lengthened(path, data, mib):
 
 
 def apart(path):
-    """The first words of a list of which none begins another: so all programs take the same ones, whichever they prefer."""
+    """The first words of a list of which none lies in another: so all programs take the same ones, whichever they prefer."""
     taken = []
     with open(path) as file:
         for word in map(str.strip, file):
-            if len(taken) < WORDS and not any(word.startswith(it) or it.startswith(word) for it in taken):
+            if len(taken) < WORDS and not any(it in word or word in it for it in taken):
                 taken.append(word)
     return taken
 
@@ -165,7 +165,7 @@ def measured(asked, machine):
         if name in seconds:
             lines.append([title, *(cell(it.get(name)) for it in (seconds, peaks, changed, many))])
     note = (
-        f"The word `{WORD}` replaced in {editors.mb[0] / 1000:.2f} GB, {matches(editors):,} times: seconds of processor time, the best run of"
+        f"The word `{WORD}` replaced in {editors.mb[0]:,.0f} MB, {matches(editors):,} times: seconds of processor time, the best run of"
         f" {editors.runs}, on {datetime.date.today().isoformat()}, on {machine}, with a load of {load:.1f}. All write the same bytes."
         " ripgrep maps the file, so its memory has the whole of it:"
     )

@@ -168,14 +168,14 @@ def is_foreign(text):
 
 
 def text_rules(text):
-    """The rules of lines of plain text, or the fault of the first line that is none."""
+    """The rules of lines of plain text, or the fault of the first line that is none, or that has a TAB or none where line 1 has not."""
     if is_foreign(text):
         raise Fault("rules: line 1", 3)
-    rules = []
+    rules, tabbed = [], b"\t" in text.partition(b"\n")[0]
     while text:
         line, _, text = text.partition(b"\n")
-        pattern, _, replacement = line[:-1 if line.endswith(b"\r") else None].partition(b"\t")
-        if not pattern or b"\t" in replacement:
+        pattern, tab, replacement = line[:-1 if line.endswith(b"\r") else None].partition(b"\t")
+        if not pattern or b"\t" in replacement or bool(tab) != tabbed:
             raise Fault(f"rules: line {len(rules) + 1}", 3)
         rules.append((pattern, replacement))
     return rules
@@ -183,7 +183,9 @@ def text_rules(text):
 
 def check(mode, kind, engine, other, rules, mask=None, word=False):
     """Raises the fault of settings that exclude one another or don't suit the rules."""
-    if mode in ("overlap", "mask") and kind != "standard":
+    if mode == "mask":
+        return check_mask(kind, engine, other, rules, mask)
+    if mode == "overlap" and kind != "standard":
         raise Fault("setting: overlap needs the standard kind", 2)
     if engine == "packed":
         if kind == "standard":
@@ -194,13 +196,22 @@ def check(mode, kind, engine, other, rules, mask=None, word=False):
             raise Fault("setting: packed takes no empty pattern", 2)
         if not 1 <= len(rules) <= 128:
             raise Fault("setting: packed takes 1 to 128 patterns", 2)
-    if word and mode != "mask":
+    if word:
         if engine == "packed":
             raise Fault("word: packed finds no whole words", 2)
         if any(not pattern for pattern, _ in rules):
             raise Fault("word: a pattern is empty", 4)
-    if mode == "mask":
-        if any(not pattern for pattern, _ in rules):
-            raise Fault("mask: a pattern is empty", 4)
-        if any(byte in (mask, other[mask]) for pattern, _ in rules for byte in pattern):
-            raise Fault(f"mask: byte {mask:02x} occurs in a pattern", 4)
+
+
+def check_mask(kind, engine, other, rules, mask):
+    """The same for a mask, which has faults of its own."""
+    if kind != "standard":
+        raise Fault("mask: needs the standard kind", 2)
+    if engine == "packed":
+        raise Fault("mask: packed finds no overlaps", 2)
+    if not rules:
+        raise Fault("mask: there are no rules", 4)
+    if any(not pattern for pattern, _ in rules):
+        raise Fault("mask: a pattern is empty", 4)
+    if any(byte in (mask, other[mask]) for pattern, _ in rules for byte in pattern):
+        raise Fault(f"mask: byte {mask:02x} occurs in a pattern", 4)

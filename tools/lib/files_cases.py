@@ -149,13 +149,14 @@ def files_that_cannot_be_read(stage, expect):
     """files that aren't there, folders, and a file without leave to read: named, and the others are run over"""
     room, rules = folder(stage), text_rules(stage)
     a, b = write(f"{room}/a", b"the fox"), write(f"{room}/b", b"a fox")
-    line = f"acsub: {room}/none: cannot be read\nacsub: {room}: read failed\n".encode()
+    line = f"acsub: {room}/none: No such file or directory\nacsub: {room}: Is a directory\n".encode()
     expect("the end", run(stage, "replace", rules, "--text", a, f"{room}/none", room, b), (5, b"THE slotha sloth", line))
     counted = run(stage, "replace", rules, "--text", "--count", "--fail-if-none", a, f"{room}/none")
-    expect("counted", counted, (5, b"THE sloth", f"acsub: {room}/none: cannot be read\nacsub: 2 matches\n".encode()))
+    lines = f"acsub: {a}: 2 matches\nacsub: {room}/none: No such file or directory\nacsub: 2 matches\n".encode()
+    expect("counted", counted, (5, b"THE sloth", lines))
     os.chmod(b, 0)
     how = {} if os.geteuid() else {"user": "nobody"}
-    expect("without leave", run(stage, "list", rules, "--text", b, **how), (5, b"", f"acsub: {b}: cannot be read\n".encode()))
+    expect("without leave", run(stage, "list", rules, "--text", b, **how), (5, b"", f"acsub: {b}: Permission denied\n".encode()))
 
 
 @case
@@ -219,7 +220,10 @@ def counts(stage, expect):
         source = more if "-e" in more else [rules, "--text", *more]
         for asked in [["--count"], ["--fail-if-none"], ["--count", "--fail-if-none"]]:
             ended = run(stage, mode, *source, *asked, stdin=stdin)
-            want = status if "--fail-if-none" in asked else 0, b"acsub: " + line + b"\n" if "--count" in asked else b""
+            lines = b"acsub: " + line + b"\n"
+            if a in more and b in more:
+                lines = f"acsub: {a}: ".encode() + line + b"\n" + lines
+            want = status if "--fail-if-none" in asked else 0, lines if "--count" in asked else b""
             expect(f"the end of {words + asked}", (ended[0], ended[2]), want)
 
 
@@ -273,8 +277,9 @@ def in_place(stage, expect):
         os.utime(path, ns=(OLD, OLD))
     os.chmod(min(files), 0o640)
     ended = run(stage, "replace", rules, "--text", "-i", "--count", *files)
-    found = sum(len(picks("standard", False, PAIRS, text)) for text in files.values())
-    expect("the end", ended, (0, b"", f"acsub: {found} matches\n".encode()))
+    found = {path: len(picks("standard", False, PAIRS, text)) for path, text in files.items()}
+    lines = [f"acsub: {path}: {number} match{'es' * (number > 1)}\n" for path, number in found.items() if number]
+    expect("the end", ended, (0, b"", f"{''.join(lines)}acsub: {sum(found.values())} matches\n".encode()))
     for path, text in files.items():
         new = replaced("standard", PAIRS, text)
         expect(path, read(path), new)
@@ -314,6 +319,11 @@ def in_place_modes_and_links(stage, expect):
     os.symlink("link", f"{room}/link2")
     expect("the end", run(stage, "replace", "-e", "fox", "-r", "ox", "-i", f"{room}/link2"), NOTHING_DONE)
     expect("texts", (read(path), read(hard), os.readlink(link)), (b"ox", b"fox", "file"))
+    os.mkdir(f"{room}/sub")
+    os.symlink("../file", f"{room}/sub/up")
+    os.symlink(f"{room}/sub/up", f"{room}/sub/root")
+    expect("from its own folder", run(stage, "replace", "-e", "ox", "-r", "fox", "-i", "sub/root", cwd=room), NOTHING_DONE)
+    expect("text", (read(path), os.readlink(f"{room}/sub/up")), (b"fox", "../file"))
 
 
 @case
@@ -325,7 +335,7 @@ def in_place_of_what_is_no_file(stage, expect):
     os.symlink("nowhere", f"{room}/broken")
     given = ["replace", "-e", "fox", "-r", "ox", "-i"]
     bad = [f"{room}/pipe", room, "/dev/null", "-", f"{room}/none", f"{room}/broken"]
-    why = ["not a regular file"] * 4 + ["cannot be read"] * 2
+    why = ["not a regular file"] * 4 + ["No such file or directory"] * 2
     lines = "".join(f"acsub: {it}: {line}\n" for it, line in zip(bad, why)).encode()
     expect("the end", run(stage, *given, *bad, a), (5, b"", lines))
     expect("the other", read(a), b"ox")
@@ -460,7 +470,8 @@ def reports_in_words(stage, expect):
     head = "rules: 5\nwithout replacement: 3\nshortest pattern: 3 bytes (line 2)\nlongest pattern: 9 bytes (line 3)\n"
     pairs = "lines 1 and 2 overlap\nlines 1 and 3 overlap\nlines 1 and 4 overlap\nlines 3 and 5 overlap\n"
     why = "line 1 is never found: line 2 lies in it and ends first\nline 4 is never found: line 2 is the same\n"
-    expect("standard", run(stage, "replace", rules, "--text", "--check", "/none"), (0, (head + why + pairs).encode(), b""))
+    nothing = "".join(f"line {it} is replaced by nothing\n" for it in (1, 3, 4))
+    expect("standard", run(stage, "replace", rules, "--text", "--check", "/none"), (0, (head + nothing + why + pairs).encode(), b""))
     why = "line 4 is never found: line 2 is the same\n"
     for kind in ["leftmost-first", "leftmost-longest"]:
         expect(kind, run(stage, "list", rules, "--text", "--check", "--kind", kind), (0, (head + why + pairs).encode(), b""))

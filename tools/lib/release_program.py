@@ -23,8 +23,8 @@ It needs {needs}, and glibc {glibc} or later. PROVED says what was proved.
 PROVED = """\
 acsub {version} for Linux on x86_64, of commit {commit}{changed}.
 
-Proved and built by `rt run` in crates/acsub, over what earlier runs of `rt` on that machine had proved. It said:
-{said}
+Proved and built by `rt run` in crates/acsub, after the crates below it, by that run or by earlier ones on that machine. Of acsub it said:
+  {said}
 No gate ran over it: no test, no edit that must fail, and no second compiler.
 
 The toolchain:
@@ -34,7 +34,7 @@ The toolchain:
 
 
 def proved():
-    """What `rt run` says of the proofs, when it has proved and built the program, or found it as it left it."""
+    """What `rt run` says last of the proof, when it has proved and built the program, or found it as it left it."""
     with open(f"{CRATE}/stdin", "rb") as stdin:
         ran = subprocess.run(
             ["rt", "run", "--", "replace", "data/rules.txt"], cwd=CRATE, stdin=stdin, stdout=subprocess.PIPE, stderr=subprocess.STDOUT
@@ -43,7 +43,7 @@ def proved():
     lines = re.findall(r"^(?:logic=proved .*|rt: nothing has changed since the last proved build.*)$", said, re.M)
     if ran.returncode or not lines:
         stop(f"`rt run` in crates/acsub left no program that is proved: {said.strip()[-900:]}")
-    return lines
+    return lines[-1]
 
 
 def make(dist, version, changed):
@@ -60,7 +60,7 @@ def make(dist, version, changed):
             "version": version,
             "commit": said_by("git", "-C", ROOT, "rev-parse", "HEAD").strip(),
             "changed": ", with changes that aren't committed" if changed else "",
-            "said": "\n".join(f"  {it}" for it in said),
+            "said": said,
             "toolchain": said_by("rt", "version").strip(),
             "clang": release_proved.clang(),
         }

@@ -79,11 +79,11 @@ class Cuts(unittest.TestCase):
             (b"7e\t\n", ["--pairs", "41427E0A"], feed),
             (b"41\t7e\n", ["--pairs", "0a7e"], None),
             (b"7e\t\n", ["--pairs", "7e41"], None),
-            (b"a\nb\tc\r\nd\r\n", ["--text"], None),
+            (b"a\t\nb\tc\r\nd\t\r\n", ["--text"], None),
             (b"a~\tb", ["--text", "--pairs", "7e0a"], feed),
             (b"a\t~", ["--text", "--pairs", "7e0a"], None),
             (b"a\r\r\n", ["--text", "--pairs", "0d0a"], feed),
-            (b"a\r\nb\tc\r", ["--text", "--pairs", "0d0a"], None),
+            (b"a\r\nb\r", ["--text", "--pairs", "0d0a"], None),
         ]:
             self.assertEqual(dask.whole_because(rules, options), why, (rules, options))
 
@@ -149,7 +149,7 @@ class OnACluster(unittest.TestCase):
     def test_as_one_run(self):
         draw = random.Random(2)
         words = [b"fox", b"foxes", b"ox", b"brown fox", b"e", b"\n", b"\r\n", b" "]
-        rules = self.written("rules", b"fox\tsloth\nox\nfoxes\tsloths\nbrown\tgrey\n")
+        rules = self.written("rules", b"fox\tsloth\nox\t\nfoxes\tsloths\nbrown\tgrey\n")
         sources = [self.written(f"text{n}", b"".join(draw.choices(words, k=size))) for n, size in enumerate([0, 1, 200, 600])]
         for mode, kinds in [("replace", KINDS), ("list", KINDS), ("overlap", KINDS[:1]), ("mask", KINDS[:1])]:
             for kind in kinds:

@@ -1,2 +1,3 @@
 pub mod FileRunLemmas
 pub mod FoldLemmas
+pub mod LabelledRunLemmas

@@ -1,4 +1,5 @@
 pub mod EscapedLemmas
+pub mod FirstLineLemmas
 pub mod GrammarLemmas
 pub mod LineLemmas
 pub mod SpellingLemmas

@@ -1,41 +1,57 @@
 -- Runs that always write while they read, a mask and one for whole words: what each of their results means, and their cost.
-use Rattle.std.specs.Prelude.{◌≡◌, ℕ, ◌+◌, ◌*◌, ◌≤◌, List, ◌++◌, length, Result, Ok, Err, OnOk}
+use Rattle.std.specs.Prelude.{◌≡◌, ℕ, ◌+◌, ◌*◌, ◌<◌, ◌≤◌, List, ◌++◌, length, Result, Ok, Err, OnOk}
 use Rattle.std.specs.List.{concat}
 use Rattle.ac_input.specs.Rules.{Rule}
 use Rattle.ac_input.specs.declared.steps.Steps.{Steps}
 use Rattle.ac_automaton.specs.declared.error.StreamError.{StreamError}
 use Rattle.ac_automaton.specs.declared.error.StreamError.TheVariants as stream
 use Rattle.ac_automaton.specs.declared.stream.devices.watched.Watched.{Watched}
-use Rattle.acsub.specs.Args.Settings.{IsAccepted, IsFirstExclusion}
 use Rattle.acsub.specs.Plan.{Plan}
 use Rattle.acsub.specs.Served.{AreLooksFor, IsNotBuilt}
+use Rattle.acsub.specs.declared.args.settings.SettingError.{SettingError}
 use Rattle.acsub.specs.declared.args.settings.Settings.{Settings}
 use Rattle.acsub.specs.declared.early.EarlyError.{EarlyError}
 use Rattle.acsub.specs.declared.early.EarlyError.TheVariants as early
 use Rattle.acsub.specs.declared.early.Refusal.{Refusal}
+use Rattle.acsub.specs.declared.early.Refusal.TheVariants as refusals
 use Rattle.acsub.specs.declared.error.RunError.{RunError}
 use Rattle.acsub.specs.declared.error.RunError.TheVariants as errors
 use Rattle.acsub.specs.declared.rules.RuleError.TheVariants as rule_errors
 
--- What such a run asks of settings and rules: which settings have to fit the rules, and by which ones the automaton is
--- built; that the run can be made, and why not, where the settings fit.
+-- What such a run asks of settings and rules: by which settings the automaton is built; that the run can be made; and why
+-- not, by an error of the settings or by a refusal.
 pub record Demand : Type 1 where
   pub rules : List Rule
-  pub asked : Settings
   pub built : Settings
   pub fits : Type 0
+  pub excludes : SettingError → Type 0
   pub refuses : Refusal → Type 0
+
+-- the rank of a refusal: of those that apply to a run, the lowest is reported
+abbrev pub refusal_order : Refusal → ℕ
+refusal_order refusals.LeftmostMasked = 0
+refusal_order refusals.PackedMasked = 1
+refusal_order refusals.NoRules = 2
+refusal_order refusals.EmptyMasked = 3
+refusal_order (refusals.Occurs byte) = 4
+refusal_order refusals.PackedWord = 5
+refusal_order refusals.EmptyWord = 6
+
+-- of the refusals that apply, the first
+abbrev pub IsFirstRefusal : (Refusal → Type 0) → Refusal → Type 0
+IsFirstRefusal applies refusal =
+    applies refusal × ((earlier : Refusal) → refusal_order earlier < refusal_order refusal → ¬ applies earlier)
 
 -- why a check of it fails
 abbrev pub IsUnmet : Demand → EarlyError → Type 0
-IsUnmet d (early.Refused refusal) = IsAccepted d.asked d.rules × d.refuses refusal
-IsUnmet d (early.Run (errors.Setting e)) = IsFirstExclusion d.asked d.rules e
+IsUnmet d (early.Refused refusal) = d.refuses refusal
+IsUnmet d (early.Run (errors.Setting e)) = d.excludes e
 IsUnmet d (early.Run other) = ⊥
 
 -- why such a run is not prepared: the check fails, or the build passes a limit, or memory runs out for it
 abbrev pub IsUnready : Demand → EarlyError → Type 0
-IsUnready d (early.Refused refusal) = IsAccepted d.asked d.rules × d.refuses refusal
-IsUnready d (early.Run (errors.Setting e)) = IsFirstExclusion d.asked d.rules e
+IsUnready d (early.Refused refusal) = d.refuses refusal
+IsUnready d (early.Run (errors.Setting e)) = d.excludes e
 IsUnready d (early.Run (errors.Build kind)) = d.fits × IsNotBuilt d.built d.rules kind
 IsUnready d (early.Run errors.Memory) = d.fits
 IsUnready d (early.Run other) = ⊥
@@ -50,9 +66,9 @@ module _ {R W : Type 0} (old new : Watched R × Watched W) where
   -- neither device, nor has one that is out of memory.
   abbrev pub AnswersEarly : Demand → (Result (Unit {0}) StreamError → Type 0) → Result (Unit {0}) EarlyError → Type 0
   AnswersEarly d writes (Ok done) = writes (Ok done)
-  AnswersEarly d writes (Err (early.Refused refusal)) = IsAccepted d.asked d.rules × d.refuses refusal × (new ≡ old)
+  AnswersEarly d writes (Err (early.Refused refusal)) = d.refuses refusal × (new ≡ old)
   AnswersEarly d writes (Err (early.Run (errors.Rule e))) = ⊥
-  AnswersEarly d writes (Err (early.Run (errors.Setting e))) = IsFirstExclusion d.asked d.rules e × (new ≡ old)
+  AnswersEarly d writes (Err (early.Run (errors.Setting e))) = d.excludes e × (new ≡ old)
   AnswersEarly d writes (Err (early.Run (errors.Build kind))) =
       d.fits × IsNotBuilt d.built d.rules kind × (new ≡ old)
   AnswersEarly d writes (Err (early.Run (errors.Read e))) = writes (Err (stream.Read e))

@@ -1,11 +1,11 @@
 -- Rules that the arguments give, and the form of the rules.
-use Rattle.std.specs.Prelude.{◌≡◌, ◌++◌, Bool, true, false, ℕ, List, [], ◌∷◌, codes, drop}
+use Rattle.std.specs.Prelude.{◌≡◌, ◌++◌, ◌⊎◌, Bool, true, false, ℕ, List, [], ◌∷◌, codes, drop, length}
 use Rattle.std.specs.List.{list_any}
-use Rattle.ac_input.specs.Rules.{BeginsWithAll, BeginsWithTextRule, Rule}
+use Rattle.ac_input.specs.Rules.{BeginsWithAll, Rule}
 use Rattle.clap.specs.Words.{Text}
 use Rattle.clap.specs.Walk.{is_empty}
 use Rattle.acsub.specs.Args.Misuse.{has_break}
-use Rattle.acsub.specs.Rules.File.{asked_form}
+use Rattle.acsub.specs.Rules.File.{asked_form, text_rules}
 use Rattle.acsub.specs.declared.args.Source.{Source}
 use Rattle.acsub.specs.declared.args.Source.TheVariants.{Given}
 use Rattle.acsub.specs.declared.args.Words.{Words}
@@ -27,11 +27,13 @@ given_rules [] replacements = []
 given_rules (pattern ∷ more) [] = (pattern, []) ∷ given_rules more []
 given_rules (pattern ∷ more) (replacement ∷ others) = (pattern, replacement) ∷ given_rules more others
 
--- where no side has a byte that ends it, and no pattern is empty, the lines of the file are those rules
+-- where no side has a byte that ends it, no pattern is empty, and there is a replacement for each or none at all, the lines
+-- of the file are those rules
 abbrev pub HoldsGiven : List Text → List Text → List ℕ → Type 0
 HoldsGiven patterns replacements file =
     has_break patterns ≡ false → has_break replacements ≡ false → list_any is_empty patterns ≡ false
-    → BeginsWithAll BeginsWithTextRule file (given_rules patterns replacements) []
+    → (length replacements ≡ 0) ⊎ (length replacements ≡ length patterns)
+    → BeginsWithAll (text_rules.begins file) file (given_rules patterns replacements) []
 
 -- rules of the arguments are text
 abbrev pub form_by : Source → Bool → Bool → Form

@@ -49,9 +49,9 @@ abbrev pub Places : Swap → Swap → Result (Unit {0}) FileFault → Type 0
 Places old new (Ok done) = new.steps ≡ old.steps ++ Owned ∷ Permitted ∷ Synced ∷ Renamed ∷ []
 Places old new (Err fault) = renames new.steps ≡ renames old.steps
 
--- no count is lost, and no file was renamed
+-- nothing was counted, and no file was renamed
 pub record LeavesFile (old new : Tally × Swap) : Type 0 where
-  pub counted : old.0.found ≤ new.0.found
+  pub counted : new.0 ≡ old.0
   pub stays : renames new.1.steps ≡ renames old.1.steps
 
 module _ {F : Type 0} (T : Type 0) (held contents : F → Option (List ℕ)) (job : Job) where

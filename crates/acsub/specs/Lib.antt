@@ -22,3 +22,5 @@ pub mod Comparing
 pub mod InPlace
 pub mod Labelled
 pub mod Folds
+pub mod FilesOutcome
+pub mod Ends

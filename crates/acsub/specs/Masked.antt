@@ -1,5 +1,5 @@
 -- A run that masks: which rules it takes, what it writes, and what each of its results means.
-use Rattle.std.specs.Prelude.{◌≡◌, ℕ, ◌+◌, Bool, true, false, IsTrue, List, [], ◌++◌, length, take, Result, Option}
+use Rattle.std.specs.Prelude.{◌≡◌, ◌≢◌, ℕ, ◌+◌, Bool, true, false, IsTrue, List, [], ◌++◌, length, take, Result, Option}
 use Rattle.ac_input.specs.Dictionary.{Dictionary, whole}
 use Rattle.ac_input.specs.Mask.{masked_among}
 use Rattle.ac_input.specs.Occurrence.{Occurrence}
@@ -7,6 +7,7 @@ use Rattle.ac_input.specs.Rules.{Rule}
 use Rattle.ac_input.specs.Unused.{IsUnused}
 use Rattle.ac_input.specs.Word.{OccursAsked, asked_occurrences, is_word_byte}
 use Rattle.ac_input.specs.Work.{longest}
+use Rattle.ac_input.specs.declared.search.MatchKind.TheVariants.{Standard}
 use Rattle.ac_input.specs.declared.steps.Steps.{Steps}
 use Rattle.ac_automaton.specs.Stream.Answer.{WritesStream}
 use Rattle.ac_automaton.specs.Automaton.{Built}
@@ -15,15 +16,16 @@ use Rattle.ac_automaton.specs.Stream.Devices.Buffer.{room_for}
 use Rattle.ac_automaton.specs.Stream.Mask.{CostsMaskStream, IsMaskCut, MasksStream}
 use Rattle.ac_automaton.specs.declared.error.StreamError.{StreamError}
 use Rattle.ac_automaton.specs.declared.stream.devices.watched.Watched.{Watched}
-use Rattle.acsub.specs.declared.args.settings.Mode.TheVariants.{List as Listing, Overlap}
+use Rattle.acsub.specs.declared.args.settings.Engine.TheVariants.{Packed}
+use Rattle.acsub.specs.declared.args.settings.Mode.TheVariants.{List as Listing}
 use Rattle.acsub.specs.declared.args.settings.Settings.{Settings}
 use Rattle.acsub.specs.declared.early.EarlyError.{EarlyError}
 use Rattle.acsub.specs.declared.early.Refusal.{Refusal}
 use Rattle.acsub.specs.declared.early.Refusal.TheVariants as refusals
 use Rattle.acsub.specs.declared.mask.Mask.{Mask}
 use Rattle.acsub.specs.declared.mask.PreparedMask.{PreparedMask}
-use Rattle.acsub.specs.Args.Settings.{HasEmptyPattern, IsAccepted}
-use Rattle.acsub.specs.Early.{AnswersEarly, AnswersEarlyIn, CostsEarly, Demand, IsUnmet}
+use Rattle.acsub.specs.Args.Settings.{HasEmptyPattern}
+use Rattle.acsub.specs.Early.{AnswersEarly, AnswersEarlyIn, CostsEarly, Demand, IsFirstRefusal}
 use Rattle.acsub.specs.Finder.{IsServing}
 use Rattle.acsub.specs.Plan.{plan_of}
 use Rattle.acsub.specs.Rules.Sides.{rule_patterns}
@@ -32,42 +34,38 @@ use Rattle.acsub.specs.Served.{IsBuildable, dictionary_for}
 
 -- ---- what it takes
 
--- the same settings, for all that overlap
-abbrev pub for_every : Settings → Settings
-for_every settings = record settings { mode = Overlap }
-
 -- no pattern has the byte, or its partner
 abbrev pub IsInNoPattern : Settings → List Rule → ℕ → Type 0
 IsInNoPattern settings rules byte = IsUnused (whole (dictionary_for settings rules) [] false) byte
 
--- Rules can be masked by: all that overlap is found by the settings, no pattern is empty, and none has the mask or its
--- partner.
+-- Rules can be masked by: the kind is the standard one, an automaton searches, there are rules, no pattern is empty, and
+-- none has the mask or its partner.
 pub record IsMaskable (settings : Settings) (rules : List Rule) (byte : ℕ) : Type 0 where
-  pub accepted : IsAccepted (for_every settings) rules
+  pub standard : settings.kind ≡ Standard
+  pub automaton : settings.engine ≢ Packed
+  pub some : length rules ≢ 0
   pub filled : ¬ HasEmptyPattern rules
   pub unused : IsInNoPattern settings rules byte
 
--- why rules can't be masked by, which the settings fit
+-- why rules can't be masked by
 abbrev pub IsMaskRefusal : Settings → List Rule → ℕ → Refusal → Type 0
+IsMaskRefusal settings rules byte refusals.LeftmostMasked = settings.kind ≢ Standard
+IsMaskRefusal settings rules byte refusals.PackedMasked = settings.engine ≡ Packed
+IsMaskRefusal settings rules byte refusals.NoRules = length rules ≡ 0
 IsMaskRefusal settings rules byte refusals.EmptyMasked = HasEmptyPattern rules
-IsMaskRefusal settings rules byte (refusals.Occurs named) =
-    (named ≡ byte) × ¬ HasEmptyPattern rules × ¬ IsInNoPattern settings rules byte
+IsMaskRefusal settings rules byte (refusals.Occurs named) = (named ≡ byte) × ¬ IsInNoPattern settings rules byte
 IsMaskRefusal settings rules byte other = ⊥
 
--- what a run that masks asks of settings and rules
+-- what a run that masks asks of settings and rules; no error of settings is left for it
 abbrev pub mask_demand : Settings → List Rule → ℕ → Demand
 mask_demand settings rules byte =
     record {
       rules = rules;
-      asked = for_every settings;
       built = settings;
       fits = IsMaskable settings rules byte;
-      refuses = IsMaskRefusal settings rules byte;
+      excludes = λ error. ⊥;
+      refuses = IsFirstRefusal (IsMaskRefusal settings rules byte);
     }
-
--- why a check of rules, settings and mask fails
-abbrev pub NotMaskable : Settings → List Rule → ℕ → EarlyError → Type 0
-NotMaskable settings rules byte error = IsUnmet (mask_demand settings rules byte) error
 
 -- It is prepared for these settings, rules and mask: the rules can be masked by, and the automaton serves them.
 pub record IsMaskOf (settings : Settings) (rules : List Rule) (mask : Mask) (prepared : PreparedMask) : Type 0 where

@@ -1,5 +1,5 @@
 -- What the program did, by its outcome.
-use Rattle.std.specs.Prelude.{◌≡◌, ◌↔◌, ℕ, ◌+◌, ◌==◌, ◌&&◌, if◌then◌else◌, true, false, List, [], ◌++◌, ◌⊎◌, Option, None, Some, IfSome, OnOk, Result, Ok, Err, String, Vec, codes, decimal, map, string_bytes}
+use Rattle.std.specs.Prelude.{◌≡◌, ◌↔◌, ℕ, ◌+◌, ◌==◌, ◌&&◌, if◌then◌else◌, true, false, List, [], ◌++◌, ◌⊎◌, Option, IfSome, OnOk, Result, Ok, Err, String, Vec, codes, decimal, map, string_bytes}
 use Rattle.std.specs.Io.KnownBytes.{Keeps}
 use Rattle.ac_input.specs.Rules.{Rule}
 use Rattle.std.specs.IoError.{error_kind}
@@ -23,11 +23,12 @@ use Rattle.acsub.specs.declared.args.Words.{Words}
 use Rattle.acsub.specs.declared.args.WordsFault.{WordsFault}
 use Rattle.acsub.specs.declared.args.WordsFault.TheVariants.{Help, Bad, Memory, Pairing}
 use Rattle.acsub.specs.Given.{form_wanted, given_file}
-use Rattle.acsub.specs.Files.{IsJobOf}
+use Rattle.acsub.specs.Files.{IsJobOf, streams}
 use Rattle.acsub.specs.Jobs.{RanInput, RanInputIn}
 use Rattle.acsub.specs.Rules.File.{grammar_of}
 use Rattle.acsub.specs.Stream.{IsReturnedAs}
-use Rattle.acsub.specs.Tool.{IsFaultOf, early_fault, exit_of, status_of}
+use Rattle.acsub.specs.Tally.{found_text}
+use Rattle.acsub.specs.Tool.{IsFaultOf, early_fault, status_of}
 use Rattle.acsub.specs.Visits.{CountsWhole}
 use Rattle.acsub.specs.Args.Words.{Reads}
 use Rattle.acsub.specs.declared.job.Job.{Job}
@@ -40,10 +41,14 @@ use Rattle.acsub.specs.declared.tally.Tally.{Tally}
 abbrev pub IsFile : {F : Type 0} → (F → Option (List ℕ)) → List ℕ → Type 0
 IsFile {F} held bytes = (file : F) × IfSome (held file) (λ all. bytes ≡ all)
 
--- the bytes of a file; or the file can't be read, or memory ran out for it
+-- the rules can't be read, or memory ran out for them
+abbrev pub IsUnread : Fault → Type 0
+IsUnread fault = (fault ≡ faults.RuleFile) ⊎ (fault ≡ faults.Run errors.Memory)
+
+-- the bytes of a file; or why there are none
 abbrev pub ReadsFile : {F Z : Type 0} → (F → Option (List ℕ)) → Result (Vec ℕ Z) Fault → Type 0
 ReadsFile held (Ok bytes) = IsFile held bytes.items
-ReadsFile held (Err fault) = (fault ≡ faults.RuleFile) ⊎ (fault ≡ faults.Run errors.Memory)
+ReadsFile held (Err fault) = IsUnread fault
 
 -- ---- what was written, and the flush after it
 
@@ -101,13 +106,13 @@ module _ {R W : Type 0} (remaining : R → Option (List ℕ)) (contents : W → 
     (old new : Watched R × Watched W) where
   -- what the run that was asked for read, wrote and returned, by these rules
   abbrev pub RanByRules : List Rule → Result (Unit {0}) EarlyError → Type 0
-  RanByRules = RanInput remaining contents old new asked.mask asked.word asked.stream asked.settings
+  RanByRules = RanInput remaining contents old new asked.mask asked.word (streams asked) asked.settings
 
   -- the same by the bytes of the rules
   abbrev pub RanByFile : List ℕ → Result (Unit {0}) EarlyError → Type 0
   RanByFile file =
-      RanInputIn remaining contents old new ((grammar_of (form_wanted asked)).holds file) asked.mask asked.word asked.stream
-      asked.settings
+      RanInputIn remaining contents old new ((grammar_of (form_wanted asked)).holds file) asked.mask asked.word
+      (streams asked) asked.settings
 
 -- the matches of the run that was asked for were counted, by these rules
 abbrev pub CountsByRules : {R : Type 0} → Words → List Rule → Watched R → Watched R → Tally → Tally → Type 0
@@ -132,10 +137,10 @@ abbrev pub IsRuleText : {F : Type 0} → (F → Option (List ℕ)) → Words →
 IsRuleText held asked Given bytes = bytes ≡ given_file (texts asked.patterns.items) (texts asked.replacements.items)
 IsRuleText held asked other bytes = IsFile held bytes
 
--- these bytes; or the file can't be read, or memory ran out for it
+-- these bytes; or why there are none
 abbrev pub ReadsRuleText : {F Z : Type 0} → (F → Option (List ℕ)) → Words → Result (Vec ℕ Z) Fault → Type 0
 ReadsRuleText held asked (Ok bytes) = IsRuleText held asked asked.source bytes.items
-ReadsRuleText held asked (Err fault) = (fault ≡ faults.RuleFile) ⊎ (fault ≡ faults.Run errors.Memory)
+ReadsRuleText held asked (Err fault) = IsUnread fault
 
 -- The rules have these bytes, in the form that was asked for, and a run by them returned this result. The first bad
 -- line is reported whatever memory does.
@@ -159,80 +164,39 @@ pub record HasOneInput (asked : Words) : Type 0 where
 -- the status where no fault ended the runs, by how much was found and the status of what could not be read or written: 1
 -- in the place of 0 only where nothing was found, and that is asked for
 abbrev pub concluded : Words → ℕ → ℕ → ℕ
-concluded asked found status =
-    if asked.check then status else (if ((status == 0) && asked.fail_if_none) && (found == 0) then 1 else status)
+concluded asked found status = if ((status == 0) && asked.fail_if_none) && (found == 0) then 1 else status
 
 -- the status for an outcome of one run
 abbrev pub status_for : Words → ℕ → Result (Unit {0}) Fault → ℕ
 status_for asked found (Ok done) = concluded asked found 0
 status_for asked found (Err fault) = status_of fault
 
--- what is counted: matches, or the bytes of a mask
-abbrev pub found_text : Option ℕ → ℕ → List ℕ
-found_text None found = if found == 1 then codes "match" else codes "matches"
-found_text (Some mask) found = if found == 1 then codes "masked byte" else codes "masked bytes"
-
 -- the line that says how much was found
 abbrev pub count_line : Option ℕ → ℕ → List ℕ
 count_line mask found = codes "acsub: " ++ decimal found ++ codes " " ++ found_text mask found ++ codes "\n"
 
 module _ {F R W : Type 0} (held : F → Option (List ℕ)) (remaining : R → Option (List ℕ))
-    (contents : W → Option (List ℕ)) (old new : Watched R × Watched W) where
-  module _ (asked : Words) where
-    module _ (tally : Tally) where
-      -- A run by the rules returned this result; then the writer was flushed, and this many flushes failed.
-      abbrev pub RanAndFlushed : Result (Unit {0}) Fault → ℕ → Type 0
-      RanAndFlushed answer failed =
-          (between : Watched W) × RanFile held remaining contents asked old (new.0, between) tally answer
-          × Flushes contents between new.1 failed
+    (contents : W → Option (List ℕ)) (old new : Watched R × Watched W) (asked : Words) where
+  -- What an outcome means where a run over standard input was asked for: the run by the rules returned this answer, and
+  -- the writer was flushed; or the rules could not be read, or standard input is the file that is written.
+  abbrev pub AnswersFile : Tally → Result (Unit {0}) Fault → Type 0
+  AnswersFile tally outcome =
+      ((answer : Result (Unit {0}) Fault) × (between : Watched W)
+      × RanFile held remaining contents asked old (new.0, between) tally answer
+      × Finishes contents answer between new.1 outcome)
+      ⊎ ((fault : Fault) × (outcome ≡ Err fault) × (IsUnread fault ⊎ (fault ≡ faults.Output)) × (new ≡ old))
 
-      -- what each outcome means where a run over standard input was asked for
-      abbrev pub AnswersFile : Result (Unit {0}) Fault → Type 0
-      AnswersFile (Ok done) = RanAndFlushed (Ok tt) 0
-      AnswersFile (Err faults.Words) = ⊥
-      AnswersFile (Err (faults.Pairs e)) = ⊥
-      AnswersFile (Err faults.RuleFile) = new ≡ old
-      AnswersFile (Err (faults.Refused r)) =
-          RanAndFlushed (Err (faults.Refused r)) 0 ⊎ RanAndFlushed (Err (faults.Refused r)) 1
-      AnswersFile (Err (faults.Run e)) =
-          RanAndFlushed (Err (faults.Run e)) 0 ⊎ RanAndFlushed (Err (faults.Run e)) 1
-          ⊎ ((e ≡ errors.Memory) × (new ≡ old))
-      AnswersFile (Err faults.Flush) = RanAndFlushed (Ok tt) 1
-
-    -- what the status means where a run over standard input was asked for
-    abbrev pub EndsOne : ℕ → Type 0
-    EndsOne status =
-        (tally : Tally) × (outcome : Result (Unit {0}) Fault) × (status ≡ status_for asked tally.found outcome)
-        × AnswersFile tally outcome
-
-    -- what the status means: nothing is said where FILEs are run over, or a report was asked for
-    abbrev pub EndsAsked : ℕ → Type 0
-    EndsAsked status = HasOneInput asked → EndsOne status
-
-  -- what the status means, given what the words were read as
-  abbrev pub EndsRead : Result Words WordsFault → ℕ → Type 0
-  EndsRead (Ok asked) status = EndsAsked asked status
-  EndsRead (Err fault) status =
-      (outcome : Result (Unit {0}) Fault) × (status ≡ exit_of outcome) × (new.0 ≡ old.0)
-      × AnswersUnasked contents old.1 new.1 fault outcome
-
-  -- what the status means for the words, the rules, what was read and written, and the flush
-  abbrev pub EndsTool : {Z : Type 0} → List (String Z) → ℕ → Type 0
-  EndsTool words status =
-      (asked : Result Words WordsFault) × Reads (map string_bytes words) asked × EndsRead asked status
-
-  -- The status for the words that the system gives. If it fails to give them, that is reported, and neither device is
-  -- touched.
-  abbrev pub EndsProgram : {Z A : Type 0} → Result (IntoIter (String Z) A) Error → ℕ → Type 0
-  EndsProgram (Ok words) status = EndsTool (into_iter_items words) status
-  EndsProgram (Err error) status =
-      (fault : Fault) × (status ≡ status_of fault) × IsFaultOf (error_kind error) faults.Words fault × (new ≡ old)
+  -- what the status means there
+  abbrev pub EndsOne : ℕ → Type 0
+  EndsOne status =
+      (tally : Tally) × (outcome : Result (Unit {0}) Fault) × (status ≡ status_for asked tally.found outcome)
+      × AnswersFile tally outcome
 
 -- ---- the error stream
 
 -- a line on the error stream is asked for, whatever the status
 abbrev pub Speaks : Words → Type 0
-Speaks asked = (asked.count ≡ true) × (asked.check ≡ false)
+Speaks asked = asked.count ≡ true
 
 -- the words ask for such a line
 abbrev pub SpeaksOf : {Z : Type 0} → List (String Z) → Type 0

@@ -1,5 +1,5 @@
 -- How many matches runs have found, and sinks that count what they are passed.
-use Rattle.std.specs.Prelude.{◌≡◌, ℕ, ◌+◌, ◌-◌, ◌^◌, min, List, ◌++◌, length, None, false}
+use Rattle.std.specs.Prelude.{◌≡◌, ℕ, ◌+◌, ◌-◌, ◌^◌, ◌==◌, if◌then◌else◌, min, List, ◌++◌, codes, length, Option, None, Some, false}
 use Rattle.std.specs.List.{concat}
 use Rattle.ac_input.specs.Computed.{listing_among, occurrences, walk_among}
 use Rattle.ac_input.specs.Dictionary.{whole}
@@ -19,6 +19,11 @@ use Rattle.acsub.specs.declared.tally.Tally.{Tally}
 -- a number that has grown by so many, or as far as 64 bits go
 abbrev pub grown : ℕ → ℕ → ℕ
 grown n more = n + min more (2 ^ 64 - 1 - n)
+
+-- what is counted: matches, or the bytes of a mask
+abbrev pub found_text : Option ℕ → ℕ → List ℕ
+found_text None found = if found == 1 then codes "match" else codes "matches"
+found_text (Some mask) found = if found == 1 then codes "masked byte" else codes "masked bytes"
 
 -- ---- what a run counts
 

@@ -1,6 +1,6 @@
 -- The lines that report faults, and the exit statuses of the program.
 use Rattle.std.specs.Fmt.{radix_digits}
-use Rattle.std.specs.Prelude.{◌≡◌, ℕ, ◌/◌, ◌%◌, false, List, ◌++◌, OnOk, Option, Result, Ok, Err, codes, decimal}
+use Rattle.std.specs.Prelude.{◌≡◌, ℕ, ◌/◌, ◌%◌, false, List, ◌++◌, OnOk, Option, Result, Ok, Err, codes, decimal, string_bytes}
 use Rattle.std.specs.Io.KnownBytes.{Appends}
 use Rattle.std.specs.declared.io.ErrorKind.{ErrorKind}
 use Rattle.std.specs.declared.io.ErrorKind.TheVariants as kind
@@ -40,6 +40,9 @@ abbrev pub hex_of : ℕ → List ℕ
 hex_of byte = radix_digits 16 false (byte / 16) ++ radix_digits 16 false (byte % 16)
 
 abbrev pub refusal_text : Refusal → List ℕ
+refusal_text refusals.LeftmostMasked = codes "mask: needs the standard kind"
+refusal_text refusals.PackedMasked = codes "mask: packed finds no overlaps"
+refusal_text refusals.NoRules = codes "mask: there are no rules"
 refusal_text refusals.EmptyMasked = codes "mask: a pattern is empty"
 refusal_text (refusals.Occurs byte) = codes "mask: byte " ++ hex_of byte ++ codes " occurs in a pattern"
 refusal_text refusals.PackedWord = codes "word: packed finds no whole words"
@@ -48,8 +51,10 @@ refusal_text refusals.EmptyWord = codes "word: a pattern is empty"
 -- the message of a fault, after the program's name
 abbrev pub fault_text : Fault → List ℕ
 fault_text faults.Words = codes "bad words"
+fault_text (faults.OwnRules path) = string_bytes path ++ codes ": is the rule file"
 fault_text (faults.Pairs e) = codes "setting: " ++ (codes "byte " ++ decimal (twice_of e) ++ codes " is named twice")
 fault_text faults.RuleFile = codes "rules: file cannot be read"
+fault_text faults.Output = codes "input file is output file"
 fault_text (faults.Refused refusal) = refusal_text refusal
 fault_text (faults.Run e) = run_text e
 fault_text faults.Flush = codes "flush failed"
@@ -65,6 +70,9 @@ run_status errors.Memory = 7
 run_status errors.Position = 8
 
 abbrev pub status_of_refusal : Refusal → ℕ
+status_of_refusal refusals.LeftmostMasked = 2
+status_of_refusal refusals.PackedMasked = 2
+status_of_refusal refusals.NoRules = 4
 status_of_refusal refusals.EmptyMasked = 4
 status_of_refusal (refusals.Occurs byte) = 4
 status_of_refusal refusals.PackedWord = 2
@@ -73,8 +81,10 @@ status_of_refusal refusals.EmptyWord = 4
 -- the exit status for a fault
 abbrev pub status_of : Fault → ℕ
 status_of faults.Words = 2
+status_of (faults.OwnRules path) = 2
 status_of (faults.Pairs e) = 2
 status_of faults.RuleFile = 3
+status_of faults.Output = 5
 status_of (faults.Refused refusal) = status_of_refusal refusal
 status_of (faults.Run e) = run_status e
 status_of faults.Flush = 6

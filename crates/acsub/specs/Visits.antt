@@ -3,10 +3,9 @@ use Rattle.std.specs.Prelude.{◌≡◌, ◌≢◌, ◌⊎◌, ℕ, ◌≤◌, t
 use Rattle.std.specs.declared.io.impls.Empty.{Empty}
 use Rattle.ac_automaton.specs.Stream.Devices.Watched.{IsFresh}
 use Rattle.ac_automaton.specs.declared.stream.devices.watched.Watched.{Watched}
-use Rattle.acsub.specs.Files.{stop_for}
+use Rattle.acsub.specs.Files.{IsNotRun, stop_for}
 use Rattle.acsub.specs.Jobs.{CountsJob, RanJob}
 use Rattle.acsub.specs.declared.error.RunError.{RunError}
-use Rattle.acsub.specs.declared.error.RunError.TheVariants as errors
 use Rattle.acsub.specs.declared.files.FileFault.TheVariants as file_faults
 use Rattle.acsub.specs.declared.files.Stop.{Stop}
 use Rattle.acsub.specs.declared.files.Stop.TheVariants as stops
@@ -14,7 +13,6 @@ use Rattle.acsub.specs.declared.job.Job.{Job}
 use Rattle.acsub.specs.declared.job.Job.TheVariants as jobs
 use Rattle.acsub.specs.declared.progress.Metered.{Metered}
 use Rattle.acsub.specs.declared.tally.Tally.{Tally}
-use Rattle.acsub.specs.declared.tool.Fault.TheVariants as faults
 
 -- ---- a run that is counted
 
@@ -66,13 +64,11 @@ module _ {F W : Type 0} (T : Type 0) (held : F → Option (List ℕ)) (contents 
     pub fresh : IsFresh opened
     pub runs : RunsJob (behind held) contents job (opened, old.0, old.1) (closed, new.0, new.1) result
 
-  -- what a visit of a file returned: the run over it, or that it can't be opened or memory ran out
+  -- what a visit of a file returned: the run over it, or why it was not run over
   abbrev pub VisitsFile : Result (Unit {0}) Stop → Type 0
   VisitsFile (Ok done) = RunsOverFile (Ok tt)
   VisitsFile (Err stop) =
-      ((stop ≡ stops.File file_faults.Unreadable) × (new ≡ old))
-      ⊎ ((stop ≡ stops.All (faults.Run errors.Memory)) × (new ≡ old))
-      ⊎ ((e : RunError) × (stop ≡ stop_for e) × RunsOverFile (Err e))
+      (IsNotRun stop × (new ≡ old)) ⊎ ((e : RunError) × (stop ≡ stop_for e) × RunsOverFile (Err e))
 
 -- ---- a path
 
@@ -91,9 +87,12 @@ module _ {R W : Type 0} (contents : W → Option (List ℕ)) (job : Job) (old ne
 
 module _ {F R W : Type 0} (T : Type 0) (held : F → Option (List ℕ)) (remaining : R → Option (List ℕ))
     (contents : W → Option (List ℕ)) (job : Job) (path : List ℕ) (old new : Watched R × Watched W × Tally) where
-  -- The job ran over the file of a path; the path `-` is standard input, which is read once.
+  -- The job ran over the file of a path; the path `-` is standard input, which is read once, unless it is the file that
+  -- is written.
   pub record RunsPath (result : Result (Unit {0}) Stop) : Type 0 where
     pub file : path ≢ codes "-"
         → (new.0 ≡ old.0) × VisitsFile T held contents job (old.1, old.2) (new.1, new.2) result
-    pub input : path ≡ codes "-" → old.0.ended ≡ false → RunsOne remaining contents job old new result
+    pub input : path ≡ codes "-" → old.0.ended ≡ false
+        → RunsOne remaining contents job old new result
+        ⊎ ((result ≡ Err (stops.File file_faults.Output)) × (new ≡ old))
     pub again : path ≡ codes "-" → old.0.ended ≡ true → RunsOverNothing contents job old new result

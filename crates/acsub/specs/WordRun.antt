@@ -19,8 +19,8 @@ use Rattle.acsub.specs.declared.args.settings.Settings.{Settings}
 use Rattle.acsub.specs.declared.early.EarlyError.{EarlyError}
 use Rattle.acsub.specs.declared.early.Refusal.{Refusal}
 use Rattle.acsub.specs.declared.early.Refusal.TheVariants as refusals
-use Rattle.acsub.specs.Args.Settings.{HasEmptyPattern, IsAccepted}
-use Rattle.acsub.specs.Early.{AnswersEarly, AnswersEarlyIn, CostsEarly, Demand, IsUnmet}
+use Rattle.acsub.specs.Args.Settings.{HasEmptyPattern, IsAccepted, IsFirstExclusion}
+use Rattle.acsub.specs.Early.{AnswersEarly, AnswersEarlyIn, CostsEarly, Demand, IsFirstRefusal, IsUnmet}
 use Rattle.acsub.specs.Finder.{IsServing}
 use Rattle.acsub.specs.Plan.{plan_of}
 use Rattle.acsub.specs.declared.word.PreparedWords.{PreparedWords}
@@ -41,10 +41,10 @@ pub record IsSearchable (settings : Settings) (rules : List Rule) : Type 0 where
   pub automaton : settings.engine ≢ Packed
   pub filled : ¬ HasEmptyPattern rules
 
--- why words can't be searched for, which the settings fit
+-- why words can't be searched for by settings that fit the rules
 abbrev pub IsWordRefusal : Settings → List Rule → Refusal → Type 0
 IsWordRefusal settings rules refusals.PackedWord = settings.engine ≡ Packed
-IsWordRefusal settings rules refusals.EmptyWord = (settings.engine ≢ Packed) × HasEmptyPattern rules
+IsWordRefusal settings rules refusals.EmptyWord = HasEmptyPattern rules
 IsWordRefusal settings rules other = ⊥
 
 -- what a run for words asks of settings and rules
@@ -52,10 +52,10 @@ abbrev pub word_demand : Settings → List Rule → Demand
 word_demand settings rules =
     record {
       rules = rules;
-      asked = settings;
       built = for_words settings;
       fits = IsSearchable settings rules;
-      refuses = IsWordRefusal settings rules;
+      excludes = IsFirstExclusion settings rules;
+      refuses = λ refusal. IsAccepted settings rules × IsFirstRefusal (IsWordRefusal settings rules) refusal;
     }
 
 -- why a check of rules and settings fails

@@ -283,7 +283,7 @@ fn with_rules<'a>(alloc: Global, command: Command<'a>) -> Result<Command<'a>, Al
             "replacement",
             'r',
             "REPLACEMENT",
-            "Replace by this text: one for each -e, in their order; without -r by nothing",
+            "Replace by this text, in mode replace: one for each -e, in their order; without -r by nothing",
         ))?
         .arg(flag(
             alloc,
@@ -317,7 +317,7 @@ fn with_files<'a>(alloc: Global, command: Command<'a>) -> Result<Command<'a>, Al
         .arg(flag(
             alloc,
             "check",
-            "Look at the rules alone, and write what is odd about them",
+            "Look at the rules alone, and write what is odd about them; not with --count and --fail-if-none",
         ))?
         .arg(flag(alloc, "progress", "Show on a terminal how far the run is"))
 }

@@ -1,7 +1,7 @@
 //! A report on rules, for `--check`.
 //!
-//! The report counts the rules and those that replace by nothing, and names the shortest pattern and the longest. In modes `replace` and
-//! `list` it also names what a reader of the rules may not expect:
+//! The report counts the rules and those that replace by nothing, and names the shortest pattern and the longest. In mode `replace` it
+//! names the first rules that replace by nothing. In modes `replace` and `list` it also names what a reader of the rules may not expect:
 //!
 //! - *Patterns that are never the match.* A pattern is the match of some text exactly if it is the first match in its own bytes: what
 //!   is preferred to it there lies within these bytes, so it is preferred in every text. So each pattern is searched with the automaton
@@ -33,6 +33,9 @@ use std::alloc::{AllocError, Global};
 
 /// The most pairs that are named.
 const NAMED: usize = 100;
+
+/// The most rules that replace by nothing that are named.
+const NAMED_DELETIONS: usize = 10;
 
 /// The settings by which the job of a report is made. Where the choice of an automaton is left to its builder, that is a noncontiguous
 /// NFA, from which the others are made: a build of one is refused for the same rules.
@@ -84,6 +87,9 @@ pub fn report_of(
 {
     let mut report = String::new(alloc);
     write_counts(&mut report, rules)?;
+    if asked.settings.mode == Mode::Replace {
+        write_deletions(&mut report, rules)?;
+    }
     if asked.mask.is_none() && asked.settings.mode != Mode::Overlap {
         write_hidden(&mut report, alloc, asked, job, rules)?;
         let pairs = find_pairs(alloc, rules, &asked.settings.pairing, asked.word)?;
@@ -136,6 +142,30 @@ fn write_length(
     let unit = if length == 1 { "byte" } else { "bytes" };
     let line = line_of(i);
     writeln!(report, "{which} pattern: {length} {unit} (line {line})")
+}
+
+/// Writes a line for each of the first rules that replace by nothing, and how many more there are.
+fn write_deletions(report: &mut String, rules: &Rules) -> Result<(), AllocError> {
+    let mut found = 0usize;
+    for i in 0..rules.len() {
+        if rules.replacement(i).is_empty() {
+            if found < NAMED_DELETIONS {
+                let line = line_of(i);
+                writeln!(report, "line {line} is replaced by nothing")?;
+            }
+            found = found.saturating_add(1);
+        }
+    }
+    write_more(report, found.saturating_sub(NAMED_DELETIONS))
+}
+
+/// Writes how many more there are than were named, if there are.
+fn write_more(report: &mut String, more: usize) -> Result<(), AllocError> {
+    if more > 0 {
+        writeln!(report, ".. and {more} more")
+    } else {
+        Ok(())
+    }
 }
 
 /// The line of a rule.
@@ -250,11 +280,9 @@ fn write_pairs(report: &mut String, pairs: &Pairs) -> Result<(), AllocError> {
         writeln!(report, "lines {} and {} overlap", line_of(*a), line_of(*b))?;
     }
     let more = pairs.all.len().saturating_sub(NAMED);
-    if !pairs.whole {
-        writeln!(report, ".. and at least {more} more")
-    } else if more > 0 {
-        writeln!(report, ".. and {more} more")
+    if pairs.whole {
+        write_more(report, more)
     } else {
-        Ok(())
+        writeln!(report, ".. and at least {more} more")
     }
 }

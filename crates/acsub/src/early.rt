@@ -6,9 +6,15 @@ use crate::error::RunError;
 use std::error::Error;
 use std::fmt;
 
-/// Why rules don't suit such a run, which the settings fit.
+/// Why settings or rules don't suit such a run.
 #[derive(Clone, Copy, Debug)]
 pub enum Refusal {
+    /// A leftmost kind is asked for. A mask covers every occurrence, whatever the kind.
+    LeftmostMasked,
+    /// Packed search is named. It finds the matches of its kind alone, and a mask covers what overlaps them.
+    PackedMasked,
+    /// There are no rules to mask by. All would pass through, as if it had been masked.
+    NoRules,
     /// A pattern is empty. It covers no byte, so nothing would come of it in a mask.
     EmptyMasked,
     /// The mask is in a pattern, or its partner is: the pattern could occur in what is masked.
@@ -25,8 +31,8 @@ impl Refusal {
         ensures { result ≡ status_of_refusal self.now }
     {
         match self {
-            Refusal::PackedWord => 2,
-            Refusal::EmptyMasked | Refusal::Occurs(_) | Refusal::EmptyWord => 4,
+            Refusal::LeftmostMasked | Refusal::PackedMasked | Refusal::PackedWord => 2,
+            Refusal::NoRules | Refusal::EmptyMasked | Refusal::Occurs(_) | Refusal::EmptyWord => 4,
         }
     }
 }
@@ -39,6 +45,9 @@ impl fmt::Display for Refusal {
 
     fn fmt<W: fmt::Write>(&self, f: &mut fmt::Formatter<W>) -> fmt::Result {
         match self {
+            Refusal::LeftmostMasked => write!(f, "mask: needs the standard kind"),
+            Refusal::PackedMasked => write!(f, "mask: packed finds no overlaps"),
+            Refusal::NoRules => write!(f, "mask: there are no rules"),
             Refusal::EmptyMasked => write!(f, "mask: a pattern is empty"),
             Refusal::Occurs(byte) => {
                 let (high, low) = (byte / 16, byte % 16);
@@ -55,10 +64,20 @@ impl Error for Refusal {}
 /// Why such a run stopped.
 #[derive(Drop)]
 pub enum EarlyError {
-    /// The rules don't suit it.
+    /// The settings or the rules don't suit it.
     Refused(Refusal),
     /// It stopped as other runs do.
     Run(RunError),
+}
+
+impl From<Refusal> for EarlyError {
+    ghost use Rattle.acsub.specs.declared.early.EarlyError.TheVariants.{Refused};
+
+    ghost from_gives = { λ refusal stopped. stopped ≡ Refused refusal };
+
+    fn from(refusal: Refusal) -> EarlyError {
+        EarlyError::Refused(refusal)
+    }
 }
 
 impl From<RunError> for EarlyError {

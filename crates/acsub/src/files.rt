@@ -5,15 +5,17 @@
 //! second `-` is empty, since nothing is read after its end.
 ghost use Rattle.std.specs.Prelude.{◌≡◌, ◌<◌, OnOk, Some, false};
 ghost use Rattle.std.specs.Io.KnownBytes.{Appends};
+ghost use Rattle.std.specs.IoError.{error_kind};
 ghost use Rattle.clap.specs.Walk.{texts};
 ghost use Rattle.acsub.specs.Jobs.{IsJobReady};
-ghost use Rattle.acsub.specs.Files.{file_status, stop_for};
-ghost use Rattle.acsub.specs.Folds.{IsBlank, Notes, RunsAll, RunsFiles, Visits, fault_line, labels};
+ghost use Rattle.acsub.specs.Files.{file_status, open_fault, read_fault, stop_for};
+ghost use Rattle.acsub.specs.Folds.{IsBlank, Notes, RunsAll, RunsFiles, StaysQuiet, Visits, count_line_of, fault_line, labels};
 ghost use Rattle.acsub.specs.Visits.{IsFoundBy, RunsJob, RunsOne, RunsPath, VisitsFile};
 
 use crate::args::Words;
 use crate::args::settings::Mode;
 use crate::error::RunError;
+use crate::guard::{is_input_output, is_output, spare_rules};
 use crate::in_place::rewrite;
 use crate::job::Job;
 use crate::labelled::Labelled;
@@ -21,11 +23,12 @@ use crate::rules::Rules;
 use crate::swap::Swap;
 use crate::tally::Tally;
 use crate::task::Task;
-use crate::tool::Fault;
+use crate::tool::{Fault, what_was_found};
 use ac_automaton::output::Output;
 use ac_automaton::watched::Watched;
 use std::fmt::Display;
-use std::io::{self, Read, Write, empty};
+use std::fs::OpenFile;
+use std::io::{self, ErrorKind, Read, Write, empty};
 use std::rt::Files;
 use std::time::Clock;
 use std::{fmt, fs};
@@ -33,8 +36,16 @@ use std::{fmt, fs};
 /// What keeps a FILE from being read or written, while the others go on.
 #[derive(Clone, Copy)]
 pub enum FileFault {
-    /// It can't be opened.
+    /// There is none of this name.
+    Missing,
+    /// It is a folder.
+    Folder,
+    /// It may not be read.
+    Denied,
+    /// It can't be opened, for another reason.
     Unreadable,
+    /// It is the file that standard output goes on to write.
+    Output,
     /// A read failed.
     Read,
     /// It is to be rewritten, and is no regular file.
@@ -52,8 +63,8 @@ impl FileFault {
         ensures some { 0 < result }
     {
         match self {
-            FileFault::Unreadable | FileFault::Read | FileFault::NotRegular => 5,
             FileFault::Owner | FileFault::Unwritable => 6,
+            _ => 5,
         }
     }
 }
@@ -65,7 +76,11 @@ impl Display for FileFault {
 
     fn fmt<W: fmt::Write>(&self, f: &mut fmt::Formatter<W>) -> fmt::Result {
         match self {
+            FileFault::Missing => write!(f, "No such file or directory"),
+            FileFault::Folder => write!(f, "Is a directory"),
+            FileFault::Denied => write!(f, "Permission denied"),
             FileFault::Unreadable => write!(f, "cannot be read"),
+            FileFault::Output => write!(f, "input file is output file"),
             FileFault::Read => write!(f, "read failed"),
             FileFault::NotRegular => write!(f, "not a regular file"),
             FileFault::Owner => write!(f, "owner cannot be kept"),
@@ -89,12 +104,35 @@ impl From<FileFault> for Stop {
     }
 }
 
+/// What keeps a FILE from being opened.
+pub fn open_fault(error: &io::Error) -> FileFault
+    ensures { result ≡ open_fault (error_kind error.now) }
+{
+    match error.kind() {
+        ErrorKind::NotFound => FileFault::Missing,
+        ErrorKind::IsADirectory => FileFault::Folder,
+        ErrorKind::PermissionDenied => FileFault::Denied,
+        _ => FileFault::Unreadable,
+    }
+}
+
+/// What a read of a FILE failed for: a folder can be opened, and not read.
+fn read_fault(error: &io::Error) -> FileFault
+    ensures { result ≡ read_fault (error_kind error.now) }
+{
+    if error.kind() == ErrorKind::IsADirectory {
+        FileFault::Folder
+    } else {
+        FileFault::Read
+    }
+}
+
 /// Why a run over a FILE stopped.
 pub fn stop_for(error: RunError) -> Stop
     ensures { result ≡ stop_for error }
 {
     match error {
-        RunError::Read(_) => Stop::File(FileFault::Read),
+        RunError::Read(error) => Stop::File(read_fault(&error)),
         error => Stop::All(Fault::Run(error)),
     }
 }
@@ -123,7 +161,7 @@ impl Report {
     }
 }
 
-/// Runs by these rules over all FILEs.
+/// Runs by these rules over all FILEs. Where they are to be rewritten none of them may be the rule file.
 pub fn run_files<F: Files + Clock + Drop + Eprint, R: Read, W: Write, E: Write>(
     task: &Task<'_, '_, '_, F>,
     rules: &Rules,
@@ -135,9 +173,10 @@ pub fn run_files<F: Files + Clock + Drop + Eprint, R: Read, W: Write, E: Write>(
     requires { report.old.status ≡ 0 }
     ensures ran { RunsFiles F F.File.remaining F.File.contents R.remaining W.contents task.now.asked.now rules.now
         (reader.old, writer.old, errors.old, report.old) (reader.new, writer.new, errors.new, report.new) result }
-    ensures quiet { OnOk result (report.new.status ≡ 0 → errors.new ≡ errors.old) }
+    ensures quiet { OnOk result (report.new.status ≡ 0 → StaysQuiet task.now.asked.now errors.old errors.new) }
 {
     let job = task.job(rules)?;
+    spare_rules(task)?;
     visit_all(
         task,
         &job,
@@ -164,9 +203,10 @@ fn visit_all<F: Files + Clock + Drop + Eprint, R: Read, W: Write, E: Write>(
     ensures ran { RunsAll F F.File.remaining F.File.contents R.remaining W.contents task.now.asked.now job.now
         (texts paths.now) (reader.old, writer.old, errors.old, report.old)
         (reader.new, writer.new, errors.new, report.new) result }
-    ensures quiet { OnOk result (report.new.status ≡ 0 → errors.new ≡ errors.old) }
+    ensures quiet { OnOk result (report.new.status ≡ 0 → StaysQuiet task.now.asked.now errors.old errors.new) }
 {
     for path in paths {
+        let before = report.tally.found();
         let visited = visit(task, job, path, reader, writer, report);
         task.meter.stop();
         match visited {
@@ -174,8 +214,33 @@ fn visit_all<F: Files + Clock + Drop + Eprint, R: Read, W: Write, E: Write>(
             Err(Stop::File(fault)) => note(path, fault, errors, report),
             Err(Stop::All(fault)) => return Err(fault),
         }
+        let found = report.tally.found().saturating_sub(before);
+        tell_count(task.asked, path, found, errors);
     }
     Ok(())
+}
+
+/// Says how much was found in one of several FILEs, if something was, and that is asked for.
+fn tell_count<E: Write>(asked: &Words<'_>, path: &str, found: u64, errors: &mut E)
+    ensures { StaysQuiet asked.now errors.old errors.new }
+{
+    if asked.count && asked.files.len() > 1 && found > 0 {
+        let _ = write_count_of(path, asked.mask, found, errors);
+    }
+}
+
+/// Writes the line that says how much was found in a FILE.
+fn write_count_of<E: Write>(
+    path: &str,
+    mask: Option<u8>,
+    found: u64,
+    errors: &mut E,
+) -> io::Result<()>
+    ensures { OnOk result (Appends (E.contents errors.old) (E.contents errors.new)
+        (count_line_of path.now mask found)) }
+{
+    let what = what_was_found(mask, found);
+    writeln!(errors, "acsub: {path}: {found} {what}")
 }
 
 /// Names a FILE on the error stream, and keeps the status of the first.
@@ -251,6 +316,9 @@ fn run_input<F: Files + Clock + Drop + Eprint, R: Read, W: Write>(
         let mut nothing = Watched::new(empty());
         return run_one(task, job, &mut nothing, writer, tally);
     }
+    if is_input_output(task.rt()) {
+        return Err(Stop::File(FileFault::Output));
+    }
     task.start_input();
     run_one(task, job, reader, writer, tally)
 }
@@ -266,9 +334,13 @@ fn run_file<F: Files + Clock + Drop + Eprint, W: Write>(
     requires { IsJobReady job.now }
     ensures { VisitsFile F F.File.remaining W.contents job.now (writer.old, tally.old) (writer.new, tally.new) result }
 {
-    let Ok(file) = fs::open(task.rt(), path) else {
-        return Err(Stop::File(FileFault::Unreadable));
+    let file = match fs::open(task.rt(), path) {
+        Ok(file) => file,
+        Err(error) => return Err(Stop::File(open_fault(&error))),
     };
+    if is_output(task.rt(), file.metadata()) {
+        return Err(Stop::File(FileFault::Output));
+    }
     task.start_file(&file);
     let Ok(mut input) = task.watch(file) else {
         return Err(Stop::All(Fault::Run(RunError::Memory)));

@@ -1,16 +1,22 @@
 //! What a person may do about an error.
 //!
-//! A program reads the line of an error, so that line stands alone. Where standard error is a terminal, or the environment has
-//! `ACSUB_HINTS=1`, `main` writes a second line: what is wrong with the arguments, the settings or the rule file, or what takes less
-//! memory. The hint is made anew after the run, from the arguments and the rule file, so no run pays for it. The file is read again
-//! only if it is a regular one: to open a pipe or a terminal again would wait for its writer. Rules of standard input are gone. The texts are held by tests: no
-//! clause names them.
+//! A program reads the line of an error, so that line stands alone. Where standard error is a terminal, or `ACSUB_HINTS` in the
+//! environment asks for it, `main` writes a second line: what is wrong with the arguments, the settings, the rules or a FILE, or what
+//! takes less memory. The hint is made anew after the run, from the arguments and the rule file, so no run pays for it. The file is read
+//! again only if it is a regular one: to open a pipe or a terminal again would wait for its writer. Rules of standard input are gone.
+//! The texts are held by tests: no clause names them.
 mod arguments;
+mod files;
+mod foreign;
 mod given;
+mod mask;
+mod values;
 
 use crate::args::settings::{Engine, Mode, finds_early};
 use crate::args::{Source, Words, WordsFault, read_words};
+use crate::given::rule_file;
 use crate::rules::{Form, RuleError, read_rules};
+use crate::task::streams;
 use ac_input::pairing::PairingError;
 use ac_input::search::MatchKind;
 use std::alloc::{AllocError, Global};
@@ -19,11 +25,15 @@ use std::process::ExitCode;
 use std::rt::{Env, Files};
 use std::{env, fs};
 
-/// Whether hints are asked for wherever standard error goes: by `ACSUB_HINTS=1` in the environment.
-pub fn is_asked_for<R: Env + Alloc>(rt: &R) -> bool {
+/// Whether a hint is to be written: as `ACSUB_HINTS` in the environment says, or else where a person reads the line, on a terminal.
+pub fn is_asked_for<R: Env + Alloc>(rt: &R, on_terminal: bool) -> bool {
     match env::var(rt, "ACSUB_HINTS") {
-        Ok(value) => value.as_str() == "1",
-        Err(_) => false,
+        Ok(value) => match value.as_str() {
+            "1" | "yes" | "true" => true,
+            "0" | "no" | "false" => false,
+            _ => on_terminal,
+        },
+        Err(_) => on_terminal,
     }
 }
 
@@ -78,6 +88,10 @@ fn hint_for_asked<F: Files>(
 ) -> Result<Option<String>, AllocError> {
     if code == ExitCode::from(3) {
         hint_for_rules(rt, alloc, asked)
+    } else if code == ExitCode::from(4) {
+        hint_for_refused(rt, alloc, asked)
+    } else if code == ExitCode::from(5) {
+        files::hint_for(rt, alloc, asked)
     } else {
         hint_of(alloc, hint_for_run(asked, code))
     }
@@ -109,14 +123,21 @@ fn hint_for_pairs(alloc: Global, error: &PairingError) -> Result<String, AllocEr
     let byte = match error {
         PairingError::Twice(byte) => *byte,
     };
-    let (high, low) = (byte / 16, byte % 16);
-    let mut hint = format!(in alloc; "--pairs names byte {high:x}{low:x}")?;
-    if byte.is_ascii_graphic() {
-        let sign = char::from(byte);
-        write!(hint, " ('{sign}')")?;
-    }
+    let mut hint = String::from_str(alloc, "--pairs names byte ")?;
+    push_byte(&mut hint, byte)?;
     hint.push_str(" twice; a byte has one partner at most")?;
     Ok(hint)
+}
+
+/// Adds a byte in hex, and as a sign if it is one.
+fn push_byte(line: &mut String, byte: u8) -> Result<(), AllocError> {
+    let (high, low) = (byte / 16, byte % 16);
+    write!(line, "{high:x}{low:x}")?;
+    if byte.is_ascii_graphic() {
+        let sign = char::from(byte);
+        write!(line, " ('{sign}')")?;
+    }
+    Ok(())
 }
 
 /// The hint for a run whose settings were refused, or that was out of memory.
@@ -157,7 +178,7 @@ fn hint_for_memory(asked: &Words<'_>) -> Option<&'static str> {
     let settings = &asked.settings;
     let is_early = match settings.mode {
         Mode::Overlap => asked.stream,
-        _ => finds_early(settings, asked.stream),
+        _ => finds_early(settings, streams(asked)),
     };
     if asked.word || asked.mask.is_some() || is_early {
         None
@@ -182,6 +203,30 @@ fn hint_for_rules<F: Files>(
         Source::File(path) => hint_for_file(rt, alloc, path, asked.form()),
         Source::Input => hint_of(alloc, Some(form_of(asked.form()))),
         Source::Given => given::hint_for(alloc, asked),
+    }
+}
+
+/// Why the rules can't be masked by, or whole words of them be searched for. Those of a pipe and of standard input are gone.
+fn hint_for_refused<F: Files>(
+    rt: &F,
+    alloc: Global,
+    asked: &Words<'_>,
+) -> Result<Option<String>, AllocError> {
+    match asked.source {
+        _ if asked.mask.is_none() && !asked.word => Ok(None),
+        Source::File(path) => match fs::metadata(rt, path) {
+            Ok(found) if found.is_file() => match bytes_of(rt, alloc, path) {
+                Ok(bytes) => mask::hint_for(alloc, asked, bytes.as_slice()),
+                Err(_) => Ok(None),
+            },
+            _ => Ok(None),
+        },
+        Source::Input => Ok(None),
+        Source::Given => {
+            let (patterns, by) = (asked.patterns.as_slice(), asked.replacements.as_slice());
+            let file = rule_file(alloc, patterns, by)?;
+            mask::hint_for(alloc, asked, file.as_slice())
+        }
     }
 }
 
@@ -230,11 +275,11 @@ fn reason(alloc: Global, form: Form, file: &[u8]) -> Option<&'static str> {
     let Err(RuleError::Line(number)) = read_rules(alloc, form, file) else {
         return None;
     };
-    let line = line_at(file, number);
+    let (first, line) = (line_at(file, 1), line_at(file, number));
     match form {
         Form::Hex => Some(hex_reason(line)),
-        _ if number == 1 => foreign_reason(line).or(Some(text_reason(line))),
-        _ => Some(text_reason(line)),
+        _ if number == 1 => foreign_reason(line).or(Some(text_reason(first, line))),
+        _ => Some(text_reason(first, line)),
     }
 }
 
@@ -278,11 +323,15 @@ fn foreign_reason(line: &[u8]) -> Option<&'static str> {
     }
 }
 
-/// Why a line of text is no rule. With at most one TAB and some pattern, an escape is wrong.
-fn text_reason(line: &[u8]) -> &'static str {
+/// Why a line of text is no rule. With at most one TAB, some pattern and a TAB exactly if line 1 has one, an escape is wrong.
+fn text_reason(first: &[u8], line: &[u8]) -> &'static str {
     match line.first() {
         Some(b'\t') => "the line has no pattern before its TAB",
         Some(b'\n' | b'\r') => "the line is empty; a pattern has a byte at least",
+        _ if first.contains(&b'\t') && !line.contains(&b'\t') =>
+            "the line has no TAB, where line 1 has one; a rule that deletes is a pattern and a TAB",
+        _ if line.contains(&b'\t') && !first.contains(&b'\t') =>
+            "the line has a TAB, where line 1 has none; a rule that deletes is a pattern and a TAB",
         _ if line.iter().filter(|byte| **byte == b'\t').count() < 2 =>
             "a backslash is none of \\t, \\n, \\r, \\\\, \\0 and \\xHH; a backslash itself is \\\\",
         _ if has_lone_return(line) =>

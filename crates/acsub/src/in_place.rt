@@ -13,7 +13,7 @@ ghost use Rattle.acsub.specs.InPlace.{Compares, CreatesIn, Fills, Places, Replac
 
 use crate::comparing::{Comparing, PIECE};
 use crate::error::RunError;
-use crate::files::{FileFault, Stop, run_over, stop_for};
+use crate::files::{FileFault, Stop, open_fault, run_over, stop_for};
 use crate::job::Job;
 use crate::progress::Metered;
 use crate::steps::{create, keep_owner, permit, rename, sync};
@@ -27,6 +27,9 @@ use std::fs::{self, Metadata, OpenFile};
 use std::io::{self, ErrorKind};
 use std::rt::Files;
 use std::time::Clock;
+
+/// How many symbolic links are followed, one after another; the system follows as many.
+const LINKS: usize = 40;
 
 /// How many names are tried for a new file.
 const NAMES: usize = 1000;
@@ -45,16 +48,8 @@ pub fn rewrite<F: Files + Clock + Drop + Eprint>(
     if path == "-" {
         return Err(Stop::File(FileFault::NotRegular));
     }
-    let target = match task.rt().canonicalize(task.alloc, path) {
-        Ok(target) => target,
-        Err(error) => return Err(unreadable(&error)),
-    };
+    let target = follow(task, path)?;
     let target = target.as_str();
-    match fs::metadata(task.rt(), target) {
-        Ok(about) if about.is_file() => {}
-        Ok(_) => return Err(Stop::File(FileFault::NotRegular)),
-        Err(error) => return Err(unreadable(&error)),
-    }
     if compare(task, job, target, tally)? {
         Ok(())
     } else {
@@ -62,12 +57,51 @@ pub fn rewrite<F: Files + Clock + Drop + Eprint>(
     }
 }
 
-/// Why a file can't be read: memory ran out, or anything else.
-fn unreadable(error: &io::Error) -> Stop {
+// ---- which file it is
+
+/// The path of the regular file that a path names, also by symbolic links. It is made of the path as it was given: the path from the
+/// root may have names that aren't UTF-8.
+fn follow<F: Files + Clock + Drop + Eprint>(
+    task: &Task<'_, '_, '_, F>,
+    path: &str,
+) -> Result<String, Stop> {
+    let mut target = String::from_str(task.alloc, path)?;
+    for _ in 0..LINKS {
+        match fs::symlink_metadata(task.rt(), target.as_str()) {
+            Ok(about) if about.is_symlink() => {}
+            Ok(about) if about.is_file() => return Ok(target),
+            Ok(_) => return Err(Stop::File(FileFault::NotRegular)),
+            Err(error) => return Err(unopened(&error)),
+        }
+        target = target_of(task, target.as_str())?;
+    }
+    Err(Stop::File(FileFault::Unreadable))
+}
+
+/// The path that a symbolic link leads to: from the root, or from the link's own folder.
+fn target_of<F: Files + Clock + Drop + Eprint>(
+    task: &Task<'_, '_, '_, F>,
+    link: &str,
+) -> Result<String, Stop> {
+    let target = match task.rt().read_link(task.alloc, link) {
+        Ok(target) => target,
+        Err(error) => return Err(unopened(&error)),
+    };
+    let target = target.as_str();
+    match link.rsplit_once('/') {
+        Some((folder, _)) if !target.starts_with('/') => {
+            Ok(format!(in task.alloc; "{folder}/{target}")?)
+        }
+        _ => Ok(String::from_str(task.alloc, target)?),
+    }
+}
+
+/// Why a file can't be opened: memory ran out, or anything else.
+fn unopened(error: &io::Error) -> Stop {
     if error.kind() == ErrorKind::OutOfMemory {
         Stop::All(Fault::Run(RunError::Memory))
     } else {
-        Stop::File(FileFault::Unreadable)
+        Stop::File(open_fault(error))
     }
 }
 
@@ -75,7 +109,7 @@ fn unreadable(error: &io::Error) -> Stop {
 fn open<F: Files>(rt: &F, path: &str) -> Result<F::File, Stop> {
     match fs::open(rt, path) {
         Ok(file) => Ok(file),
-        Err(error) => Err(unreadable(&error)),
+        Err(error) => Err(unopened(&error)),
     }
 }
 
@@ -165,7 +199,7 @@ fn create_in<F: Files + Clock + Drop + Eprint>(
 }
 
 /// Writes the text of the old file into the new one, gives it the old one's owner and permissions, and puts it in its place. Returns
-/// the new file.
+/// the new file. Only then is counted what was found.
 fn fill<F: Files + Clock + Drop + Eprint>(
     task: &Task<'_, '_, '_, F>,
     job: &Job<'_>,
@@ -184,11 +218,15 @@ fn fill<F: Files + Clock + Drop + Eprint>(
     };
     task.start_file(&input);
     let mut output = task.watch(file)?;
-    let written = write_text(task, job, input, &mut output, tally);
+    let mut found = *tally;
+    let written = write_text(task, job, input, &mut output, &mut found);
     written?;
     let file = output.into_inner().into_inner();
     match place(task, &about, new, &file, target, swap) {
-        Ok(()) => Ok(file),
+        Ok(()) => {
+            *tally = found;
+            Ok(file)
+        }
         Err(fault) => Err(Stop::File(fault)),
     }
 }

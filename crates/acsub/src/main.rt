@@ -12,6 +12,7 @@ mod early;
 mod error;
 mod files;
 mod given;
+mod guard;
 mod hint;
 mod in_place;
 mod input;
@@ -53,7 +54,7 @@ fn main(rt: HostRuntime) -> ExitCode {
 }
 
 /// Gives [`tool::program`] the words and the standard streams, which their types keep apart: no contract can say which is which.
-/// Where a person reads the line of an error, on a terminal or by `ACSUB_HINTS=1`, a hint follows it.
+/// Where a person reads the line of an error, on a terminal or as `ACSUB_HINTS` says, a hint follows it.
 fn start(rt: HostRuntime, errors: &mut Stderr) -> Result<ExitCode, AllocError> {
     let alloc = rt.alloc();
     let meter = Rc::new(alloc, Meter::new(rt, errors.is_terminal()))?;
@@ -68,7 +69,7 @@ fn start(rt: HostRuntime, errors: &mut Stderr) -> Result<ExitCode, AllocError> {
     ));
     let words = env::args(rt);
     let code = tool::program(&meter, alloc, words, &mut reader, &mut writer, errors);
-    if code != ExitCode::SUCCESS && (errors.is_terminal() || hint::is_asked_for(rt)) {
+    if code != ExitCode::SUCCESS && hint::is_asked_for(rt, errors.is_terminal()) {
         let words = tool::collected(alloc, env::args(rt));
         let words = words.as_ref().map(|words| words.as_slice());
         hint::write_hint(rt, alloc, words, code, errors);

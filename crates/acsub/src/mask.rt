@@ -2,7 +2,7 @@
 //!
 //! All occurrences count, overlapping ones too. The mask is in no pattern, nor is its partner, so no pattern occurs in what a run
 //! has written that returns Ok. A replacement promises no such thing: it takes the matches of a walk, and what overlaps them stays
-//! in part. The replacements of the rules are not used.
+//! in part. The replacements of the rules are not used. A mask has refusals of its own ([`check_mask`]), and none of the settings.
 //!
 //! Where whole words alone are masked, an occurrence beside a word byte stays. If the mask is a word byte, no whole word is left;
 //! beside another one, such as a star, what was no word may have become one: of `a` and `-x` in `a-x` it leaves `*-x`.
@@ -12,10 +12,10 @@
 ghost use Rattle.std.specs.Prelude.{◌≡◌, ◌↔◌, IsTrue, OnOk, IfOk, IfErr, false};
 ghost use Rattle.ac_automaton.specs.Stream.Overlapping.{AcceptsListing};
 ghost use Rattle.aho_corasick.specs.AhoCorasick.{as_built, supported_by};
-ghost use Rattle.acsub.specs.Early.{IsUnready, as_early};
-ghost use Rattle.acsub.specs.Masked.{AnswersMask, CostsMaskRun, CostsMasking, IsInNoPattern, IsMaskOf, IsMaskReady, IsMaskable, MasksBy, NotMaskable, mask_demand};
+ghost use Rattle.acsub.specs.Early.{IsFirstRefusal, IsUnready, as_early};
+ghost use Rattle.acsub.specs.Masked.{AnswersMask, CostsMaskRun, CostsMasking, IsInNoPattern, IsMaskOf, IsMaskReady, IsMaskRefusal, IsMaskable, MasksBy, mask_demand};
 
-use crate::args::settings::{Mode, Settings, check, has_empty_pattern};
+use crate::args::settings::{Engine, Settings, has_empty_pattern};
 use crate::early::{EarlyError, Refusal};
 use crate::error::RunError;
 use crate::prepared::automaton_for;
@@ -23,6 +23,7 @@ use crate::rules::Rules;
 use crate::stream::told;
 use ac_automaton::error::StreamError;
 use ac_automaton::watched::Watched;
+use ac_input::search::MatchKind;
 use ac_input::steps::Steps;
 use aho_corasick::AhoCorasick;
 use memchr::memchr2;
@@ -106,21 +107,26 @@ fn mask_stream<R: Read, W: Write>(
     }
 }
 
-/// Whether rules can be masked by, with these settings and this mask.
-pub fn check_mask(settings: &Settings, mask: u8, rules: &Rules) -> Result<(), EarlyError>
+/// Whether rules can be masked by, with these settings and this mask. Of several reasons against it, the first in the order of
+/// [`Refusal`] is returned.
+pub fn check_mask(settings: &Settings, mask: u8, rules: &Rules) -> Result<(), Refusal>
     ensures accepted { OnOk result (IsMaskable settings.now rules.now mask) }
-    ensures refused { IfErr result (NotMaskable settings.now rules.now mask) }
+    ensures refused { IfErr result (IsFirstRefusal (IsMaskRefusal settings.now rules.now mask)) }
 {
-    let mut every = *settings;
-    every.mode = Mode::Overlap;
-    if let Err(error) = check(&every, rules) {
-        return Err(EarlyError::Run(RunError::Setting(error)));
+    if settings.kind != MatchKind::Standard {
+        return Err(Refusal::LeftmostMasked);
+    }
+    if settings.engine == Engine::Packed {
+        return Err(Refusal::PackedMasked);
+    }
+    if rules.is_empty() {
+        return Err(Refusal::NoRules);
     }
     if has_empty_pattern(rules) {
-        return Err(EarlyError::Refused(Refusal::EmptyMasked));
+        return Err(Refusal::EmptyMasked);
     }
     if !is_in_no_pattern(settings, rules, mask) {
-        return Err(EarlyError::Refused(Refusal::Occurs(mask)));
+        return Err(Refusal::Occurs(mask));
     }
     Ok(())
 }

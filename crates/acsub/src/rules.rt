@@ -9,11 +9,13 @@
 //! reported never depends on memory. The second pass runs only over a rule file. It decodes or copies the sides, and fails only
 //! where it is out of memory. Each pass looks at each byte a few times and never goes back.
 ghost use Rattle.std.specs.Prelude.{◌≡◌, ◌↔◌, ◌==◌, ◌<◌, ℕ, List, length, Contains, IsTrue, IfNone, IfOk, IfErr, IfSome, MatchResult};
+ghost use Rattle.ac_input.specs.Laws.{AreOne};
 ghost use Rattle.ac_input.specs.Rules.{Rule};
 ghost use Rattle.acsub.specs.Rules.File.{ReadsRules, asked_form, grammar_of, hex_rules};
-ghost use Rattle.acsub.specs.Rules.Lines.{BeginsWithLine, HasCount, IsSpelling, IsSplitAt, SpellsRule, rule_at};
+ghost use Rattle.acsub.specs.Rules.Lines.{BeginsWithLine, FindsLine, HasCount, IsSpelling, IsSplitAt, SpellsRule, rule_at};
 ghost use Rattle.ac_literal.specs.Packed.{bytes_of};
 ghost use Rattle.acsub.specs.Rules.Sides.{rule_of, rule_patterns, replacements_of};
+ghost use Rattle.acsub.specs.declared.rules.Form.{Form};
 ghost use Rattle.acsub.specs.declared.rules.RuleError.TheVariants.{Memory};
 
 use memchr::memchr;
@@ -26,7 +28,7 @@ mod escapes;
 mod text;
 
 use crate::rules::escapes::{first_escaped, unescape};
-use crate::rules::text::{first_in_text, is_foreign};
+use crate::rules::text::{first_in_text, first_line_has, is_foreign};
 
 /// How a rule file is written.
 #[derive(Clone, Copy)]
@@ -169,6 +171,11 @@ impl Rules {
     }
 }
 
+/// The law of rule files: in each form a file has one list of rules at most, one first bad line at most, and not both.
+pub fn grammars_are_one()
+    ensures { (form : Form) → AreOne (grammar_of form).holds (grammar_of form).bad }
+{}
+
 /// The rules of a rule file of this form.
 ///
 /// The work is linear in the bytes. Takes memory for the rules and nothing else, and none where a line is bad.
@@ -188,9 +195,10 @@ fn count_rules(form: Form, bytes: &[u8]) -> Result<usize, usize>
     if refuses(form, bytes) {
         return Err(1);
     }
+    let tabbed = first_line_has(bytes, b'\t');
     let mut count = 0;
     let mut rest = bytes;
-    while let Some(line) = first_rule(form, rest) {
+    while let Some(line) = first_rule(form, tabbed, rest) {
         count += 1;
         rest = line.rest;
     }
@@ -217,9 +225,10 @@ fn keep_rules(alloc: Global, form: Form, bytes: &[u8], count: usize) -> Result<R
     ensures rules { IfOk result ((grammar_of form).holds bytes.now) }
     ensures memory { IfErr result (λ e. e ≡ RuleError.Memory) }
 {
+    let tabbed = first_line_has(bytes, b'\t');
     let mut sides = Vec::with_capacity(alloc, count)?;
     let mut rest = bytes;
-    while let Some(line) = first_rule(form, rest) {
+    while let Some(line) = first_rule(form, tabbed, rest) {
         sides.push(keep_line(alloc, form, &line)?)?;
         rest = line.rest;
     }
@@ -234,20 +243,20 @@ struct RuleLine<'a> {
     rest: &'a [u8],
 }
 
-/// The rule that the bytes begin with, as it is written.
-fn first_rule(form: Form, bytes: &[u8]) -> Option<RuleLine<'_>>
-    ensures { BeginsWithLine (grammar_of form) bytes.now result }
+/// The rule that what is left of a file begins with, as it is written. Lines of text have a TAB exactly if they are `tabbed`.
+fn first_rule(form: Form, tabbed: bool, bytes: &[u8]) -> Option<RuleLine<'_>>
+    ensures { FindsLine (grammar_of form) tabbed bytes.now result }
 {
     match form {
         Form::Hex => first_in_hex(bytes),
-        Form::Text => first_in_text(bytes),
-        Form::Escaped => first_escaped(bytes),
+        Form::Text => first_in_text(bytes, tabbed),
+        Form::Escaped => first_escaped(bytes, tabbed),
     }
 }
 
 /// The rule of hex that the bytes begin with.
 fn first_in_hex(bytes: &[u8]) -> Option<RuleLine<'_>>
-    ensures { BeginsWithLine hex_rules bytes.now result }
+    ensures { (file : List ℕ) → BeginsWithLine hex_rules file bytes.now result }
 {
     let (pattern, after) = split_at_byte(bytes, b'\t')?;
     let (replacement, rest) = split_at_byte(after, b'\n')?;

@@ -1,7 +1,7 @@
 //! What the program was asked for, and what serves it.
-ghost use Rattle.std.specs.Prelude.{◌↔◌, IfErr, IfOk, IsTrue};
+ghost use Rattle.std.specs.Prelude.{◌≡◌, ◌↔◌, IfErr, IfOk, IsTrue};
 ghost use Rattle.acsub.specs.Outcome.{HasOneInput};
-ghost use Rattle.acsub.specs.Files.{IsJobOf, IsNoJobOf};
+ghost use Rattle.acsub.specs.Files.{IsJobOf, IsNoJobOf, streams};
 ghost use Rattle.acsub.specs.Jobs.{IsJobReady};
 ghost use Rattle.acsub.specs.Visits.{IsWatched};
 
@@ -19,7 +19,15 @@ use std::rt::Files;
 use std::time::Clock;
 
 /// Where standard input is seen as a file.
-const STDIN: &str = "/dev/stdin";
+pub const STDIN: &str = "/dev/stdin";
+
+/// Whether the text is to be written while the input is read. So it is where FILEs are rewritten, also unasked: the new file is removed
+/// where a read fails.
+pub fn streams(asked: &Words<'_>) -> bool
+    ensures { result ≡ streams asked.now }
+{
+    asked.stream || asked.in_place
+}
 
 /// What was asked for, and what all runs of the program share.
 #[derive(Drop)]
@@ -56,8 +64,15 @@ impl<F: Files + Clock + Drop + Eprint> Task<'_, '_, '_, F> {
         ensures refused { IfErr result (IsNoJobOf self.now.asked.now rules.entry.now) }
     {
         let asked = self.asked;
-        let (stream, word, mask) = (asked.stream, asked.word, asked.mask);
-        Job::new(self.alloc, &asked.settings, stream, word, mask, rules)
+        let (word, mask) = (asked.word, asked.mask);
+        Job::new(
+            self.alloc,
+            &asked.settings,
+            streams(asked),
+            word,
+            mask,
+            rules,
+        )
     }
 
     /// The mask whose bytes are to be counted: to count them takes time, so it is done only where their number is asked for.

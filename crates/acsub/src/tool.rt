@@ -5,15 +5,19 @@
 //!
 //! A fault is reported by one line on the error stream, and by the status. Faults are found in this order: words, rule file, run,
 //! flush. After a fault of the run the writer is still flushed, and the fault of the run is the one that is reported.
-ghost use Rattle.std.specs.Prelude.{◌≡◌, ◌↔◌, ◌⊎◌, ℕ, Err, false, map, string_bytes, IfOk, OnOk};
+ghost use Rattle.std.specs.Prelude.{◌≡◌, ◌≢◌, ◌↔◌, ◌⊎◌, ℕ, Err, false, map, string_bytes, IfOk, OnOk};
 ghost use Rattle.std.specs.Io.KnownBytes.{Appends};
 ghost use Rattle.std.specs.IoError.{error_kind};
 ghost use Rattle.std.specs.Process.{exit_status};
 ghost use Rattle.std.specs.Vec.Iter.{into_iter_items};
-ghost use Rattle.acsub.specs.Outcome.{AnswersFile, AnswersHelp, AnswersUnasked, Collects, EndsAsked, EndsOne, EndsProgram, EndsTool, CountsByFile, CountsByRules, Finishes, RanByFile, RanByRules, ReadsFile, ReadsRuleText, Speaks, SpeaksOf, WritesText, concluded, count_line, found_text, told_as};
+ghost use Rattle.acsub.specs.Ends.{EndsAsked, EndsProgram, EndsTool};
+ghost use Rattle.acsub.specs.Outcome.{AnswersFile, AnswersHelp, AnswersUnasked, Collects, EndsOne, CountsByFile, CountsByRules, Finishes, RanByFile, RanByRules, ReadsFile, ReadsRuleText, Speaks, SpeaksOf, WritesText, concluded, count_line, told_as};
+ghost use Rattle.acsub.specs.Tally.{found_text};
+ghost use Rattle.acsub.specs.FilesOutcome.{AnswersFiles, EndsFiles, HasFiles, RunsByText};
 ghost use Rattle.acsub.specs.Early.{as_early};
 ghost use Rattle.acsub.specs.Given.{form_wanted};
 ghost use Rattle.acsub.specs.Rules.File.{grammar_of};
+ghost use Rattle.acsub.specs.declared.args.Source.TheVariants as sources;
 ghost use Rattle.acsub.specs.declared.early.EarlyError.TheVariants as early;
 ghost use Rattle.acsub.specs.declared.error.RunError.TheVariants.{Rule};
 ghost use Rattle.acsub.specs.declared.rules.RuleError.TheVariants.{Line};
@@ -25,6 +29,7 @@ use crate::early::{EarlyError, Refusal};
 use crate::error::RunError;
 use crate::files::{Report, run_files, run_over};
 use crate::given::rule_file;
+use crate::guard::is_input_output;
 use crate::input::read_whole;
 use crate::progress::Meter;
 use crate::rules::{Rules, read_rules};
@@ -48,10 +53,14 @@ use std::{fmt, fs, io};
 pub enum Fault {
     /// The words are not those of a command line.
     Words,
+    /// A FILE that is to be rewritten is the rule file; its path.
+    OwnRules(String),
     /// The pairs name a byte twice.
     Pairs(PairingError),
     /// The rule file cannot be read.
     RuleFile,
+    /// Standard input is the file that standard output goes on to write.
+    Output,
     /// The rules don't suit a mask, or a run for whole words.
     Refused(Refusal),
     /// The run stopped.
@@ -66,8 +75,9 @@ impl Fault {
         ensures { result ≡ status_of self.now }
     {
         match self {
-            Fault::Words | Fault::Pairs(_) => 2,
+            Fault::Words | Fault::OwnRules(_) | Fault::Pairs(_) => 2,
             Fault::RuleFile => 3,
+            Fault::Output => 5,
             Fault::Refused(refusal) => refusal.status(),
             Fault::Run(RunError::Rule(_)) => 3,
             Fault::Run(RunError::Setting(_)) => 2,
@@ -91,8 +101,10 @@ impl fmt::Display for Fault {
     fn fmt<W: fmt::Write>(&self, f: &mut fmt::Formatter<W>) -> fmt::Result {
         match self {
             Fault::Words => write!(f, "bad words"),
+            Fault::OwnRules(path) => write!(f, "{path}: is the rule file"),
             Fault::Pairs(error) => write!(f, "setting: {error}"),
             Fault::RuleFile => write!(f, "rules: file cannot be read"),
+            Fault::Output => write!(f, "input file is output file"),
             Fault::Refused(refusal) => write!(f, "{refusal}"),
             Fault::Run(error) => write!(f, "{error}"),
             Fault::Flush => write!(f, "flush failed"),
@@ -146,8 +158,8 @@ pub fn program<F: Files + Clock + Drop + Eprint, R: Read, W: Write, E: Write>(
     errors: &mut E,
 ) -> ExitCode
     requires { reader.old.ended ≡ false }
-    ensures ended { EndsProgram F.File.remaining R.remaining W.contents
-        (reader.old, writer.old) (reader.new, writer.new) words (exit_status result) }
+    ensures ended { EndsProgram F F.File.remaining F.File.contents R.remaining W.contents
+        (reader.old, writer.old, errors.old) (reader.new, writer.new, errors.new) words (exit_status result) }
     ensures quiet { exit_status result ≡ 0 → (errors.new ≡ errors.old) ⊎ IfOk words (λ all. SpeaksOf (into_iter_items all)) }
 {
     let status = match collect(alloc, words) {
@@ -188,8 +200,8 @@ pub fn tool<F: Files + Clock + Drop + Eprint, R: Read, W: Write, E: Write>(
 ) -> u8
     requires { reader.old.ended ≡ false }
     // The status is that of an outcome, which goes with the words, with what was read and written, and with the flush.
-    ensures ended { EndsTool F.File.remaining R.remaining W.contents
-        (reader.old, writer.old) (reader.new, writer.new) words.now result }
+    ensures ended { EndsTool F F.File.remaining F.File.contents R.remaining W.contents
+        (reader.old, writer.old, errors.old) (reader.new, writer.new, errors.new) words.now result }
     ensures quiet { result ≡ 0 → (errors.new ≡ errors.old) ⊎ SpeaksOf words.now }
 {
     match read_words(alloc, words) {
@@ -245,8 +257,8 @@ fn serve<F: Files + Clock + Drop + Eprint, R: Read, W: Write, E: Write>(
     errors: &mut E,
 ) -> u8
     requires { reader.old.ended ≡ false }
-    ensures ended { EndsAsked F.File.remaining R.remaining W.contents
-        (reader.old, writer.old) (reader.new, writer.new) task.now.asked.now result }
+    ensures ended { EndsAsked F F.File.remaining F.File.contents R.remaining W.contents
+        (reader.old, writer.old, errors.old) (reader.new, writer.new, errors.new) task.now.asked.now result }
     ensures quiet { result ≡ 0 → (errors.new ≡ errors.old) ⊎ Speaks task.now.asked.now }
 {
     if task.has_one_input() {
@@ -283,7 +295,9 @@ fn serve_all<F: Files + Clock + Drop + Eprint, R: Read, W: Write, E: Write>(
     errors: &mut E,
 ) -> u8
     requires { reader.old.ended ≡ false }
-    ensures { result ≡ 0 → (errors.new ≡ errors.old) ⊎ Speaks task.now.asked.now }
+    ensures ended { HasFiles task.now.asked.now → EndsFiles F F.File.remaining F.File.contents R.remaining W.contents
+        task.now.asked.now (reader.old, writer.old, errors.old) (reader.new, writer.new) result }
+    ensures quiet { result ≡ 0 → (errors.new ≡ errors.old) ⊎ Speaks task.now.asked.now }
 {
     let mut report = Report::new();
     match run_all(task, reader, writer, errors, &mut report) {
@@ -304,6 +318,9 @@ fn run_alone<F: Files + Clock + Drop + Eprint, R: Read, W: Write>(
     ensures { AnswersFile F.File.remaining R.remaining W.contents
         (reader.old, writer.old) (reader.new, writer.new) task.now.asked.now tally.new result }
 {
+    if is_input_output(task.rt()) {
+        return Err(Fault::Output);
+    }
     match read_rule_file(task) {
         Ok(file) => {
             let ran = run_by_file(task, file.as_slice(), reader, writer, tally);
@@ -389,18 +406,52 @@ fn run_all<F: Files + Clock + Drop + Eprint, R: Read, W: Write, E: Write>(
 ) -> Result<(), Fault>
     requires open { reader.old.ended ≡ false }
     requires fine { report.old.status ≡ 0 }
-    ensures { OnOk result (report.new.status ≡ 0 → errors.new ≡ errors.old) }
+    ensures ran { HasFiles task.now.asked.now → AnswersFiles F F.File.remaining F.File.contents R.remaining W.contents
+        task.now.asked.now (reader.old, writer.old, errors.old, report.old)
+        (reader.new, writer.new, errors.new, report.new) result }
+    ensures quiet { OnOk result (report.new.status ≡ 0 → (errors.new ≡ errors.old) ⊎ Speaks task.now.asked.now) }
 {
-    let file = match task.asked.source {
-        Source::Input => read_input(task.alloc, reader)?,
-        _ => read_rule_file(task)?,
-    };
-    let ran = match read_rules(task.alloc, task.asked.form(), file.as_slice()) {
+    let file = read_rule_text(task, reader)?;
+    let ran = run_by_text(task, file.as_slice(), reader, writer, errors, report);
+    finish(ran, writer)
+}
+
+/// The bytes of the rules, which may be on standard input.
+fn read_rule_text<F: Files + Clock + Drop + Eprint, R: Read>(
+    task: &Task<'_, '_, '_, F>,
+    reader: &mut Watched<R>,
+) -> Result<Vec<u8>, Fault>
+    requires { reader.old.ended ≡ false }
+    ensures { task.now.asked.now.source ≢ sources.Input
+        → ReadsRuleText F.File.remaining task.now.asked.now result × (reader.new ≡ reader.old) }
+{
+    match task.asked.source {
+        Source::Input => read_input(task.alloc, reader),
+        _ => read_rule_file(task),
+    }
+}
+
+/// Runs over all FILEs or reports on the rules, by the bytes of the rules.
+fn run_by_text<F: Files + Clock + Drop + Eprint, R: Read, W: Write, E: Write>(
+    task: &Task<'_, '_, '_, F>,
+    file: &[u8],
+    reader: &mut Watched<R>,
+    writer: &mut Watched<W>,
+    errors: &mut E,
+    report: &mut Report,
+) -> Result<(), Fault>
+    requires { report.old.status ≡ 0 }
+    ensures ran { task.now.asked.now.check ≡ false
+        → RunsByText F F.File.remaining F.File.contents R.remaining W.contents task.now.asked.now
+        (reader.old, writer.old, errors.old, report.old) (reader.new, writer.new, errors.new, report.new)
+        file.now result }
+    ensures quiet { OnOk result (report.new.status ≡ 0 → (errors.new ≡ errors.old) ⊎ Speaks task.now.asked.now) }
+{
+    match read_rules(task.alloc, task.asked.form(), file) {
         Ok(rules) if task.asked.check => report_on(task, &rules, writer),
         Ok(rules) => run_files(task, &rules, reader, writer, errors, report),
         Err(error) => Err(Fault::Run(unread(error))),
-    };
-    finish(ran, writer)
+    }
 }
 
 /// Writes what is odd about rules by which a job can be made.
@@ -419,9 +470,6 @@ fn conclude<E: Write>(asked: &Words<'_>, found: u64, status: u8, errors: &mut E)
     ensures status { result ≡ concluded asked.now found status }
     ensures quiet { (errors.new ≡ errors.old) ⊎ Speaks asked.now }
 {
-    if asked.check {
-        return status;
-    }
     if asked.count {
         let _ = write_count(asked.mask, found, errors);
     }
@@ -441,7 +489,7 @@ fn write_count<E: Write>(mask: Option<u8>, found: u64, errors: &mut E) -> io::Re
 }
 
 /// What is counted: matches, or the bytes of a mask.
-fn what_was_found(mask: Option<u8>, found: u64) -> &'static str
+pub fn what_was_found(mask: Option<u8>, found: u64) -> &'static str
     ensures { result.now ≡ found_text mask found }
 {
     match mask {

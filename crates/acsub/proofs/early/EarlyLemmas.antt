@@ -45,7 +45,7 @@ unbuilt-unready d fits errors.Position fails = absurd fails
 module _ {R W : Type 0} (old new : Watched R × Watched W) (d : Demand) (writes : Result (Unit {0}) StreamError → Type 0) where
   -- a run that wasn't prepared touches neither device
   pub early-unready : (e : EarlyError) → IsUnready d e → new ≡ old → AnswersEarly old new d writes (Err e)
-  early-unready (early.Refused refusal) why same = (why.0, why.1, same)
+  early-unready (early.Refused refusal) why same = (why, same)
   early-unready (early.Run (errors.Setting e)) why same = (why, same)
   early-unready (early.Run (errors.Build kind)) why same = (why.0, why.1, same)
   early-unready (early.Run errors.Memory) why same = (why, same)

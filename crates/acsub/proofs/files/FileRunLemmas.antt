@@ -22,4 +22,4 @@ module _ {F W : Type 0} (T : Type 0) (held : F → Option (List ℕ)) (contents 
       → RunsOne (behind held) contents job (opened, old.0, old.1) (closed, new.0, new.1) result
       → VisitsFile T held contents job old new result
   visited (Ok done) runs = over-file (Ok tt) runs
-  visited (Err stop) runs = inr (inr (runs.0, runs.1, over-file (Err runs.0) runs.2))
+  visited (Err stop) runs = inr (runs.0, runs.1, over-file (Err runs.0) runs.2)

@@ -1,12 +1,12 @@
 -- The visits so far, and what is left to visit, lead to what all visits lead to.
-use Rattle.std.proofs.Common.{◌≡◌, ◌<◌, ℕ, ◌+◌, ◌==◌, if◌then◌else◌, List, ◌∷◌, length, get_or, drop, Option, Result, Ok, Err, refl, sym, ap, ◌∙◌, subst, add-one, arith}
+use Rattle.std.proofs.Common.{◌≡◌, ◌<◌, inl, inr, ℕ, ◌+◌, ◌==◌, if◌then◌else◌, List, ◌∷◌, length, get_or, drop, Option, Result, Ok, Err, refl, sym, ap, ◌∙◌, subst, add-one, arith}
 use Rattle.std.proofs.lemmas.Bool.Decides.{nat_tests}
 use Rattle.std.proofs.Math.Seq.{drop-cons}
 use Rattle.std.specs.Borrow.{Bor}
 use Rattle.clap.specs.Walk.{Text, texts}
 use Rattle.ac_automaton.specs.declared.stream.devices.watched.Watched.{Watched}
 use Rattle.acsub.specs.Files.{file_status}
-use Rattle.acsub.specs.Folds.{Notes, RunsAll, Visits}
+use Rattle.acsub.specs.Folds.{Notes, RunsAll, StaysQuiet, Visits}
 use Rattle.acsub.specs.declared.args.Words.{Words}
 use Rattle.acsub.specs.declared.files.FileFault.{FileFault}
 use Rattle.acsub.specs.declared.files.FileFault.TheVariants as file_faults
@@ -19,7 +19,11 @@ use Rattle.acsub.specs.declared.tool.Fault.{Fault}
 -- ---- the status
 
 status-some : (fault : FileFault) → 0 < file_status fault
+status-some file_faults.Missing = omega arith
+status-some file_faults.Folder = omega arith
+status-some file_faults.Denied = omega arith
 status-some file_faults.Unreadable = omega arith
+status-some file_faults.Output = omega arith
 status-some file_faults.Read = omega arith
 status-some file_faults.NotRegular = omega arith
 status-some file_faults.Owner = omega arith
@@ -32,6 +36,15 @@ first-some status mine some = grind (arith, nat_tests)
 pub noted-some : (fault : FileFault) (before after : Report) → Notes fault before after → 0 < after.status
 noted-some fault before after notes =
     subst (λ (r : Report). 0 < r.status) (sym notes) (first-some before.status (file_status fault) (status-some fault))
+
+-- ---- the error stream
+
+-- where one visit after another says nothing, all say nothing
+pub quiet-on : {E : Type 0} (asked : Words) (before between after : E) → StaysQuiet asked before between
+    → StaysQuiet asked between after → StaysQuiet asked before after
+quiet-on asked before between after (inl same) (inl more) = inl (more ∙ same)
+quiet-on asked before between after (inl same) (inr counts) = inr counts
+quiet-on asked before between after (inr counts) more = inr counts
 
 -- ---- the visits
 
@@ -63,25 +76,27 @@ module _ {F R W E : Type 0} (T : Type 0) (held contents_of : F → Option (List 
 
     -- a visit without a fault
     pub leads-on : (visited : Result (Unit {0}) Stop) → visited ≡ Ok tt → Visited visited
-        → (errors : E) (report : Report) → errors ≡ between.2 → report ≡ between.3
-        → Leads (texts (drop (i + 1) paths)) (between.0, between.1, errors, report)
-    leads-on visited is visits errors report e r =
-        subst (λ x. Leads (texts (drop (i + 1) paths)) (between.0, between.1, x, report)) (sym e)
-        (subst (λ x. Leads (texts (drop (i + 1) paths)) (between.0, between.1, between.2, x)) (sym r)
-        (λ new result runs. at-path new result (between, Ok tt, subst Visited is visits, same, runs)))
+        → (errors told : E) (report : Report) → errors ≡ between.2 → report ≡ between.3
+        → StaysQuiet asked errors told
+        → Leads (texts (drop (i + 1) paths)) (between.0, between.1, told, report)
+    leads-on visited is visits errors told report e r quiet =
+        subst (λ x. Leads (texts (drop (i + 1) paths)) (between.0, between.1, told, x)) (sym r)
+        (λ new result runs. at-path new result
+        (between, Ok tt, subst Visited is visits, same, (told, subst (λ x. StaysQuiet asked x told) e quiet, runs)))
 
     -- a FILE's fault
     pub leads-noted : (visited : Result (Unit {0}) Stop) (fault : FileFault) → visited ≡ Err (stops.File fault)
         → Visited visited
-        → (errors : E) (report noted : Report) → report ≡ noted → Notes fault between.3 noted
-        → Leads (texts (drop (i + 1) paths)) (between.0, between.1, errors, report)
-    leads-noted visited fault is visits errors report noted r notes = λ new result runs.
+        → (errors told : E) (report noted : Report) → report ≡ noted → Notes fault between.3 noted
+        → StaysQuiet asked errors told
+        → Leads (texts (drop (i + 1) paths)) (between.0, between.1, told, report)
+    leads-noted visited fault is visits errors told report noted r notes quiet = λ new result runs.
         at-path new result (
           between,
           Err (stops.File fault),
           subst Visited is visits,
           same,
-          ((between.0, between.1, errors, report), refl, refl, r ∙ notes, runs),
+          ((between.0, between.1, errors, report), refl, refl, r ∙ notes, (told, quiet, runs)),
         )
 
     -- a fault that ends the program

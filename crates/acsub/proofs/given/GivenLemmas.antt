@@ -1,14 +1,17 @@
 -- The lines of patterns and replacements are their rules.
 use Rattle.std.proofs.Common.{◌≡◌, ◌∙◌, ◌||◌, ℕ, zero, suc, Bool, true, false, List, [], ◌∷◌, ◌++◌, append_assoc, arith, inl, inr, refl, subst, sym, ap}
-use Rattle.std.specs.Prelude.{◌≢◌, Contains}
+use Rattle.std.specs.Prelude.{◌≢◌, Contains, length}
 use Rattle.std.specs.List.{list_any}
 use Rattle.std.proofs.lemmas.List.Elements.{Contains-append_cases, Contains-append_right}
 use Rattle.std.proofs.lemmas.List.Folds.{list_any_at}
-use Rattle.ac_input.specs.Rules.{BeginsWithTextRule, IsWrittenAs}
+use Rattle.ac_input.specs.Rules.{BeginsWithAll, BeginsWithTextRule, IsWrittenAs}
+use Rattle.ac_input.proofs.lemmas.RuleOrderLemmas.{Contains-between}
 use Rattle.clap.specs.Words.{Text}
 use Rattle.clap.specs.Walk.{is_empty}
 use Rattle.acsub.specs.Args.Misuse.{ends_side, has_break}
-use Rattle.acsub.specs.Given.{HoldsGiven, given_file}
+use Rattle.acsub.specs.Given.{HoldsGiven, given_file, given_rules}
+use Rattle.acsub.specs.Rules.File.{FirstLineHas, text_rules}
+use Rattle.acsub.proofs.rules.FirstLineLemmas.{first-has}
 
 -- ---- a side that nothing ends
 
@@ -78,22 +81,54 @@ paired pattern replacement more first second some =
 
 -- ---- all lines
 
+-- where no line of the file has a TAB, the lines of patterns alone are their rules
+all-alone : (file : List ℕ) → ¬ FirstLineHas 9 file → (patterns : List Text) → has_break patterns ≡ false
+    → list_any is_empty patterns ≡ false
+    → BeginsWithAll (text_rules.begins file) (given_file patterns []) (given_rules patterns []) []
+unfolding alone
+all-alone file none [] whole some = refl
+all-alone file none (p ∷ ps) whole some =
+    let here = or-parts (list_any ends_side p) (has_break ps) whole in
+    let there = or-parts (is_empty p) (list_any is_empty ps) some in
+    let line = alone p (given_file ps []) here.0 there.0 in (
+      given_file ps [],
+      (line, (λ has. absurd (lacks p 9 here.0 refl ((first-has line.2).0 has)), λ has. absurd (none has))),
+      all-alone file none ps here.1 there.1,
+    )
+
+-- where all have one, those of patterns and their replacements are theirs
+all-paired : (file : List ℕ) → FirstLineHas 9 file → (patterns replacements : List Text)
+    → length replacements ≡ length patterns → has_break patterns ≡ false → has_break replacements ≡ false
+    → list_any is_empty patterns ≡ false
+    → BeginsWithAll (text_rules.begins file) (given_file patterns replacements) (given_rules patterns replacements) []
+unfolding paired
+all-paired file tab [] replacements many whole kept some = refl
+all-paired file tab (p ∷ ps) [] many whole kept some = cc
+all-paired file tab (p ∷ ps) (r ∷ rs) many whole kept some =
+    let here = or-parts (list_any ends_side p) (has_break ps) whole in
+    let by = or-parts (list_any ends_side r) (has_break rs) kept in
+    let there = or-parts (is_empty p) (list_any is_empty ps) some in
+    let line = paired p r (given_file ps rs) here.0 by.0 there.0 in (
+      given_file ps rs,
+      (line, (λ has. tab, λ has. (first-has line.2).1 (Contains-between p r))),
+      all-paired file tab ps rs (omega (arith, many)) here.1 by.1 there.1,
+    )
+
 -- the lines of the file are the rules
 pub holds-given : (patterns replacements : List Text)
     → HoldsGiven patterns replacements (given_file patterns replacements)
-holds-given [] replacements whole kept some = refl
-holds-given (p ∷ ps) [] whole kept some =
+unfolding alone paired
+holds-given [] replacements whole kept some many = refl
+holds-given (p ∷ ps) [] whole kept some many =
     let here = or-parts (list_any ends_side p) (has_break ps) whole in
-    let there = or-parts (is_empty p) (list_any is_empty ps) some in (
-      given_file ps [],
-      alone p (given_file ps []) here.0 there.0,
-      holds-given ps [] here.1 kept there.1,
-    )
-holds-given (p ∷ ps) (r ∷ rs) whole kept some =
+    let there = or-parts (is_empty p) (list_any is_empty ps) some in
+    let line = alone p (given_file ps []) here.0 there.0 in
+    all-alone (given_file (p ∷ ps) []) (λ has. lacks p 9 here.0 refl ((first-has line.2).0 has)) (p ∷ ps) whole some
+holds-given (p ∷ ps) (r ∷ rs) whole kept some (inl none) = cc
+holds-given (p ∷ ps) (r ∷ rs) whole kept some (inr many) =
     let here = or-parts (list_any ends_side p) (has_break ps) whole in
     let by = or-parts (list_any ends_side r) (has_break rs) kept in
-    let there = or-parts (is_empty p) (list_any is_empty ps) some in (
-      given_file ps rs,
-      paired p r (given_file ps rs) here.0 by.0 there.0,
-      holds-given ps rs here.1 by.1 there.1,
-    )
+    let there = or-parts (is_empty p) (list_any is_empty ps) some in
+    let line = paired p r (given_file ps rs) here.0 by.0 there.0 in
+    all-paired (given_file (p ∷ ps) (r ∷ rs)) ((first-has line.2).1 (Contains-between p r)) (p ∷ ps) (r ∷ rs) many whole
+    kept some

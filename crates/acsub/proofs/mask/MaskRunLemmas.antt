@@ -1,9 +1,8 @@
 -- What a run that masks has written, given what the automaton's masking of a stream has.
-use Rattle.std.proofs.Common.{◌*◌, ◌+◌, ◌≡◌, ◌≢◌, ℕ, ◌≤◌, Bool, true, false, List, [], length, take, Option, Some, Result, Ok, Err, refl, sym, ap, ◌∙◌, subst, arith}
+use Rattle.std.proofs.Common.{◌*◌, ◌+◌, ◌≡◌, ℕ, ◌≤◌, Bool, true, false, List, [], length, take, Option, Some, Result, Ok, Err, refl, sym, ap, ◌∙◌, subst, arith}
 use Rattle.std.specs.Prelude.{IfErr, OnOk, max, slice_get}
 use Rattle.std.specs.List.{concat}
 use Rattle.std.proofs.lemmas.Option.{get_or_from_slice_get, slice_get_within}
-use Rattle.ac_input.specs.declared.search.MatchKind.TheVariants.{Standard}
 use Rattle.ac_input.specs.declared.steps.Steps.{Steps}
 use Rattle.ac_input.specs.Computed.{occurrences}
 use Rattle.ac_input.specs.Dictionary.{Dictionary, whole}
@@ -30,13 +29,11 @@ use Rattle.aho_corasick.specs.AhoCorasick.{as_built, supported_by}
 use Rattle.aho_corasick.specs.declared.ahocorasick.AhoCorasick.{AhoCorasick}
 use Rattle.acsub.specs.Early.{as_early}
 use Rattle.acsub.specs.Finder.{IsServing}
-use Rattle.acsub.specs.Masked.{AnswersMask, CostsMaskRun, CostsMasking, IsMaskOf, IsMaskable, LeavesNone, MasksBy, MasksInput, for_every, mask_of}
+use Rattle.acsub.specs.Masked.{AnswersMask, CostsMaskRun, CostsMasking, IsMaskOf, IsMaskable, LeavesNone, MasksBy, MasksInput, mask_of}
 use Rattle.acsub.specs.Plan.{plan_of}
 use Rattle.acsub.specs.Rules.Sides.{rule_patterns}
 use Rattle.acsub.specs.Served.{IsBuildable, dictionary_for}
 use Rattle.acsub.specs.Stream.{IfStreamMemory, IsNoRefusal}
-use Rattle.acsub.specs.declared.args.settings.Engine.TheVariants.{Packed}
-use Rattle.acsub.specs.declared.args.settings.SettingError.TheVariants.{PackedStandard}
 use Rattle.acsub.specs.declared.args.settings.Settings.{Settings}
 use Rattle.acsub.specs.declared.early.EarlyError.{EarlyError}
 use Rattle.acsub.specs.declared.error.RunError.{RunError}
@@ -44,31 +41,19 @@ use Rattle.acsub.specs.declared.mask.Mask.{Mask}
 use Rattle.acsub.specs.declared.mask.PreparedMask.{PreparedMask}
 use Rattle.acsub.specs.declared.prepared.Finder.TheVariants as finders
 use Rattle.acsub.proofs.early.EarlyLemmas.{early-some}
-use Rattle.acsub.proofs.prepared.FinderLemmas.{overlap-standard}
 use Rattle.acsub.proofs.prepared.ServedLemmas.{finder-buildable, serving-looks}
 use Rattle.acsub.proofs.run.CountLemmas.{looks-for}
 use Rattle.acsub.proofs.stream.StreamedLemmas.{begun-memory, filled-shortest}
 use Rattle.acsub.proofs.stream.StreamListLemmas.{can-list}
 
--- ---- settings for all that overlap
-
-module _ (settings : Settings) (rules : List Rule) (byte : ℕ) (maskable : IsMaskable settings rules byte) where
-  -- they are of the standard kind
-  mask-standard : settings.kind ≡ Standard
-  mask-standard = overlap-standard (for_every settings) rules maskable.accepted refl
-
-  -- and name an automaton
-  pub mask-automaton : settings.engine ≢ Packed
-  mask-automaton packs = maskable.accepted PackedStandard (packs, mask-standard)
-
-  -- an automaton that serves them masks streams
-  pub mask-can : (ac : AhoCorasick) → IsServing settings rules ac
-      → CanStream OnlyStandard (as_built ac) (supported_by ac)
-  mask-can ac serves = (
-    serves.start,
-    ap (λ m. m.kind) serves.built.dictionary ∙ mask-standard,
-    subst (λ m. 1 ≤ shortest m.patterns) (sym serves.built.dictionary) (filled-shortest rules maskable.filled),
-  )
+-- where rules can be masked by, an automaton that serves them masks streams
+pub mask-can : (settings : Settings) (rules : List Rule) (byte : ℕ) → IsMaskable settings rules byte
+    → (ac : AhoCorasick) → IsServing settings rules ac → CanStream OnlyStandard (as_built ac) (supported_by ac)
+mask-can settings rules byte maskable ac serves = (
+  serves.start,
+  ap (λ m. m.kind) serves.built.dictionary ∙ maskable.standard,
+  subst (λ m. 1 ≤ shortest m.patterns) (sym serves.built.dictionary) (filled-shortest rules maskable.filled),
+)
 
 -- ---- what is prepared
 

@@ -1,18 +1,18 @@
 -- A rule file, in each of its forms: hex, plain text, and text with escapes.
-use Rattle.std.specs.Prelude.{◌≡◌, ◌↔◌, ℕ, Bool, true, false, List, ◌++◌, Result, Err, IfOk, codes, decimal}
-use Rattle.ac_input.specs.Rules.{BeginsWithEscapedRule, BeginsWithRule, BeginsWithTextRule, FirstBadEscapedLine, FirstBadLine, FirstBadTextLine, IsEscapedRuleFile, IsForeign, IsRuleFile, IsTextRuleFile, Rule, Spells, Unescapes}
+use Rattle.std.specs.Prelude.{◌≡◌, ◌↔◌, ℕ, Bool, true, false, List, ◌++◌, Result, Err, Contains, IfOk, codes, decimal}
+use Rattle.ac_input.specs.Rules.{BeginsWithEscapedRule, BeginsWithRule, BeginsWithTextRule, BeginsWithWritten, FirstBadLine, FirstBadLineOf, IsFileOf, IsForeign, IsRuleFile, Rule, Spells, Unescapes}
 use Rattle.acsub.specs.declared.rules.Form.{Form}
 use Rattle.acsub.specs.declared.rules.Form.TheVariants.{Escaped, Hex, Text}
 use Rattle.acsub.specs.declared.rules.RuleError.{RuleError}
 use Rattle.acsub.specs.declared.rules.RuleError.TheVariants.{Line, Memory}
 
--- How a rule file is written: the rules that a file holds; the number of its first bad line; the rule of a text's first
--- line, and what follows that line; the bytes that a side stands for, as it is written; and the files that hold no rules,
--- whatever their lines.
+-- How a rule file is written: the rules that a file holds; the number of its first bad line; the rule that what is left of
+-- a file begins with, and what follows its line; the bytes that a side stands for, as it is written; and the files that hold
+-- no rules, whatever their lines.
 pub record Grammar : Type 1 where
   pub holds : List ℕ → List Rule → Type 0
   pub bad : List ℕ → ℕ → Type 0
-  pub begins : List ℕ → Rule → List ℕ → Type 0
+  pub begins : List ℕ → List ℕ → Rule → List ℕ → Type 0
   pub spells : List ℕ → List ℕ → Type 0
   pub foreign : List ℕ → Type 0
 
@@ -22,32 +22,38 @@ hex_rules =
     record {
       holds = IsRuleFile;
       bad = FirstBadLine;
-      begins = BeginsWithRule;
+      begins = λ file. BeginsWithRule;
       spells = Spells;
       foreign = λ file. ⊥;
     }
 
--- plain text, whose bytes stand for themselves
-abbrev pub text_rules : Grammar
-text_rules =
+-- the first line of the text has this byte
+abbrev pub FirstLineHas : ℕ → List ℕ → Type 0
+FirstLineHas byte text = (written more : List ℕ) × BeginsWithWritten text written more × Contains written byte
+
+-- What is left of a file begins with this rule, on a line that has a TAB exactly if the first line of the file has one.
+abbrev pub BeginsEvenly : (List ℕ → Rule → List ℕ → Type 0) → List ℕ → List ℕ → Rule → List ℕ → Type 0
+BeginsEvenly begins file text rule more = begins text rule more × (FirstLineHas 9 text ↔ FirstLineHas 9 file)
+
+-- Text, by what it means that it begins with a rule, and by what a side stands for. All lines of a file have a TAB, or none
+-- has: its first bad line is the first that is no rule, or that differs in this from line 1.
+abbrev pub text_by : (List ℕ → Rule → List ℕ → Type 0) → (List ℕ → List ℕ → Type 0) → Grammar
+text_by begins spells =
     record {
-      holds = IsTextRuleFile;
-      bad = FirstBadTextLine;
-      begins = BeginsWithTextRule;
-      spells = λ side bytes. bytes ≡ side;
+      holds = λ file. IsFileOf (BeginsEvenly begins file) file;
+      bad = λ file. FirstBadLineOf (BeginsEvenly begins file) file;
+      begins = BeginsEvenly begins;
+      spells = spells;
       foreign = IsForeign;
     }
 
+-- plain text, whose bytes stand for themselves
+abbrev pub text_rules : Grammar
+text_rules = text_by BeginsWithTextRule (λ side bytes. bytes ≡ side)
+
 -- text with escapes
 abbrev pub escaped_rules : Grammar
-escaped_rules =
-    record {
-      holds = IsEscapedRuleFile;
-      bad = FirstBadEscapedLine;
-      begins = BeginsWithEscapedRule;
-      spells = Unescapes;
-      foreign = IsForeign;
-    }
+escaped_rules = text_by BeginsWithEscapedRule Unescapes
 
 -- the grammar of a form
 abbrev pub grammar_of : Form → Grammar

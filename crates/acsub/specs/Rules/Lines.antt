@@ -1,8 +1,8 @@
 -- What a text of rules begins with, and how many rules it has.
 use Rattle.std.specs.Borrow.{Bor}
-use Rattle.std.specs.Prelude.{◌≡◌, ℕ, List, [], ◌∷◌, ◌++◌, length, slice_index_or, Contains, Option, Some, None}
+use Rattle.std.specs.Prelude.{◌≡◌, ◌↔◌, ℕ, Bool, IsTrue, List, [], ◌∷◌, ◌++◌, length, slice_index_or, Contains, Option, Some, None}
 use Rattle.ac_input.specs.Rules.{BeginsWithByte, Rule, Spells}
-use Rattle.acsub.specs.Rules.File.{Grammar, grammar_of}
+use Rattle.acsub.specs.Rules.File.{FirstLineHas, Grammar, grammar_of}
 use Rattle.acsub.specs.declared.rules.Form.{Form}
 use Rattle.acsub.specs.declared.rules.RuleLine.{RuleLine}
 
@@ -27,11 +27,16 @@ IsSplitAt text separator before after = (text ≡ before ++ separator ∷ after)
 abbrev pub SpellsRule : Grammar → RuleLine → Rule → Type 0
 SpellsRule grammar line rule = grammar.spells line.pattern.now rule.0 × grammar.spells line.replacement.now rule.1
 
--- the text begins with this line, which spells a rule; or it begins with no rule
-abbrev pub BeginsWithLine : Grammar → List ℕ → Option RuleLine → Type 0
-BeginsWithLine grammar text (Some line) =
-    (rule : Rule) × SpellsRule grammar line rule × grammar.begins text rule line.rest.now
-BeginsWithLine grammar text None = (rule : Rule) (more : List ℕ) → ¬ grammar.begins text rule more
+-- what is left of the file begins with this line, which spells a rule; or it begins with no rule
+abbrev pub BeginsWithLine : Grammar → List ℕ → List ℕ → Option RuleLine → Type 0
+BeginsWithLine grammar file text (Some line) =
+    (rule : Rule) × SpellsRule grammar line rule × grammar.begins file text rule line.rest.now
+BeginsWithLine grammar file text None = (rule : Rule) (more : List ℕ) → ¬ grammar.begins file text rule more
+
+-- the same in each file whose lines have a TAB exactly if this is true
+abbrev pub FindsLine : Grammar → Bool → List ℕ → Option RuleLine → Type 0
+FindsLine grammar tabbed text found =
+    (file : List ℕ) → (IsTrue tabbed ↔ FirstLineHas 9 file) → BeginsWithLine grammar file text found
 
 -- the file has this many rules
 abbrev pub HasCount : Form → List ℕ → ℕ → Type 0

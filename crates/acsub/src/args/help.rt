@@ -31,8 +31,8 @@ Kinds:
 
 Rule files:
   hex     A line 'hex TAB hex' for each pattern and its replacement, two hex digits a byte
-  --text  A line 'pattern TAB replacement', or 'pattern' alone, which is replaced by nothing;
-          CR LF ends a line as LF does, and no byte has another meaning
+  --text  A line 'pattern TAB replacement', or in each line a 'pattern' alone, which is replaced
+          by nothing; CR LF ends a line as LF does, and no byte has another meaning
   --text --escapes
           The same, where \\t is a TAB, \\n a LF, \\r a CR, \\\\ a backslash, \\0 a NUL, and \\xHH the byte
           of two hex digits
@@ -48,4 +48,5 @@ Status:
   0 done, 1 nothing matched, with --fail-if-none, 2 words or settings, 3 the rule file,
   4 a limit of a build or a mask that a pattern has, 5 a read failed or a FILE can't be read,
   6 a write or the flush failed, 7 out of memory, 8 the input is too long
+  On a terminal, and elsewhere by ACSUB_HINTS=1, a second line says what to do
 ";

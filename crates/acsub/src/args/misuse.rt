@@ -4,7 +4,7 @@
 ghost use Rattle.std.specs.Prelude.{◌≡◌, not};
 ghost use Rattle.std.specs.List.{list_any};
 ghost use Rattle.clap.specs.Walk.{is_empty, texts};
-ghost use Rattle.acsub.specs.Args.Misuse.{ends_side, has_break, has_breaks, is_hex_escaped, is_unpaired, misuse_of, rewrites};
+ghost use Rattle.acsub.specs.Args.Misuse.{ends_side, has_break, has_breaks, is_hex_escaped, is_uncounted, is_unpaired, is_unreplaced, misuse_of, rewrites};
 ghost use Rattle.acsub.specs.Args.Values.{files_in, rows_in, values_in};
 
 use crate::args::{count_of, has_values, is_given, is_mode};
@@ -15,6 +15,8 @@ use clap::ArgMatches;
 pub enum Misuse {
     /// There is neither RULES nor `-e`.
     NoRules,
+    /// There are replacements, and the mode replaces nothing.
+    Unreplaced,
     /// There are replacements, but not one for each pattern.
     Unpaired,
     /// A pattern or a replacement has a TAB, LF or CR, which would end it in a rule file.
@@ -25,6 +27,8 @@ pub enum Misuse {
     NoFile,
     /// The mode lists, and rewrites nothing.
     Unwritten,
+    /// What matches is to be counted, and no input is read.
+    Uncounted,
 }
 
 /// The first misuse, in the order of [`Misuse`].
@@ -35,6 +39,8 @@ pub fn misuse_of(matches: &ArgMatches<'_>) -> Option<Misuse>
     let in_place = is_given(matches, "in-place");
     if !has_patterns && !has_values(matches, "rules") {
         Some(Misuse::NoRules)
+    } else if is_unreplaced(matches) {
+        Some(Misuse::Unreplaced)
     } else if is_unpaired(matches) {
         Some(Misuse::Unpaired)
     } else if has_breaks(matches) {
@@ -45,9 +51,18 @@ pub fn misuse_of(matches: &ArgMatches<'_>) -> Option<Misuse>
         Some(Misuse::NoFile)
     } else if in_place && !rewrites(matches) {
         Some(Misuse::Unwritten)
+    } else if is_uncounted(matches) {
+        Some(Misuse::Uncounted)
     } else {
         None
     }
+}
+
+// Whether there are replacements, and the mode replaces nothing.
+fn is_unreplaced(matches: &ArgMatches<'_>) -> bool
+    ensures { result ≡ is_unreplaced (rows_in matches.now) }
+{
+    has_values(matches, "replacement") && !is_mode(matches, "replace")
 }
 
 // Whether there are replacements, but not one for each pattern.
@@ -124,4 +139,11 @@ fn rewrites(matches: &ArgMatches<'_>) -> bool
     ensures { result ≡ rewrites (rows_in matches.now) }
 {
     is_mode(matches, "replace") || is_mode(matches, "mask")
+}
+
+// Whether what matches is to be counted, though the rules alone are looked at.
+fn is_uncounted(matches: &ArgMatches<'_>) -> bool
+    ensures { result ≡ is_uncounted (rows_in matches.now) }
+{
+    is_given(matches, "check") && (is_given(matches, "count") || is_given(matches, "fail-if-none"))
 }

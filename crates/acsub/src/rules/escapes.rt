@@ -6,17 +6,17 @@
 ghost use Rattle.std.specs.Prelude.{◌≡◌, ◌↔◌, ◌≤◌, ◌∷◌, [], ℕ, List, IsTrue, IfNone, IfOk, IfSome};
 ghost use Rattle.ac_input.specs.Rules.{BeginsWithByte, IsDigit, IsEscape, Spells, Unescapes};
 ghost use Rattle.acsub.specs.Rules.File.{escaped_rules};
-ghost use Rattle.acsub.specs.Rules.Lines.{BeginsWithFound, BeginsWithLine};
+ghost use Rattle.acsub.specs.Rules.Lines.{BeginsWithFound, FindsLine};
 
 use super::RuleLine;
 use super::text::first_in_text;
 use std::alloc::{AllocError, Global};
 
 /// The rule with escapes that the bytes begin with, as it is written.
-pub(crate) fn first_escaped(bytes: &[u8]) -> Option<RuleLine<'_>>
-    ensures { BeginsWithLine escaped_rules bytes.now result }
+pub(crate) fn first_escaped(bytes: &[u8], tabbed: bool) -> Option<RuleLine<'_>>
+    ensures { FindsLine escaped_rules tabbed bytes.now result }
 {
-    let line = first_in_text(bytes)?;
+    let line = first_in_text(bytes, tabbed)?;
     if is_escaped(line.pattern) && is_escaped(line.replacement) {
         Some(line)
     } else {

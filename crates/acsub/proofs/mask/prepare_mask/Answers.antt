@@ -2,20 +2,16 @@
 use Rattle.std.proofs.Common.{refl}
 use Rattle.std.proofs.lemmas.Result.{err_from_is_err_and}
 use Rattle.acsub.specs.Masked.{mask_demand}
-use Rattle.acsub.proofs.early.EarlyLemmas.{unbuilt-unready, unmet-unready}
-use Rattle.acsub.proofs.mask.MaskRunLemmas.{mask-automaton}
+use Rattle.acsub.proofs.early.EarlyLemmas.{unbuilt-unready}
 use Rattle.acsub.proofs.mask.prepare_mask.Goals as goal
 
 pub returns-in_err-check_mask-clause-refused : goal.returns-in_err-check_mask-clause-refused
 returns-in_err-check_mask-clause-refused c =
     let p = err_from_is_err_and c.from_residual.result c.from_residual.ensures.1 in
-    rw (p.1, p.2)
-    (unmet-unready (mask_demand c.args.settings.now c.args.rules.now c.args.mask.byte) c.in_err-check_mask.field-0.0
-    c.in_err-check_mask.ensures.refused)
+    rw (p.1, p.2) c.in_err-check_mask.ensures.refused
 
 pub automaton_for-requires : goal.automaton_for-requires
-automaton_for-requires c =
-    mask-automaton c.args.settings.now c.args.rules.now c.args.mask.byte c.in_ok-check_mask.ensures.accepted
+automaton_for-requires c = c.in_ok-check_mask.ensures.accepted.automaton
 
 pub returns-in_err-automaton-clause-refused : goal.returns-in_err-automaton-clause-refused
 returns-in_err-automaton-clause-refused c =

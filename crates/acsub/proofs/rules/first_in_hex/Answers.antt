@@ -5,18 +5,18 @@ use Rattle.acsub.proofs.rules.first_in_hex.Goals as goal
 use Rattle.acsub.proofs.rules.first_in_hex.Goals.{else-is_spelling-via-then-is_spelling+else-is_spelling-2, else-is_spelling-via-else-is_spelling}
 
 pub returns-in_err-pattern : goal.returns-in_err-pattern
-returns-in_err-pattern c =
+returns-in_err-pattern c file =
     rw c.from_residual.ensures (BeginsWithNoRule-no_tab c.args.bytes.now c.in_err-pattern.ensures.none)
 
 pub returns-in_err-replacement : goal.returns-in_err-replacement
-returns-in_err-replacement c =
+returns-in_err-replacement c file =
     let tab = c.in_ok-pattern.ensures.some in
     rw c.from_residual-in_err-replacement.ensures
     (BeginsWithNoRule-no_feed c.args.bytes.now c.in_ok-pattern.pattern.now c.in_ok-pattern.after.now tab.0 tab.1
     c.in_err-replacement.ensures.none)
 
 pub returns-then-is_spelling-2 : goal.returns-then-is_spelling-2
-returns-then-is_spelling-2 c =
+returns-then-is_spelling-2 c file =
     let pattern = c.in_ok-pattern.pattern.now in
     let one = c.if-is_spelling.ensures.0 refl in
     let other = c.if-is_spelling-2.ensures.0 refl in
@@ -25,7 +25,7 @@ returns-then-is_spelling-2 c =
     ((one.0, other.0), (one.1, other.1), (pattern, c.in_ok-replacement.replacement.now, one.1, other.1, split))
 
 pub returns-else-is_spelling : goal.returns-else-is_spelling
-returns-else-is_spelling c =
+returns-else-is_spelling c file =
     let tab = c.in_ok-pattern.ensures.some in
     let feed = c.in_ok-replacement.ensures.some in
     BeginsWithNoRule-no_digits c.args.bytes.now c.in_ok-pattern.pattern.now c.in_ok-pattern.after.now

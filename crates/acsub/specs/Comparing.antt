@@ -16,6 +16,6 @@ pub record ReadsAlike {F : Type 0} (old new : Watched F) (text : List ℕ) (n : 
   pub fine : new.failures.value ≡ old.failures.value
 
 -- the file was read to its end, and this is all that it has
-pub record HasAll {F : Type 0} (file : Watched F) (text : List ℕ) : Type 0 where
+pub record IsWholeFile {F : Type 0} (file : Watched F) (text : List ℕ) : Type 0 where
   pub alike : IsAlike file text
   pub ended : file.ended ≡ true

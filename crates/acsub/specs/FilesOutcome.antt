@@ -4,7 +4,7 @@ use Rattle.ac_input.specs.Rules.{Rule}
 use Rattle.ac_automaton.specs.declared.stream.devices.watched.Watched.{Watched}
 use Rattle.acsub.specs.Folds.{IsBlank, RunsFiles}
 use Rattle.acsub.specs.Given.{form_wanted}
-use Rattle.acsub.specs.Outcome.{Finishes, IsRuleText, IsUnread, concluded}
+use Rattle.acsub.specs.Outcome.{Finishes, IsRuleText, IsUnreadRules, concluded}
 use Rattle.acsub.specs.Rules.File.{ReadsRules, grammar_of}
 use Rattle.acsub.specs.Run.{not_read}
 use Rattle.acsub.specs.Tool.{status_of}
@@ -43,7 +43,7 @@ module _ {F R W E : Type 0} (T : Type 0) (held contents_of : F → Option (List 
         ((file : List ℕ) × IsRuleText held asked asked.source file
         × (between : Watched W) × (answer : Result (Unit {0}) Fault)
         × RunsByText (new.0, between, new.2, new.3) file answer × Finishes contents answer between new.1 outcome)
-        ⊎ ((fault : Fault) × (outcome ≡ Err fault) × IsUnread fault × (new ≡ old))
+        ⊎ ((fault : Fault) × (outcome ≡ Err fault) × IsUnreadRules fault × (new ≡ old))
 
   -- what the status means where FILEs are run over, from nothing on
   abbrev pub EndsFiles : Watched R × Watched W × E → Watched R × Watched W → ℕ → Type 0

@@ -7,7 +7,7 @@ use Rattle.ac_input.specs.Rules.{Rule}
 use Rattle.ac_automaton.specs.Stream.Devices.Watched.{IsFresh}
 use Rattle.ac_automaton.specs.declared.stream.devices.watched.Watched.{Watched}
 use Rattle.acsub.specs.Files.{IsJobOf, IsNoJobOf, file_status}
-use Rattle.acsub.specs.InPlace.{Rewrites}
+use Rattle.acsub.specs.InPlace.{RewritesFile}
 use Rattle.acsub.specs.Labelled.{IsLabelling}
 use Rattle.acsub.specs.Tally.{found_text}
 use Rattle.acsub.specs.Tool.{early_fault}
@@ -89,7 +89,7 @@ module _ {F R W : Type 0} (T : Type 0) (held contents_of : F → Option (List �
     pub record VisitsInPlace (result : Result (Unit {0}) Stop) : Type 0 where
       pub reader : new.0 ≡ old.0
       pub writer : new.1 ≡ old.1
-      pub rewrites : Rewrites T held contents_of job (old.2.tally, old.2.swap) (new.2.tally, new.2.swap) result
+      pub rewrites : RewritesFile T held contents_of job (old.2.tally, old.2.swap) (new.2.tally, new.2.swap) result
       pub status : new.2.status ≡ old.2.status
 
     -- the job ran over a FILE
@@ -122,13 +122,13 @@ module _ {F R W : Type 0} (T : Type 0) (held contents_of : F → Option (List �
 
   module _ {E : Type 0} (asked : Words) where
     -- what follows a visit: the other FILEs, if a fault of this one doesn't end the program
-    abbrev pub Goes : (Watched R × Watched W × E × Report → Type 0) → Watched R × Watched W × E × Report
+    abbrev pub VisitsOn : (Watched R × Watched W × E × Report → Type 0) → Watched R × Watched W × E × Report
         → Result (Unit {0}) Stop → Watched R × Watched W × E × Report → Result (Unit {0}) Fault → Type 0
-    Goes others between (Ok done) new result = others between
-    Goes others between (Err (stops.File fault)) new result =
+    VisitsOn others between (Ok done) new result = others between
+    VisitsOn others between (Err (stops.File fault)) new result =
         (noted : Watched R × Watched W × E × Report)
         × (noted.0 ≡ between.0) × (noted.1 ≡ between.1) × Notes fault between.3 noted.3 × others noted
-    Goes others between (Err (stops.All fault)) new result = (new ≡ between) × (result ≡ Err fault)
+    VisitsOn others between (Err (stops.All fault)) new result = (new ≡ between) × (result ≡ Err fault)
 
     -- the FILEs of these paths were visited in order; after each, how much was found in it may be said
     abbrev pub RunsAll : Job → List (List ℕ) → Watched R × Watched W × E × Report → Watched R × Watched W × E × Report
@@ -138,7 +138,7 @@ module _ {F R W : Type 0} (T : Type 0) (held contents_of : F → Option (List �
         (between : Watched R × Watched W × E × Report) × (visited : Result (Unit {0}) Stop)
         × Visits asked job path (old.0, old.1, old.3) (between.0, between.1, between.3) visited
         × (between.2 ≡ old.2)
-        × Goes (λ from. (told : E) × StaysQuiet asked from.2 told × RunsAll job paths (from.0, from.1, told, from.3) new result)
+        × VisitsOn (λ from. (told : E) × StaysQuiet asked from.2 told × RunsAll job paths (from.0, from.1, told, from.3) new result)
         between visited new result
 
     -- the job that was asked for was made, and ran over all FILEs; or there is none, or a FILE is the rule file

@@ -4,7 +4,7 @@ use Rattle.ac_automaton.specs.Stream.Devices.Watched.{IsFresh}
 use Rattle.ac_automaton.specs.declared.stream.devices.watched.Watched.{Watched}
 use Rattle.acsub.specs.Swap.{all_steps, renames}
 use Rattle.acsub.specs.Visits.{IsWatched, RunsJob, RunsOverFile, behind}
-use Rattle.acsub.specs.Comparing.{HasAll}
+use Rattle.acsub.specs.Comparing.{IsWholeFile}
 use Rattle.acsub.specs.declared.comparing.Comparing.{Comparing}
 use Rattle.acsub.specs.declared.files.FileFault.{FileFault}
 use Rattle.acsub.specs.declared.files.Stop.{Stop}
@@ -30,7 +30,7 @@ pub record IsUnchanged {F : Type 0} (T : Type 0) (held : F → Option (List ℕ)
   pub fresh : IsFresh opened
   pub none : before.inner.compared.bytes ≡ []
   pub runs : RunsJob (behind held) compared_text job (opened, before, old) (closed, after, new) (Ok tt)
-  pub same : HasAll beside after.inner.compared.bytes
+  pub same : IsWholeFile beside after.inner.compared.bytes
 
 -- whether a file is unchanged; where it isn't, or that can't be said, nothing is counted
 abbrev pub Compares : {F : Type 0} → Type 0 → (F → Option (List ℕ)) → Job → Tally → Tally → Result Bool Stop → Type 0
@@ -61,7 +61,7 @@ module _ {F : Type 0} (T : Type 0) (held contents : F → Option (List ℕ)) (jo
   WritesFile old new (Err stop) = old.1.found ≤ new.1.found
 
   -- The job ran over some file to its end, and wrote all that it makes of it into another one.
-  pub record WroteWhole (before after : F) (old new : Tally) : Type 0 where
+  pub record WroteNewFile (before after : F) (old new : Tally) : Type 0 where
     pub opened : Watched (Metered F T)
     pub closed : Watched (Metered F T)
     pub watched : IsWatched before opened
@@ -69,17 +69,17 @@ module _ {F : Type 0} (T : Type 0) (held contents : F → Option (List ℕ)) (jo
     pub ran : RunsOverFile T held (behind contents) job (opened, old) (closed, new) (Ok tt)
 
   -- a new file got the whole text, and took the old one's place
-  abbrev pub Fills : F → Tally × Swap → Tally × Swap → Result F Stop → Type 0
-  Fills before old new (Ok after) =
-      WroteWhole before after old.0 new.0
+  abbrev pub FillsNew : F → Tally × Swap → Tally × Swap → Result F Stop → Type 0
+  FillsNew before old new (Ok after) =
+      WroteNewFile before after old.0 new.0
       × (new.1.steps ≡ old.1.steps ++ Owned ∷ Permitted ∷ Synced ∷ Renamed ∷ [])
-  Fills before old new (Err stop) = LeavesFile old new
+  FillsNew before old new (Err stop) = LeavesFile old new
 
   -- A new file was made, got the whole text, the owner and the permissions of the old one, and took its place.
   pub record Replaces (old new : Tally × Swap) : Type 0 where
     pub before : F
     pub after : F
-    pub wrote : WroteWhole before after old.0 new.0
+    pub wrote : WroteNewFile before after old.0 new.0
     pub steps : new.1.steps ≡ old.1.steps ++ all_steps
 
   abbrev pub ReplacesFile : Tally × Swap → Tally × Swap → Result (Unit {0}) Stop → Type 0
@@ -90,6 +90,6 @@ module _ {F : Type 0} (T : Type 0) (held contents : F → Option (List ℕ)) (jo
   abbrev pub IsRewritten : Tally × Swap → Tally × Swap → Type 0
   IsRewritten old new = (IsUnchanged T held job old.0 new.0 × (new.1 ≡ old.1)) ⊎ Replaces old new
 
-  abbrev pub Rewrites : Tally × Swap → Tally × Swap → Result (Unit {0}) Stop → Type 0
-  Rewrites old new (Ok done) = IsRewritten old new
-  Rewrites old new (Err stop) = LeavesFile old new
+  abbrev pub RewritesFile : Tally × Swap → Tally × Swap → Result (Unit {0}) Stop → Type 0
+  RewritesFile old new (Ok done) = IsRewritten old new
+  RewritesFile old new (Err stop) = LeavesFile old new

@@ -42,13 +42,13 @@ abbrev pub IsFile : {F : Type 0} → (F → Option (List ℕ)) → List ℕ → 
 IsFile {F} held bytes = (file : F) × IfSome (held file) (λ all. bytes ≡ all)
 
 -- the rules can't be read, or memory ran out for them
-abbrev pub IsUnread : Fault → Type 0
-IsUnread fault = (fault ≡ faults.RuleFile) ⊎ (fault ≡ faults.Run errors.Memory)
+abbrev pub IsUnreadRules : Fault → Type 0
+IsUnreadRules fault = (fault ≡ faults.RuleFile) ⊎ (fault ≡ faults.Run errors.Memory)
 
 -- the bytes of a file; or why there are none
 abbrev pub ReadsFile : {F Z : Type 0} → (F → Option (List ℕ)) → Result (Vec ℕ Z) Fault → Type 0
 ReadsFile held (Ok bytes) = IsFile held bytes.items
-ReadsFile held (Err fault) = IsUnread fault
+ReadsFile held (Err fault) = IsUnreadRules fault
 
 -- ---- what was written, and the flush after it
 
@@ -64,8 +64,8 @@ pub record Flushes {W : Type 0} (contents : W → Option (List ℕ)) (before aft
 module _ {W : Type 0} (contents : W → Option (List ℕ)) where
   -- A text was written whole; or a write failed or took no byte, and a prefix of the text was written. A run returns
   -- that result.
-  abbrev pub WritesText : List ℕ → Watched W → Watched W → Result (Unit {0}) RunError → Type 0
-  WritesText text before after result =
+  abbrev pub WritesWholeText : List ℕ → Watched W → Watched W → Result (Unit {0}) RunError → Type 0
+  WritesWholeText text before after result =
       (written : Result (Unit {0}) StreamError) × IsReturnedAs written result
       × WritesWhole contents before after text written × NoneRead before after
 
@@ -81,7 +81,7 @@ module _ {W : Type 0} (contents : W → Option (List ℕ)) where
     -- Some text was written, with this result; then the writer was flushed, and this many flushes failed.
     abbrev pub WroteAndFlushed : Result (Unit {0}) RunError → ℕ → Type 0
     WroteAndFlushed answer failed =
-        (text : List ℕ) × (between : Watched W) × WritesText text before between answer
+        (text : List ℕ) × (between : Watched W) × WritesWholeText text before between answer
         × Flushes contents between after failed
 
     -- what each outcome means where help was asked for
@@ -140,7 +140,7 @@ IsRuleText held asked other bytes = IsFile held bytes
 -- these bytes; or why there are none
 abbrev pub ReadsRuleText : {F Z : Type 0} → (F → Option (List ℕ)) → Words → Result (Vec ℕ Z) Fault → Type 0
 ReadsRuleText held asked (Ok bytes) = IsRuleText held asked asked.source bytes.items
-ReadsRuleText held asked (Err fault) = IsUnread fault
+ReadsRuleText held asked (Err fault) = IsUnreadRules fault
 
 -- The rules have these bytes, in the form that was asked for, and a run by them returned this result. The first bad
 -- line is reported whatever memory does.
@@ -184,7 +184,7 @@ module _ {F R W : Type 0} (held : F → Option (List ℕ)) (remaining : R → Op
       ((answer : Result (Unit {0}) Fault) × (between : Watched W)
       × RanFile held remaining contents asked old (new.0, between) tally answer
       × Finishes contents answer between new.1 outcome)
-      ⊎ ((fault : Fault) × (outcome ≡ Err fault) × (IsUnread fault ⊎ (fault ≡ faults.Output)) × (new ≡ old))
+      ⊎ ((fault : Fault) × (outcome ≡ Err fault) × (IsUnreadRules fault ⊎ (fault ≡ faults.Output)) × (new ≡ old))
 
   -- what the status means there
   abbrev pub EndsOne : ℕ → Type 0

@@ -27,9 +27,9 @@ Tallies job reader_before reader_after before after (Ok done) = CountsWhole job 
 Tallies job reader_before reader_after before after (Err error) = before.found ≤ after.found
 
 -- what is counted after a run: what it found, or the bytes that it masked
-abbrev pub IsFoundBy : Job → ℕ → ℕ → Type 0
-IsFoundBy (jobs.Mask prepared) found more = Unit {0}
-IsFoundBy job found more = more ≡ found
+abbrev pub IsCountOf : Job → ℕ → ℕ → Type 0
+IsCountOf (jobs.Mask prepared) found more = Unit {0}
+IsCountOf job found more = more ≡ found
 
 module _ {R W : Type 0} (remaining : R → Option (List ℕ)) (contents : W → Option (List ℕ)) (job : Job)
     (old new : Watched R × Watched W × Tally) where

@@ -3,7 +3,7 @@
 //! It reads the file piece by piece, as the text comes. The bytes that it took are a history, and so are the pieces that the file
 //! returned: as long as none differed, the two are the same bytes.
 ghost use Rattle.std.specs.Prelude.{◌≡◌, ◌<◌, ◌≤◌, [], IfSome, IsTrue, Some, false, length};
-ghost use Rattle.acsub.specs.Comparing.{HasAll, IsAlike, ReadsAlike};
+ghost use Rattle.acsub.specs.Comparing.{IsWholeFile, IsAlike, ReadsAlike};
 
 use ac_automaton::watched::Watched;
 use ac_input::history::Taken;
@@ -52,7 +52,7 @@ impl<F: Read> Comparing<F> {
 
     /// Whether all that was taken is all that the file has.
     pub fn is_same(&mut self) -> bool
-        ensures { IsTrue result → HasAll self.new.file self.old.compared.bytes }
+        ensures { IsTrue result → IsWholeFile self.new.file self.old.compared.bytes }
     {
         if self.differs || self.file.ended() {
             return false;

@@ -10,7 +10,7 @@ ghost use Rattle.clap.specs.Walk.{texts};
 ghost use Rattle.acsub.specs.Jobs.{IsJobReady};
 ghost use Rattle.acsub.specs.Files.{file_status, open_fault, read_fault, stop_for};
 ghost use Rattle.acsub.specs.Folds.{IsBlank, Notes, RunsAll, RunsFiles, StaysQuiet, Visits, count_line_of, fault_line, labels};
-ghost use Rattle.acsub.specs.Visits.{IsFoundBy, RunsJob, RunsOne, RunsPath, VisitsFile};
+ghost use Rattle.acsub.specs.Visits.{IsCountOf, RunsJob, RunsOne, RunsPath, VisitsFile};
 
 use crate::args::Words;
 use crate::args::settings::Mode;
@@ -395,7 +395,7 @@ fn found_by<F: Files + Clock + Drop + Eprint>(
     found: u64,
     is_whole: bool,
 ) -> u64
-    ensures { IsFoundBy job.now found result }
+    ensures { IsCountOf job.now found result }
 {
     match job {
         Job::Mask(_) if is_whole => task.meter.masked(),

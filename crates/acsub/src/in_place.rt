@@ -9,7 +9,7 @@
 //! first byte that differs, and only then into a new file. A file is read up to three times, then, and its text is made up to twice;
 //! but nothing is created, and no folder is written to, for a file that stays as it is.
 ghost use Rattle.acsub.specs.Jobs.{IsJobReady};
-ghost use Rattle.acsub.specs.InPlace.{Compares, CreatesIn, Fills, Places, ReplacesFile, Rewrites, WritesFile};
+ghost use Rattle.acsub.specs.InPlace.{Compares, CreatesIn, FillsNew, Places, ReplacesFile, RewritesFile, WritesFile};
 
 use crate::comparing::{Comparing, PIECE};
 use crate::error::RunError;
@@ -43,7 +43,7 @@ pub fn rewrite<F: Files + Clock + Drop + Eprint>(
     swap: &mut Swap,
 ) -> Result<(), Stop>
     requires { IsJobReady job.now }
-    ensures { Rewrites F F.File.remaining F.File.contents job.now (tally.old, swap.old) (tally.new, swap.new) result }
+    ensures { RewritesFile F F.File.remaining F.File.contents job.now (tally.old, swap.old) (tally.new, swap.new) result }
 {
     if path == "-" {
         return Err(Stop::File(FileFault::NotRegular));
@@ -210,7 +210,7 @@ fn fill<F: Files + Clock + Drop + Eprint>(
     swap: &mut Swap,
 ) -> Result<F::File, Stop>
     requires { IsJobReady job.now }
-    ensures { Fills F F.File.remaining F.File.contents job.now file (tally.old, swap.old) (tally.new, swap.new) result }
+    ensures { FillsNew F F.File.remaining F.File.contents job.now file (tally.old, swap.old) (tally.new, swap.new) result }
 {
     let input = open(task.rt(), target)?;
     let Ok(about) = input.metadata() else {

@@ -11,7 +11,7 @@ ghost use Rattle.std.specs.IoError.{error_kind};
 ghost use Rattle.std.specs.Process.{exit_status};
 ghost use Rattle.std.specs.Vec.Iter.{into_iter_items};
 ghost use Rattle.acsub.specs.Ends.{EndsAsked, EndsProgram, EndsTool};
-ghost use Rattle.acsub.specs.Outcome.{AnswersFile, AnswersHelp, AnswersUnasked, Collects, EndsOne, CountsByFile, CountsByRules, Finishes, RanByFile, RanByRules, ReadsFile, ReadsRuleText, Speaks, SpeaksOf, WritesText, concluded, count_line, told_as};
+ghost use Rattle.acsub.specs.Outcome.{AnswersFile, AnswersHelp, AnswersUnasked, Collects, EndsOne, CountsByFile, CountsByRules, Finishes, RanByFile, RanByRules, ReadsFile, ReadsRuleText, Speaks, SpeaksOf, WritesWholeText, concluded, count_line, told_as};
 ghost use Rattle.acsub.specs.Tally.{found_text};
 ghost use Rattle.acsub.specs.FilesOutcome.{AnswersFiles, EndsFiles, HasFiles, RunsByText};
 ghost use Rattle.acsub.specs.Early.{as_early};
@@ -519,7 +519,7 @@ fn show_help<W: Write>(
 
 /// Writes a whole text.
 fn write_text<W: Write>(text: &str, writer: &mut Watched<W>) -> Result<(), RunError>
-    ensures { WritesText W.contents text.now writer.old writer.new result }
+    ensures { WritesWholeText W.contents text.now writer.old writer.new result }
 {
     told(write_whole(writer, text.as_bytes()))
 }

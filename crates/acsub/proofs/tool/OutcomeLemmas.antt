@@ -10,7 +10,7 @@ use Rattle.ac_automaton.specs.Stream.Devices.Watched.{IsOfWrite, WritesWhole}
 use Rattle.ac_automaton.specs.declared.error.StreamError.{StreamError}
 use Rattle.ac_automaton.specs.declared.stream.devices.watched.Watched.{Watched}
 use Rattle.acsub.specs.Ends.{EndsProgram, EndsTool}
-use Rattle.acsub.specs.Outcome.{AnswersHelp, Collects, Finishes, SpeaksOf, WritesText}
+use Rattle.acsub.specs.Outcome.{AnswersHelp, Collects, Finishes, SpeaksOf, WritesWholeText}
 use Rattle.acsub.specs.Stream.{IsNoRefusal}
 use Rattle.acsub.specs.Tool.{status_of}
 use Rattle.acsub.specs.declared.early.Refusal.TheVariants as refusals
@@ -31,13 +31,13 @@ write-accepted contents before after text (Err error) writes = λ refusal e. sub
 
 -- the outcome after help was written and flushed, whose write returned this
 module _ {W : Type 0} (contents : W → Option (List ℕ)) (before between after : Watched W) (text : List ℕ) where
-  pub help-shown : WritesText contents text before between (Ok tt) → (outcome : Result (Unit {0}) Fault)
+  pub help-shown : WritesWholeText contents text before between (Ok tt) → (outcome : Result (Unit {0}) Fault)
       → Finishes contents (Ok tt) between after outcome → AnswersHelp contents before after outcome
   help-shown writes (Ok none) flush = (text, between, writes, flush)
   help-shown writes (Err fault) flush =
       subst (λ f. AnswersHelp contents before after (Err f)) (sym flush.0) (text, between, writes, flush.1)
 
-  pub help-failed : (e : RunError) → WritesText contents text before between (Err e)
+  pub help-failed : (e : RunError) → WritesWholeText contents text before between (Err e)
       → (outcome : Result (Unit {0}) Fault)
       → Finishes contents (Err (faults.Run e)) between after outcome → AnswersHelp contents before after outcome
   help-failed e writes (Ok none) flush = absurd flush

@@ -37,8 +37,8 @@ BeginsEvenly begins file text rule more = begins text rule more × (FirstLineHas
 
 -- Text, by what it means that it begins with a rule, and by what a side stands for. All lines of a file have a TAB, or none
 -- has: its first bad line is the first that is no rule, or that differs in this from line 1.
-abbrev pub text_by : (List ℕ → Rule → List ℕ → Type 0) → (List ℕ → List ℕ → Type 0) → Grammar
-text_by begins spells =
+abbrev pub text_grammar : (List ℕ → Rule → List ℕ → Type 0) → (List ℕ → List ℕ → Type 0) → Grammar
+text_grammar begins spells =
     record {
       holds = λ file. IsFileOf (BeginsEvenly begins file) file;
       bad = λ file. FirstBadLineOf (BeginsEvenly begins file) file;
@@ -49,11 +49,11 @@ text_by begins spells =
 
 -- plain text, whose bytes stand for themselves
 abbrev pub text_rules : Grammar
-text_rules = text_by BeginsWithTextRule (λ side bytes. bytes ≡ side)
+text_rules = text_grammar BeginsWithTextRule (λ side bytes. bytes ≡ side)
 
 -- text with escapes
 abbrev pub escaped_rules : Grammar
-escaped_rules = text_by BeginsWithEscapedRule Unescapes
+escaped_rules = text_grammar BeginsWithEscapedRule Unescapes
 
 -- the grammar of a form
 abbrev pub grammar_of : Form → Grammar

@@ -1,6 +1,6 @@
 -- The run's text is all that the file beside it has.
 use Rattle.std.proofs.Common.{ℕ, List, ap, ◌∙◌, subst}
-use Rattle.acsub.specs.Comparing.{HasAll}
+use Rattle.acsub.specs.Comparing.{IsWholeFile}
 use Rattle.acsub.specs.InPlace.{compared_text}
 use Rattle.acsub.specs.Visits.{RunsJob, behind}
 use Rattle.acsub.specs.declared.comparing.Comparing.{Comparing}
@@ -24,6 +24,6 @@ returns-in-Ok g c =
           (c.run_over-ran.new.reader, c.run_over-ran.new.writer, c.run_over-ran.new.tally))
           c.in-Ok.is c.run_over-ran.ensures;
       same =
-          subst (HasAll c.is_same.new.self.file) (ap text c.into_inner-compared.ensures)
+          subst (IsWholeFile c.is_same.new.self.file) (ap text c.into_inner-compared.ensures)
           (c.is_same.ensures c.if-is_same.true);
     }

@@ -1,6 +1,6 @@
 -- The new file was made, but nothing was renamed.
 use Rattle.std.proofs.Common.{[], ◌∷◌, ap, ◌∙◌, add-zero, subst}
-use Rattle.acsub.specs.InPlace.{CreatesIn, Fills}
+use Rattle.acsub.specs.InPlace.{CreatesIn, FillsNew}
 use Rattle.acsub.specs.Swap.{renames}
 use Rattle.acsub.specs.declared.swap.Step.TheVariants.{Created}
 use Rattle.acsub.proofs.swap.SwapLemmas.{renames-append}
@@ -10,7 +10,7 @@ pub returns : goal.returns
 returns g c =
     let left =
     subst
-    (Fills g.row.F.Denot g.F.File.Read.remaining g.F.File.Write.contents c.args.job.now c.in_ok-new.file
+    (FillsNew g.row.F.Denot g.F.File.Read.remaining g.F.File.Write.contents c.args.job.now c.in_ok-new.file
     (c.args.tally.now, c.create_in.new.swap) (c.fill.new.tally, c.fill.new.swap))
     c.in-Err.is c.fill.ensures
     in
